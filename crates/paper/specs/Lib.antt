@@ -1,0 +1,12 @@
+pub mod Image
+pub mod Queues
+pub mod Flags
+pub mod Waking
+pub mod Services
+pub mod Orders
+pub mod Events
+pub mod Rules
+pub mod Plans
+pub mod Tests
+pub mod Numbers
+pub mod Calls

@@ -1,0 +1,96 @@
+-- The rules of "What an image must hold" as tests that compute, in the order of Rules: what number 6 goes by.
+use mathlib.Core.List.{List, [], _∷_}
+use mathlib.Core.Bool.{Bool, true, not, cond, _&&_, _||_}
+use Prim.Native.Nat.{ℕ, zero, suc, _+_, _%_}
+use lib.Dec.{eqb, leb, ltb}
+use lib.ListN.{length}
+use Rattle.paper.specs.Image.{task, most-character, at, clock, reg, status, peer, busy, character}
+use Rattle.paper.specs.Queues.{header-capacity, head, tail, count, capacity, held, empty, full}
+use Rattle.paper.specs.Flags.{cc, error, pending, most-cc, most-error, is-ready, waits, is-stopped}
+use Rattle.paper.specs.Services.{services}
+use Rattle.paper.specs.Rules.{times}
+use Rattle.paper.specs.declared.Task.{Task}
+use Rattle.paper.specs.declared.Shape.{Shape}
+use Rattle.paper.specs.declared.Queue.{Queue}
+use Rattle.paper.specs.declared.Service.{Service}
+
+-- a test passes at each number below n
+abbrev pub every : ℕ → (ℕ → Bool) → Bool
+every zero f = true
+every (suc k) f = every k f && f k
+
+-- and at each word of a list
+abbrev pub all : (ℕ → Bool) → List ℕ → Bool
+all f [] = true
+all f (w ∷ ws) = f w && all f ws
+
+-- where a holds, b does
+abbrev pub implies : Bool → Bool → Bool
+implies a b = not a || b
+
+unfoldable pub queued : Shape → List ℕ → Queue → Bool
+queued s im q =
+    eqb (at s im (capacity s q)) (header-capacity s q) && ltb (at s im (head s q)) (at s im (capacity s q)) &&
+    ltb (at s im (tail s q)) (at s im (capacity s q)) && leb (at s im (count s q)) (at s im (capacity s q)) &&
+    eqb ((at s im (head s q) + at s im (count s q)) % at s im (capacity s q)) (at s im (tail s q))
+
+abbrev pub every-task : Shape → (Task → Bool) → Bool
+every-task s f = every (s .n) (λ k. f (task k))
+
+unfoldable pub queues-hold : Shape → List ℕ → Bool
+queues-hold s im =
+    queued s im Queue.Ready && every-task s (λ i. queued s im (Queue.Input i)) && every-task s (λ i. queued s im (Queue.Output i)) &&
+    every-task s (λ i. every-task s (λ j. queued s im (Queue.Message i j)))
+
+unfoldable pub characters : Shape → List ℕ → Task → Bool
+characters s im i =
+    all (λ w. leb w most-character) (held s im (Queue.Input i)) && all (λ w. leb w most-character) (held s im (Queue.Output i))
+
+unfoldable pub readied-once : Shape → List ℕ → Task → Bool
+readied-once s im i = eqb (times (i .0) (held s im Queue.Ready)) (cond (eqb (at s im (status i)) is-ready) 1 0)
+
+unfoldable pub readied-tasks : Shape → List ℕ → Bool
+readied-tasks s im = all (λ w. ltb w (s .n)) (held s im Queue.Ready)
+
+unfoldable pub clock-holds : Shape → List ℕ → Bool
+clock-holds s im = leb (at s im clock) (s .slice) && implies (empty s im Queue.Ready) (eqb (at s im clock) 0)
+
+unfoldable pub port-holds : Shape → List ℕ → Task → Bool
+port-holds s im i =
+    leb (at s im (busy i)) 1 && leb (at s im (character i)) most-character &&
+    implies (eqb (at s im (busy i)) 0) (eqb (at s im (character i)) 0 && empty s im (Queue.Output i))
+
+unfoldable pub flags-hold : Shape → List ℕ → Task → Bool
+flags-hold s im i =
+    leb (cc s im i) most-cc && leb (error s im i) most-error && leb (pending s im i) (length services) &&
+    (eqb (error s im i) 0 || eqb (pending s im i) 0)
+
+abbrev pub peered : Shape → List ℕ → Task → Bool
+peered s im i = eqb (at s im (reg i 2)) (at s im (peer i)) && ltb (at s im (peer i)) (s .n)
+
+abbrev pub standing : Shape → List ℕ → Task → Service → Bool
+standing s im i Service.Send =
+    eqb (pending s im i) 1 && peered s im i && full s im (Queue.Message i (task (at s im (peer i))))
+standing s im i Service.Receive =
+    eqb (pending s im i) 2 && peered s im i && empty s im (Queue.Message (task (at s im (peer i))) i)
+standing s im i Service.Input = eqb (pending s im i) 3 && empty s im (Queue.Input i)
+standing s im i Service.Output =
+    eqb (pending s im i) 4 && leb (at s im (reg i 3)) most-character && full s im (Queue.Output i)
+
+abbrev pub stands-as : Shape → List ℕ → Task → Service → Bool
+stands-as s im i v = implies (eqb (at s im (status i)) (waits v)) (standing s im i v)
+
+unfoldable pub status-holds : Shape → List ℕ → Task → Bool
+status-holds s im i =
+    leb (at s im (status i)) is-stopped && stands-as s im i Service.Send && stands-as s im i Service.Receive &&
+    stands-as s im i Service.Input && stands-as s im i Service.Output &&
+    implies (eqb (at s im (status i)) is-stopped) (not (eqb (error s im i) 0)) &&
+    (eqb (at s im (status i)) (waits Service.Send) || eqb (at s im (status i)) (waits Service.Receive) || eqb (at s im (peer i)) 0)
+
+-- all rules, task by task once the queues hold
+unfoldable pub task-holds : Shape → List ℕ → Task → Bool
+task-holds s im i =
+    characters s im i && readied-once s im i && port-holds s im i && flags-hold s im i && status-holds s im i
+
+unfoldable pub rules-hold : Shape → List ℕ → Bool
+rules-hold s im = queues-hold s im && readied-tasks s im && clock-holds s im && every-task s (task-holds s im)

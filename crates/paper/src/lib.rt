@@ -1,0 +1,159 @@
+// The types that the definitions and the promises name.
+
+// A task's number, an address in a task's segment and a place in the image are counted apart; 0 is a good value of each.
+pub struct Task(pub u16);
+pub struct Address(pub u16);
+pub struct Place(pub usize);
+
+// What the header fixes: N, S, CI, CO, CM, the nine offsets, and how many words the segments have together.
+pub struct Shape {
+    pub n: usize,
+    pub slice: u16,
+    pub ci: usize,
+    pub co: usize,
+    pub cm: usize,
+    pub starts: [usize; 9],
+    pub words: usize,
+}
+
+// The parts of an image, in their order.
+pub enum Part {
+    Header,
+    TaskTable,
+    ReadyQueue,
+    StatusTable,
+    InputBuffers,
+    OutputBuffers,
+    MessageBuffers,
+    Ports,
+    SegmentTable,
+    Segments,
+}
+
+// A word of an image by its name: each part is a table of rows of one width.
+pub struct Cell {
+    pub part: Part,
+    pub row: usize,
+    pub column: usize,
+}
+
+// The queues of an image: the ready queue, a task's input and output buffer, and the message buffer from one task to another.
+pub enum Queue {
+    Ready,
+    Input(Task),
+    Output(Task),
+    Message(Task, Task),
+}
+
+// Where an address of a task's segment leads.
+pub enum Reach {
+    At(Place),
+    Outside,
+}
+
+// The services.
+pub enum Service {
+    Send,
+    Receive,
+    Input,
+    Output,
+}
+
+// What the pending field of a task's flags asks for.
+pub enum Asked {
+    Nothing,
+    For(Service),
+}
+
+// Whom an event wakes.
+pub enum Woken {
+    Nobody,
+    One(Task),
+}
+
+// An event that is well formed, or that it is not.
+pub enum Event {
+    Tick,
+    Input(Task, u16),
+    OutputDone(Task),
+    Malformed,
+}
+
+// What an accepted event answers.
+pub enum Answer {
+    Idle,
+    ErrorStop(Task),
+    TurnPassed(Task),
+    ServiceDone(Task),
+    ServiceWaits(Task),
+    ServiceFaulted(Task),
+    OrderDone(Task),
+    OrderFaulted(Task),
+    Input(Task),
+    OutputDone(Task),
+}
+
+// Why an image, an event or a plan is refused.
+pub enum Refusal {
+    TooShort,
+    NotMarked,
+    OutOfRange,
+    NotPacked,
+    WrongSegments,
+    RuleBroken,
+    MalformedEvent,
+    InputFull,
+    PortIdle,
+    ReadyFull,
+    BadPlan,
+    WrongTarget,
+}
+
+// What a check or a build comes to.
+pub enum Verdict {
+    Fine,
+    Refused(Refusal),
+}
+
+// What an event comes to.
+pub enum Reply {
+    Accepted(Answer),
+    Refused(Refusal),
+}
+
+// The orders of the order code, and any other op.
+pub enum Op {
+    Unknown,
+    Load,
+    Copy,
+    Fetch,
+    Store,
+    Add,
+    Subtract,
+    Multiply,
+    Quotient,
+    Remainder,
+    And,
+    Or,
+    ExclusiveOr,
+    Compare,
+    Jump,
+    JumpIf,
+    Call,
+    Return,
+    Service,
+}
+
+// What a field of an order's first word holds.
+pub enum Field {
+    Unused,
+    Register,
+    Condition,
+    Service,
+}
+
+// The shape of an order: how many words it has, and what its fields hold.
+pub enum OrderShape {
+    Unknown,
+    Known(u8, Field, Field),
+}
