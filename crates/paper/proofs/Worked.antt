@@ -1,0 +1,185 @@
+-- The examples that the paper marks, proved together as one statement, by computation.
+-- Every expected word was worked out by hand from the paper. Assumes nothing.
+use mathlib.Core.Path.{_≡_, refl}
+use mathlib.Core.List.{List, [], _∷_, _++_}
+use Prim.Native.Nat.{ℕ, zero, suc, _+_, _-_, _*_}
+use lib.ListN.{length, getD, take, drop, replicate}
+use Rattle.paper.specs.Image.{task, total, shape-of, place, at, put, reach, clock}
+use Rattle.paper.specs.Queues.{step, appended, first, taken, held, empty, full}
+use Rattle.paper.specs.Flags.{pending}
+use Rattle.paper.specs.Waking.{Outcome, dispatched, with-status, readied, woken, left, with-woken, unless-full}
+use Rattle.paper.specs.Services.{service-faulted, waiting, delivered, printing, printing-if-idle, served, waits-for, service}
+use Rattle.paper.specs.Orders.{moved-past, order, order-faulted}
+use Rattle.paper.specs.Events.{event-of, stopped, turned, spent, turn-of, tick, input, port-next, output-done, happening}
+use Rattle.paper.specs.Plans.{plan-shape, fresh}
+use Rattle.paper.specs.Tests.{queued, queues-hold, characters, readied-once, readied-tasks, clock-holds, port-holds, flags-hold, status-holds, task-holds, rules-hold}
+use Rattle.paper.specs.Numbers.{number, verdict-number, kind, answer-task, out-of-range, not-packed, segment-right, wrong-segments, check, plan-broken, check-plan, check-build}
+use Rattle.paper.specs.Calls.{built, event, Ran, run}
+use Rattle.paper.specs.declared.Reply.{Reply}
+use Rattle.paper.specs.declared.Queue.{Queue}
+
+-- what an event shows: its kind and task or, alone, the number of its refusal; and the image after it
+pub record Shown : Type 0 where
+  pub line : List ℕ
+  pub image : List ℕ
+
+abbrev line-of : Reply → List ℕ
+line-of (Reply.Accepted a) = kind a ∷ answer-task a ∷ []
+line-of (Reply.Refused r) = number r ∷ []
+
+abbrev shown : Outcome → Shown
+shown o = record { line = line-of (o .reply); image = o .image }
+
+abbrev shows : List ℕ → List ℕ → Shown
+shows l im = record { line = l; image = im }
+
+-- the event after the first k of a list, on the image that those leave of a plan's fresh one
+abbrev nth-word : List ℕ → ℕ → ℕ → ℕ
+nth-word events k j = getD events (3 * k + j) 0
+
+abbrev after : List ℕ → List ℕ → ℕ → List ℕ
+after plan events k = run (fresh plan) (take (3 * k) events) .image
+
+abbrev event-after : List ℕ → List ℕ → ℕ → Shown
+event-after plan events k =
+    shown (event (after plan events k) (nth-word events k 0) (nth-word events k 1) (nth-word events k 2))
+
+abbrev ticks : ℕ → List ℕ
+ticks n = replicate (3 * n) 0
+
+-- what a plan's last of n ticks shows of a plan of one task: the line, and that task's R0..R7 and flags
+abbrev last-tick : List ℕ → ℕ → Shown
+last-tick plan n =
+    let o = event-after plan (ticks n) (n - 1) in
+    shows (o .line) (take 9 (drop 18 (o .image)))
+
+-- "One run in full": its plan, its events, and its image after an event
+abbrev full-plan : List ℕ
+full-plan = 1 ∷ 2 ∷ 1 ∷ 1 ∷ 1 ∷ 4 ∷ 2 ∷ 4656 ∷ 4672 ∷ []
+
+abbrev full-events : List ℕ
+full-events = ticks 3 ++ (1 ∷ 0 ∷ 65 ∷ []) ++ ticks 5 ++ (2 ∷ 0 ∷ 0 ∷ 2 ∷ 0 ∷ 0 ∷ [])
+
+abbrev full-event : ℕ → Shown
+full-event k = event-after full-plan full-events (k - 1)
+
+abbrev full-header : List ℕ
+full-header = 19284 ∷ 1 ∷ 1 ∷ 2 ∷ 1 ∷ 1 ∷ 1 ∷ 18 ∷ 27 ∷ 32 ∷ 34 ∷ 39 ∷ 44 ∷ 49 ∷ 51 ∷ 53 ∷ 57 ∷ []
+
+-- clock; task table; ready queue; status table; input, output and message buffer; port
+abbrev full-image : ℕ → List ℕ → List ℕ → List ℕ → List ℕ → List ℕ → List ℕ → List ℕ
+full-image c tasks ready status input output port =
+    full-header ++ (c ∷ tasks) ++ ready ++ status ++ input ++ output ++ (0 ∷ 0 ∷ 0 ∷ 1 ∷ 0 ∷ []) ++ port ++
+    (53 ∷ 4 ∷ 4656 ∷ 4672 ∷ 0 ∷ 0 ∷ [])
+
+abbrev empty-queue : ℕ → List ℕ
+empty-queue w = 0 ∷ 0 ∷ 0 ∷ 1 ∷ w ∷ []
+
+abbrev full-queue : ℕ → List ℕ
+full-queue w = 0 ∷ 0 ∷ 1 ∷ 1 ∷ w ∷ []
+
+-- the smallest plan
+abbrev small-plan : List ℕ
+small-plan = 1 ∷ 1 ∷ 1 ∷ 1 ∷ 1 ∷ 1 ∷ 0 ∷ []
+
+-- load R1 with 0; call 0
+abbrev call-plan : List ℕ
+call-plan = 1 ∷ 2 ∷ 1 ∷ 1 ∷ 1 ∷ 4 ∷ 4 ∷ 272 ∷ 0 ∷ 4096 ∷ 0 ∷ []
+
+-- service a
+abbrev service-plan : ℕ → List ℕ
+service-plan a = 1 ∷ 1 ∷ 1 ∷ 1 ∷ 1 ∷ 1 ∷ 1 ∷ (4608 + 16 * a) ∷ []
+
+-- quotient of R2 by R3
+abbrev quotient-plan : List ℕ
+quotient-plan = 1 ∷ 1 ∷ 1 ∷ 1 ∷ 1 ∷ 1 ∷ 1 ∷ 2083 ∷ []
+
+-- send (a 0 to itself); load R3 with 7; receive (from itself)
+abbrev zero-plan : List ℕ
+zero-plan = 1 ∷ 4 ∷ 1 ∷ 1 ∷ 1 ∷ 4 ∷ 4 ∷ 4624 ∷ 304 ∷ 7 ∷ 4640 ∷ []
+
+-- two tasks of slice 1: task 0 sends to itself and then jumps on the spot, task 1 jumps on the spot;
+-- after four ticks task 0 is first again with c = 1 and its send pending, and task 1 has one ahead
+abbrev bound-plan : List ℕ
+bound-plan = 2 ∷ 1 ∷ 1 ∷ 1 ∷ 1 ∷ 3 ∷ 3 ∷ 2 ∷ 2 ∷ 4624 ∷ 3584 ∷ 1 ∷ 3584 ∷ 0 ∷ []
+
+abbrev bound-image : ℕ → List ℕ
+bound-image k = after bound-plan (ticks 7) (4 + k)
+
+abbrev bound-line : ℕ → List ℕ
+bound-line k = event-after bound-plan (ticks 7) (3 + k) .line
+
+abbrev bound-ready : ℕ → List ℕ
+bound-ready k = held (shape-of (bound-image k)) (bound-image k) Queue.Ready
+
+-- the bound of demand 3
+abbrev bound : ℕ → ℕ → ℕ → ℕ
+bound S c k = (2 * c + 1) + (k - 1) * (2 * S + 1)
+
+pub record Worked : Type 0 where
+  pub event-2 :
+    full-event 2 ≡ shows (4 ∷ 0 ∷ [])
+      (full-image 0 (1 ∷ 4 ∷ 0 ∷ 0 ∷ 0 ∷ 0 ∷ 0 ∷ 0 ∷ 96 ∷ []) (empty-queue 0) (3 ∷ 0 ∷ []) (empty-queue 0) (empty-queue 0) (0 ∷ 0 ∷ []))
+  pub event-4 :
+    full-event 4 ≡ shows (8 ∷ 0 ∷ [])
+      (full-image 2 (1 ∷ 4 ∷ 0 ∷ 0 ∷ 0 ∷ 0 ∷ 0 ∷ 0 ∷ 96 ∷ []) (full-queue 0) (0 ∷ 0 ∷ []) (full-queue 65) (empty-queue 0) (0 ∷ 0 ∷ []))
+  pub event-5 :
+    full-event 5 ≡ shows (3 ∷ 0 ∷ [])
+      (full-image 2 (1 ∷ 4 ∷ 0 ∷ 65 ∷ 0 ∷ 0 ∷ 0 ∷ 0 ∷ 0 ∷ []) (full-queue 0) (0 ∷ 0 ∷ []) (empty-queue 65) (empty-queue 0) (0 ∷ 0 ∷ []))
+  pub event-8 :
+    full-event 8 ≡ shows (7 ∷ 0 ∷ [])
+      (full-image 0 (2 ∷ 4 ∷ 0 ∷ 65 ∷ 0 ∷ 0 ∷ 0 ∷ 0 ∷ 8 ∷ []) (full-queue 0) (0 ∷ 0 ∷ []) (empty-queue 65) (empty-queue 65) (1 ∷ 65 ∷ []))
+  pub event-9 :
+    full-event 9 ≡ shows (1 ∷ 0 ∷ [])
+      (full-image 0 (2 ∷ 4 ∷ 0 ∷ 65 ∷ 0 ∷ 0 ∷ 0 ∷ 0 ∷ 8 ∷ []) (empty-queue 0) (5 ∷ 0 ∷ []) (empty-queue 65) (empty-queue 65) (1 ∷ 65 ∷ []))
+  pub smallest-length : length (built small-plan (replicate 54 9)) ≡ 54
+  pub smallest-built : verdict-number (check-build small-plan (replicate 54 9)) ≡ 0
+  pub smallest-taken : verdict-number (check (built small-plan (replicate 54 9))) ≡ 0
+  pub smallest-cut : verdict-number (check (take 53 (fresh small-plan))) ≡ 5
+  pub call-with-no-stack : last-tick call-plan 2 ≡ shows (7 ∷ 0 ∷ []) (2 ∷ 0 ∷ 0 ∷ 0 ∷ 0 ∷ 0 ∷ 0 ∷ 0 ∷ 4 ∷ [])
+  pub service-0 : last-tick (service-plan 0) 1 ≡ shows (7 ∷ 0 ∷ []) (0 ∷ 1 ∷ 0 ∷ 0 ∷ 0 ∷ 0 ∷ 0 ∷ 0 ∷ 12 ∷ [])
+  pub service-4 : last-tick (service-plan 4) 1 ≡ shows (6 ∷ 0 ∷ []) (1 ∷ 1 ∷ 0 ∷ 0 ∷ 0 ∷ 0 ∷ 0 ∷ 0 ∷ 128 ∷ [])
+  pub quotient-by-0 : last-tick quotient-plan 1 ≡ shows (7 ∷ 0 ∷ []) (0 ∷ 1 ∷ 0 ∷ 0 ∷ 0 ∷ 0 ∷ 0 ∷ 0 ∷ 16 ∷ [])
+  pub before-zero : last-tick zero-plan 4 ≡ shows (6 ∷ 0 ∷ []) (4 ∷ 4 ∷ 0 ∷ 7 ∷ 0 ∷ 0 ∷ 0 ∷ 0 ∷ 64 ∷ [])
+  pub received-zero : last-tick zero-plan 5 ≡ shows (3 ∷ 0 ∷ []) (4 ∷ 4 ∷ 0 ∷ 0 ∷ 0 ∷ 0 ∷ 0 ∷ 0 ∷ 0 ∷ [])
+  pub bound-slice : shape-of (bound-image 0) .slice ≡ 1
+  pub bound-clock : at (shape-of (bound-image 0)) (bound-image 0) clock ≡ 1
+  pub bound-pending : pending (shape-of (bound-image 0)) (bound-image 0) (task 0) ≡ 1
+  pub bound-one-ahead : bound-ready 0 ≡ 0 ∷ 1 ∷ []
+  pub bound-service : bound-line 1 ≡ 3 ∷ 0 ∷ []
+  pub bound-order : bound-line 2 ≡ 6 ∷ 0 ∷ []
+  pub bound-not-yet : bound-ready 2 ≡ 0 ∷ 1 ∷ []
+  pub bound-turn : bound-line 3 ≡ 2 ∷ 0 ∷ []
+  pub bound-reached : bound-ready (bound 1 1 1) ≡ 1 ∷ 0 ∷ []
+  pub bound-is : bound 1 1 1 ≡ 3
+
+pub worked : Worked
+unfolding total shape-of place at put reach step appended first taken held empty full dispatched with-status readied woken left with-woken unless-full service-faulted waiting delivered printing printing-if-idle served waits-for service moved-past order order-faulted event-of stopped turned spent turn-of tick input port-next output-done happening plan-shape fresh queued queues-hold characters readied-once readied-tasks clock-holds port-holds flags-hold status-holds task-holds rules-hold out-of-range not-packed segment-right wrong-segments check plan-broken check-plan check-build built event run
+worked =
+    record {
+      event-2 = refl;
+      event-4 = refl;
+      event-5 = refl;
+      event-8 = refl;
+      event-9 = refl;
+      smallest-length = refl;
+      smallest-built = refl;
+      smallest-taken = refl;
+      smallest-cut = refl;
+      call-with-no-stack = refl;
+      service-0 = refl;
+      service-4 = refl;
+      quotient-by-0 = refl;
+      before-zero = refl;
+      received-zero = refl;
+      bound-slice = refl;
+      bound-clock = refl;
+      bound-pending = refl;
+      bound-one-ahead = refl;
+      bound-service = refl;
+      bound-order = refl;
+      bound-not-yet = refl;
+      bound-turn = refl;
+      bound-reached = refl;
+      bound-is = refl
+    }
