@@ -1,0 +1,5 @@
+pub mod Places
+pub mod Cells
+pub mod Segments
+pub mod Steps
+pub mod Queues

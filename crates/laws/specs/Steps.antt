@@ -1,0 +1,74 @@
+-- The wrapped step, and several steps on: as the paper's remainder. Assumes nothing.
+use mathlib.Core.Path.{_≡_, refl, sym, ap, _∙_}
+use mathlib.Core.Bool.{Bool, true, false, cond}
+use mathlib.Core.Logic.{_≢_, _⊎_, inl, inr, ⊎-elim}
+use Prim.Native.Nat.{ℕ, zero, suc, _+_, _-_, _%_, _<_, _≤_}
+use native.Mathlib.Nat.{mod-eq-of-lt, mod-eq-sub-mod, mod-add-mod, mod-self, add-zero}
+use native.Mathlib.Decide.{decLt}
+use native.Mathlib.Omega.{arith}
+use borrow.Author.Tests.{ltb-true, ltb-false}
+use lib.Dec.{ltb}
+use Rattle.paper.specs.Queues.{step}
+
+-- one more, or 0 where the capacity is reached
+pub step-cases : (k c : ℕ) → ((k + 1 < c) × (step k c ≡ k + 1)) ⊎ ((c ≤ k + 1) × (step k c ≡ 0))
+unfolding step
+step-cases k c = go (ltb (k + 1) c) refl
+  where
+    go : (b : Bool) → ltb (k + 1) c ≡ b → ((k + 1 < c) × (cond b (k + 1) 0 ≡ k + 1)) ⊎ ((c ≤ k + 1) × (cond b (k + 1) 0 ≡ 0))
+    go true e = inl (ltb-true (k + 1) c e, refl)
+    go false e = inr (ltb-false (k + 1) c e, refl)
+
+-- a step stays below the capacity
+pub step-below : (k c : ℕ) → k < c → step k c < c
+step-below k c h = ⊎-elim (λ a. omega arith) (λ a. omega arith) (step-cases k c)
+
+-- a remainder of a number below twice the divisor
+pub mod-low : {x c : ℕ} → x < c → x % c ≡ x
+mod-low h = mod-eq-of-lt h
+
+pub mod-high : {x c : ℕ} → c ≤ x → x < c + c → x % c ≡ x - c
+mod-high {x} {c} h l = mod-eq-sub-mod h ∙ mod-eq-of-lt (omega arith)
+
+-- a step is a remainder
+pub step-mod : (k c : ℕ) → k < c → step k c ≡ (k + 1) % c
+step-mod k c h =
+    ⊎-elim (λ a. a .1 ∙ sym (mod-low (a .0)))
+    (λ a. omega (arith, mod-high {x = k + 1} {c = c} (a .0) (omega arith)))
+    (step-cases k c)
+
+-- n steps on from slot h
+abbrev pub steps : ℕ → ℕ → ℕ → ℕ
+steps h zero c = h
+steps h (suc n) c = steps (step h c) n c
+
+pub steps-mod : (h n c : ℕ) → h < c → steps h n c ≡ (h + n) % c
+steps-mod h zero c l = sym (ap (λ (x : ℕ). x % c) (add-zero h) ∙ mod-low l)
+steps-mod h (suc n) c l =
+    steps-mod (step h c) n c (step-below h c l) ∙ ap (λ (x : ℕ). (x + n) % c) (step-mod h c l) ∙
+    mod-add-mod (h + 1) c n ∙ ap (λ (x : ℕ). x % c) (omega arith)
+
+pub steps-below : (h n c : ℕ) → h < c → steps h n c < c
+steps-below h zero c l = l
+steps-below h (suc n) c l = steps-below (step h c) n c (step-below h c l)
+
+-- one step further is one step from there
+pub steps-on : (h n c : ℕ) → steps h (suc n) c ≡ step (steps h n c) c
+steps-on h zero c = refl
+steps-on h (suc n) c = steps-on (step h c) n c
+
+-- fewer than capacity steps do not come back
+steps-away : (h n c : ℕ) → h < c → suc n < c → h ≢ steps h (suc n) c
+steps-away h n c hc hn e = go (decLt (h + suc n) c)
+  where
+    f : h ≡ (h + suc n) % c
+    f = e ∙ steps-mod h (suc n) c hc
+    go : Dec (h + suc n < c) → ⊥
+    go (yes l) = omega (arith, f, mod-low l)
+    go (no g) = omega (arith, f, mod-high {x = h + suc n} {c = c} (omega (arith, g)) (omega arith))
+
+pub steps-apart : (h k n c : ℕ) → h < c → k < n → n < c → steps h k c ≢ steps h n c
+steps-apart h k zero c hc hk hn e = omega arith
+steps-apart h zero (suc n) c hc hk hn e = steps-away h n c hc hn e
+steps-apart h (suc k) (suc n) c hc hk hn e =
+    steps-apart (step h c) k n c (step-below h c hc) (omega arith) (omega arith) e
