@@ -161,7 +161,7 @@ module _ (s : Shape) (im : List ℕ) (q : Queue) (has : Has s q) (long : length 
           headed = rw (e0, e3) (r .headed);
           tailed = rw (e3, appended-tail) (step-below (at s im (tail s q)) c (r .tailed));
           counted = rw (e3, appended-count) (omega arith);
-          round = rw (e0, e3, appended-count, appended-tail, ← round-steps, ← steps-on h n c, add-one) (sym (steps-mod h (suc n) c (r .headed)))
+          round = rw (e0, e3, appended-count, appended-tail, ← round-steps, ← steps-on h n c, add-one) (sym (steps-mod h (suc n) c (r .headed)));
         }
 
   -- taking
@@ -218,7 +218,7 @@ module _ (s : Shape) (im : List ℕ) (q : Queue) (has : Has s q) (long : length 
         counted = rw (e3, taken-count) (omega (arith, r .counted));
         round =
             rw (e1, e3, taken-head, taken-count)
-            (sym (steps-mod (step h c) n c (step-below h c (r .headed))) ∙ ap (λ (x : ℕ). steps h x c) (sym e) ∙ round-steps)
+            (sym (steps-mod (step h c) n c (step-below h c (r .headed))) ∙ ap (λ (x : ℕ). steps h x c) (sym e) ∙ round-steps);
       }
 
 -- `search queues` reads past a word that was appended or taken, at any cell that is not of that queue

@@ -63,6 +63,7 @@ steps-away h n c hc hn e = go (decLt (h + suc n) c)
   where
     f : h ≡ (h + suc n) % c
     f = e ∙ steps-mod h (suc n) c hc
+
     go : Dec (h + suc n < c) → ⊥
     go (yes l) = omega (arith, f, mod-low l)
     go (no g) = omega (arith, f, mod-high {x = h + suc n} {c = c} (omega (arith, g)) (omega arith))

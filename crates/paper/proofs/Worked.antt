@@ -118,19 +118,19 @@ bound S c k = (2 * c + 1) + (k - 1) * (2 * S + 1)
 
 pub record Worked : Type 0 where
   pub event-2 :
-    full-event 2 ≡ shows (4 ∷ 0 ∷ [])
+      full-event 2 ≡ shows (4 ∷ 0 ∷ [])
       (full-image 0 (1 ∷ 4 ∷ 0 ∷ 0 ∷ 0 ∷ 0 ∷ 0 ∷ 0 ∷ 96 ∷ []) (empty-queue 0) (3 ∷ 0 ∷ []) (empty-queue 0) (empty-queue 0) (0 ∷ 0 ∷ []))
   pub event-4 :
-    full-event 4 ≡ shows (8 ∷ 0 ∷ [])
+      full-event 4 ≡ shows (8 ∷ 0 ∷ [])
       (full-image 2 (1 ∷ 4 ∷ 0 ∷ 0 ∷ 0 ∷ 0 ∷ 0 ∷ 0 ∷ 96 ∷ []) (full-queue 0) (0 ∷ 0 ∷ []) (full-queue 65) (empty-queue 0) (0 ∷ 0 ∷ []))
   pub event-5 :
-    full-event 5 ≡ shows (3 ∷ 0 ∷ [])
+      full-event 5 ≡ shows (3 ∷ 0 ∷ [])
       (full-image 2 (1 ∷ 4 ∷ 0 ∷ 65 ∷ 0 ∷ 0 ∷ 0 ∷ 0 ∷ 0 ∷ []) (full-queue 0) (0 ∷ 0 ∷ []) (empty-queue 65) (empty-queue 0) (0 ∷ 0 ∷ []))
   pub event-8 :
-    full-event 8 ≡ shows (7 ∷ 0 ∷ [])
+      full-event 8 ≡ shows (7 ∷ 0 ∷ [])
       (full-image 0 (2 ∷ 4 ∷ 0 ∷ 65 ∷ 0 ∷ 0 ∷ 0 ∷ 0 ∷ 8 ∷ []) (full-queue 0) (0 ∷ 0 ∷ []) (empty-queue 65) (empty-queue 65) (1 ∷ 65 ∷ []))
   pub event-9 :
-    full-event 9 ≡ shows (1 ∷ 0 ∷ [])
+      full-event 9 ≡ shows (1 ∷ 0 ∷ [])
       (full-image 0 (2 ∷ 4 ∷ 0 ∷ 65 ∷ 0 ∷ 0 ∷ 0 ∷ 0 ∷ 8 ∷ []) (empty-queue 0) (5 ∷ 0 ∷ []) (empty-queue 65) (empty-queue 65) (1 ∷ 65 ∷ []))
   pub smallest-length : length (built small-plan (replicate 54 9)) ≡ 54
   pub smallest-built : verdict-number (check-build small-plan (replicate 54 9)) ≡ 0
@@ -181,5 +181,5 @@ worked =
       bound-not-yet = refl;
       bound-turn = refl;
       bound-reached = refl;
-      bound-is = refl
+      bound-is = refl;
     }

@@ -26,6 +26,10 @@ place-at w = record { 0 = w }
 abbrev pub word : List ℕ → Place → ℕ
 word im p = getD im (p .0) 0
 
+-- header, 18 words
+abbrev pub header-words : ℕ
+header-words = 18
+
 -- words 0 and 1: mark 19284, edition 1
 abbrev pub mark : ℕ
 mark = 19284
@@ -88,7 +92,7 @@ rows s Part.Segments = 1
 
 -- and how many words each of its rows has
 abbrev pub width : Shape → Part → ℕ
-width s Part.Header = 18
+width s Part.Header = header-words
 width s Part.TaskTable = 9
 width s Part.ReadyQueue = lead + s .n
 width s Part.StatusTable = 2
@@ -139,7 +143,7 @@ shape-of im =
       co = header-word im 5;
       cm = header-word im 6;
       starts = map (header-word im) (7 ∷ 8 ∷ 9 ∷ 10 ∷ 11 ∷ 12 ∷ 13 ∷ 14 ∷ 15 ∷ []);
-      words = header-word im 16 - header-word im 15
+      words = header-word im 16 - header-word im 15;
     }
 
 -- a word by its name: its part, its row, its column

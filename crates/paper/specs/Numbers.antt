@@ -4,7 +4,7 @@ use mathlib.Core.Bool.{Bool, not, cond, _&&_, _||_}
 use Prim.Native.Nat.{ℕ, _+_, _*_}
 use lib.Dec.{eqb, leb, ltb}
 use lib.ListN.{length, getD}
-use Rattle.paper.specs.Image.{mark, edition, most-tasks, most-slice, most-capacity, most-words, offsets, total, header-word, shape-of, segment-start, at, base, len}
+use Rattle.paper.specs.Image.{header-words, mark, edition, most-tasks, most-slice, most-capacity, most-words, offsets, total, header-word, shape-of, segment-start, at, base, len}
 use Rattle.paper.specs.Plans.{plan-tasks, segment-length, program-length, program-start, plan-shape}
 use Rattle.paper.specs.Tests.{every, every-task, rules-hold}
 use Rattle.paper.specs.declared.Task.{Task}
@@ -42,9 +42,6 @@ and-then Verdict.Fine later = later
 and-then (Verdict.Refused r) later = Verdict.Refused r
 
 -- 1: image under 18 words
-abbrev pub header-words : ℕ
-header-words = 18
-
 abbrev pub too-short : List ℕ → Bool
 too-short im = ltb (length im) header-words
 

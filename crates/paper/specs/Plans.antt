@@ -2,7 +2,7 @@
 use mathlib.Core.List.{List, [], _∷_, _++_}
 use Prim.Native.Nat.{ℕ, zero, suc, _+_, _-_, _*_}
 use lib.ListN.{getD, take, drop, replicate}
-use Rattle.paper.specs.Image.{parts, rows, start, offsets, header}
+use Rattle.paper.specs.Image.{parts, rows, width, start, offsets, header}
 use Rattle.paper.specs.declared.Shape.{Shape}
 use Rattle.paper.specs.declared.Part.{Part}
 
@@ -44,7 +44,7 @@ plan-sizes plan =
       co = getD plan 3 0;
       cm = getD plan 4 0;
       starts = [];
-      words = segment-words plan (plan-tasks plan)
+      words = segment-words plan (plan-tasks plan);
     }
 
 unfoldable pub plan-shape : List ℕ → Shape
@@ -68,11 +68,11 @@ abbrev pub fresh-row : Shape → List ℕ → Part → ℕ → List ℕ
 fresh-row s plan Part.Header i = header s ++ (s .slice ∷ [])
 fresh-row s plan Part.TaskTable i = 0 ∷ segment-length plan i ∷ replicate 7 0
 fresh-row s plan Part.ReadyQueue i = 0 ∷ 0 ∷ s .n ∷ s .n ∷ joined (s .n) (λ k. k ∷ [])
-fresh-row s plan Part.StatusTable i = 0 ∷ 0 ∷ []
+fresh-row s plan Part.StatusTable i = replicate (width s Part.StatusTable) 0
 fresh-row s plan Part.InputBuffers i = fresh-queue (s .ci)
 fresh-row s plan Part.OutputBuffers i = fresh-queue (s .co)
 fresh-row s plan Part.MessageBuffers i = fresh-queue (s .cm)
-fresh-row s plan Part.Ports i = 0 ∷ 0 ∷ []
+fresh-row s plan Part.Ports i = replicate (width s Part.Ports) 0
 fresh-row s plan Part.SegmentTable i = (start s Part.Segments + segment-words plan i) ∷ segment-length plan i ∷ []
 fresh-row s plan Part.Segments i = joined (s .n) (fresh-segment plan)
 

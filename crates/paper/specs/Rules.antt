@@ -98,12 +98,12 @@ pub record Ported (s : Shape) (im : List ℕ) (i : Task) : Type 0 where
 pub record Good (s : Shape) (im : List ℕ) : Type 0 where
   pub laid : Laid s im
   pub queues : (q : Queue) → Has s q → Queued s im q
-  pub typed : (i : Task) → i .0 < s .n → Characters (held s im (Queue.Input i))
-  pub printed : (i : Task) → i .0 < s .n → Characters (held s im (Queue.Output i))
+  pub inputs-held : (i : Task) → i .0 < s .n → Characters (held s im (Queue.Input i))
+  pub outputs-held : (i : Task) → i .0 < s .n → Characters (held s im (Queue.Output i))
   pub ready : (i : Task) → Ready s im i → times (i .0) (held s im Queue.Ready) ≡ 1
   pub no-other : (i : Task) → ¬ Ready s im i → times (i .0) (held s im Queue.Ready) ≡ 0
-  pub clocked : at s im clock ≤ s .slice
-  pub unclocked : Empty s im Queue.Ready → at s im clock ≡ 0
+  pub clock-range : at s im clock ≤ s .slice
+  pub clock-idle : Empty s im Queue.Ready → at s im clock ≡ 0
   pub ports : (i : Task) → i .0 < s .n → Ported s im i
   pub flags : (i : Task) → i .0 < s .n → Flagged s im i
   pub statuses : (i : Task) → i .0 < s .n → Stands s im i

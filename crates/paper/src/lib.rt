@@ -2,7 +2,9 @@
 
 // A task's number, an address in a task's segment and a place in the image are counted apart; 0 is a good value of each.
 pub struct Task(pub u16);
+
 pub struct Address(pub u16);
+
 pub struct Place(pub usize);
 
 // What the header fixes: N, S, CI, CO, CM, the nine offsets, and how many words the segments have together.
