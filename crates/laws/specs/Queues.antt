@@ -222,4 +222,4 @@ module _ (s : Shape) (im : List ℕ) (q : Queue) (has : Has s q) (long : length 
       }
 
 -- `search queues` reads past a word that was appended or taken, at any cell that is not of that queue
-pub ruleset queues = (appended-off, taken-off, off-part, off-row)
+pub ruleset queues = (appended-off, taken-off, off-part, off-row, appended-length, taken-length, appended-queued, taken-queued)

@@ -56,7 +56,7 @@ module _ (s : Shape) (im : List ℕ) (i : Task) (a : Address) where
 abbrev pub segment-cell : Shape → Place → Cell
 segment-cell s p = cell Part.Segments 0 (p .0 - start s Part.Segments)
 
-starts-later : (s : Shape) (im : List ℕ) (a b : ℕ) → a ≤ b → segment-start s im a ≤ segment-start s im b
+pub starts-later : (s : Shape) (im : List ℕ) (a b : ℕ) → a ≤ b → segment-start s im a ≤ segment-start s im b
 starts-later s im a b h = le-ind (λ m. segment-start s im a ≤ segment-start s im m) (le-refl _) (λ m _ ih. omega arith) b h
 
 module _ (s : Shape) (im : List ℕ) (laid : Laid s im) where

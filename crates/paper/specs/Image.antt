@@ -115,6 +115,9 @@ abbrev pub start : Shape → Part → ℕ
 start s p = begin s (ord p)
 
 -- words 7..15: the offsets of the nine parts after the header
+abbrev pub offset-words : List ℕ
+offset-words = 7 ∷ 8 ∷ 9 ∷ 10 ∷ 11 ∷ 12 ∷ 13 ∷ 14 ∷ 15 ∷ []
+
 abbrev pub offsets : Shape → List ℕ
 offsets s =
     start s Part.TaskTable ∷ start s Part.ReadyQueue ∷ start s Part.StatusTable ∷ start s Part.InputBuffers ∷
@@ -142,7 +145,7 @@ shape-of im =
       ci = header-word im 4;
       co = header-word im 5;
       cm = header-word im 6;
-      starts = map (header-word im) (7 ∷ 8 ∷ 9 ∷ 10 ∷ 11 ∷ 12 ∷ 13 ∷ 14 ∷ 15 ∷ []);
+      starts = map (header-word im) offset-words;
       words = header-word im 16 - header-word im 15;
     }
 
