@@ -33,12 +33,12 @@ shape-is s im laid =
     let cm : header-word im 6 ≡ s .cm = h 6 (lit< tt) in
     let last : header-word im 15 ≡ start s Part.Segments = h 15 (lit< tt) in
     let starts : map (header-word im) offset-words ≡ s .starts =
-        rw (laid .fit .packed, h 7 (lit< tt), h 8 (lit< tt), h 9 (lit< tt), h 10 (lit< tt), h 11 (lit< tt), h 12 (lit< tt), h 13 (lit< tt), h 14 (lit< tt), last) in
+    rw (laid .fit .packed, h 7 (lit< tt), h 8 (lit< tt), h 9 (lit< tt), h 10 (lit< tt), h 11 (lit< tt), h 12 (lit< tt), h 13 (lit< tt), h 14 (lit< tt), last) in
     let words : header-word im 16 - header-word im 15 ≡ s .words = omega (arith, h 16 (lit< tt), last, total-is s) in
     let e :
-        shaped (header-word im 2) (header-word im 3) (header-word im 4) (header-word im 5) (header-word im 6) (map (header-word im) offset-words)
-        (header-word im 16 - header-word im 15) ≡ shaped (s .n) (s .slice) (s .ci) (s .co) (s .cm) (s .starts) (s .words) =
-        cc (n, slice, ci, co, cm, starts, words) in
+    shaped (header-word im 2) (header-word im 3) (header-word im 4) (header-word im 5) (header-word im 6) (map (header-word im) offset-words)
+    (header-word im 16 - header-word im 15) ≡ shaped (s .n) (s .slice) (s .ci) (s .co) (s .cm) (s .starts) (s .words) =
+    cc (n, slice, ci, co, cm, starts, words) in
     e
 
 module _ (s : Shape) (fit : Fit s) where
@@ -46,13 +46,30 @@ module _ (s : Shape) (fit : Fit s) where
   pub largest-offset : start s Part.Segments ≤ 10646
   largest-offset =
       let most = fit .tasks .1 in
-      omega (arith, mul-le-mul-right (s .ci) most, mul-le-mul-right (s .co) most, mul-le-mul-right (s .n) most,
-      mul-le-mul-right (s .cm) (mul-le-mul-right (s .n) most), mul-le-mul-right (s .cm) most, fit .inputs, fit .outputs, fit .messages)
+      omega (
+        arith,
+        mul-le-mul-right (s .ci) most,
+        mul-le-mul-right (s .co) most,
+        mul-le-mul-right (s .n) most,
+        mul-le-mul-right (s .cm) (mul-le-mul-right (s .n) most),
+        mul-le-mul-right (s .cm) most,
+        fit .inputs,
+        fit .outputs,
+        fit .messages,
+      )
 
 -- the smallest T is 54
 pub smallest-total : (s : Shape) (im : List ℕ) → Laid s im → 54 ≤ total s
 smallest-total s im laid =
     let some = laid .fit .tasks .0 in
     let first = laid .lengths (task 0) some in
-    omega (arith, starts-later s im 1 (s .n) some, laid .ends, mul-le-mul-right (4 + s .ci) some, mul-le-mul-right (4 + s .co) some,
-    mul-le-mul-right (4 + s .cm) (mul-le-mul-right (s .n) some), mul-le-mul-right (s .n) some, mul-le-mul-right (4 + s .cm) some)
+    omega (
+      arith,
+      starts-later s im 1 (s .n) some,
+      laid .ends,
+      mul-le-mul-right (4 + s .ci) some,
+      mul-le-mul-right (4 + s .co) some,
+      mul-le-mul-right (4 + s .cm) (mul-le-mul-right (s .n) some),
+      mul-le-mul-right (s .n) some,
+      mul-le-mul-right (4 + s .cm) some,
+    )
