@@ -7,7 +7,8 @@ use native.Mathlib.Nat.{mul-le-mul-right, le-refl}
 use native.Mathlib.Decide.{le-ind}
 use native.Mathlib.Omega.{arith}
 use lib.ListN.{getD}
-use Rattle.paper.specs.Image.{parts, ord, rows, width, size, begin, start, total, cell, Valid, place}
+use Rattle.paper.specs.Image.{most-words, parts, ord, rows, width, size, begin, start, total, cell, Valid, place}
+use Rattle.paper.specs.Rules.{Fit}
 use Rattle.paper.specs.declared.Shape.{Shape}
 use Rattle.paper.specs.declared.Cell.{Cell}
 use Rattle.paper.specs.declared.Part.{Part}
@@ -109,3 +110,9 @@ one-cell s c d hc hd e =
 -- two different cells lie apart
 pub apart : (s : Shape) (c d : Cell) → Valid s c → Valid s d → c ≢ d → place s c .0 ≢ place s d .0
 apart s c d hc hd ne e = ne (one-cell s c d hc hd e)
+
+-- what code adds up to find a cell is its place, and small
+pub placed : (s : Shape) (c : Cell) (from row : ℕ) → Fit s → Valid s c → from ≡ start s (c .part) → row ≡ width s (c .part)
+    → (from + (c .row * row + c .column) ≡ place s c .0) × (place s c .0 < most-words)
+unfolding place
+placed s c from row fit v ef er = (rw (ef, er), omega (arith, below s c v, fit .words))

@@ -1,0 +1,70 @@
+// Where a cell lies in an image of shape s.
+ghost use mathlib.Core.Path.{_≡_};
+ghost use Rattle.paper.specs.Image.{start, width, Valid, place};
+ghost use Rattle.paper.specs.Rules.{Fit};
+use paper::Cell;
+use paper::Part;
+use paper::Place;
+use paper::Shape;
+
+// The words of a row: of the header, of a task, of a queue before its slots, of a status, of a port, of a segment's entry.
+const HEADER_WORDS: usize = 18;
+
+const TASK_WORDS: usize = 9;
+
+const LEAD_WORDS: usize = 4;
+
+const STATUS_WORDS: usize = 2;
+
+const PORT_WORDS: usize = 2;
+
+const ENTRY_WORDS: usize = 2;
+
+// Where a part starts.
+fn start_of(s: Shape, p: Part) -> usize
+    requires { ⌜ Fit s ⌝ }
+    ensures { λ r. ⌜ r ≡ start s p ⌝ }
+{
+    let starts = s.starts;
+    match p {
+        Part::Header => 0,
+        Part::TaskTable => starts[0],
+        Part::ReadyQueue => starts[1],
+        Part::StatusTable => starts[2],
+        Part::InputBuffers => starts[3],
+        Part::OutputBuffers => starts[4],
+        Part::MessageBuffers => starts[5],
+        Part::Ports => starts[6],
+        Part::SegmentTable => starts[7],
+        Part::Segments => starts[8],
+    }
+}
+
+// How many words a row of a part has.
+fn width_of(s: Shape, p: Part) -> usize
+    requires { ⌜ Fit s ⌝ }
+    ensures { λ r. ⌜ r ≡ width s p ⌝ }
+{
+    match p {
+        Part::Header => HEADER_WORDS,
+        Part::TaskTable => TASK_WORDS,
+        Part::ReadyQueue => LEAD_WORDS + s.n,
+        Part::StatusTable => STATUS_WORDS,
+        Part::InputBuffers => LEAD_WORDS + s.ci,
+        Part::OutputBuffers => LEAD_WORDS + s.co,
+        Part::MessageBuffers => LEAD_WORDS + s.cm,
+        Part::Ports => PORT_WORDS,
+        Part::SegmentTable => ENTRY_WORDS,
+        Part::Segments => s.words,
+    }
+}
+
+// The place of a cell.
+pub fn place_of(s: Shape, c: Cell) -> Place
+    requires { ⌜ Fit s ⌝ }
+    requires { ⌜ Valid s c ⌝ }
+    ensures { λ r. ⌜ r ≡ place s c ⌝ }
+{
+    let p = c.part;
+    Place(start_of(s, p) + (c.row * width_of(s, p) + c.column))
+}
