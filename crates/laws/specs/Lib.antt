@@ -4,3 +4,4 @@ pub mod Segments
 pub mod Layout
 pub mod Steps
 pub mod Queues
+pub mod Sound

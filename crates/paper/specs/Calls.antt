@@ -46,7 +46,7 @@ abbrev pub goes-on : Reply → List ℕ → (List ℕ → Ran) → Ran
 goes-on (Reply.Accepted a) im later = one-more (later im)
 goes-on (Reply.Refused r) im later = stopped-at (Verdict.Refused r) im
 
--- events one after another, up to the first refused one; a last one of under three words is refused
+-- events one after another, up to the first refused one; a last one of under three words, which only the runner can meet, is refused
 abbrev pub run-from : Shape → List ℕ → List ℕ → Ran
 run-from s im [] = stopped-at Verdict.Fine im
 run-from s im (k ∷ []) = stopped-at (Verdict.Refused Refusal.MalformedEvent) im

@@ -26,7 +26,7 @@ a-of w = w / 16 % 16
 abbrev pub b-of : ℕ → ℕ
 b-of w = w % 16
 
--- the orders by their numbers, from 1; ops 0 and 19..255 are unknown
+-- the orders 1 to 18 by their numbers; 0 and every number past them are unknown
 abbrev pub orders : List Op
 orders =
     Op.Unknown ∷ Op.Load ∷ Op.Copy ∷ Op.Fetch ∷ Op.Store ∷ Op.Add ∷ Op.Subtract ∷ Op.Multiply ∷ Op.Quotient ∷ Op.Remainder ∷

@@ -1,0 +1,15 @@
+-- Assumes nothing.
+use Rattle.words.specs.Needs.{empty-is}
+use borrow.Author.Needs.{needs}
+use Rattle.words.proofs.empty.Statement.{statement}
+use Rattle.words.proofs.empty.Tie as tie
+
+returns : tie.Need-returns
+returns c = search empty-is
+
+pub empty-spec : {M : Type 1} → statement M
+empty-spec =
+    tie.close
+    (tie.spec
+    (λ c κs. search needs)
+    returns)

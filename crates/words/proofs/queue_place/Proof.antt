@@ -1,0 +1,19 @@
+-- Assumes nothing.
+use Rattle.words.specs.Needs.{head-valid}
+use borrow.Author.Needs.{needs}
+use Rattle.words.proofs.queue_place.Statement.{statement}
+use Rattle.words.proofs.queue_place.Tie as tie
+
+place-of-requires : tie.Need-place-of-requires
+place-of-requires c κs = search head-valid
+
+returns : tie.Need-returns
+returns c = rw (← c .before .head-of .ensures) (c .place-of .ensures)
+
+pub queue-place-spec : {M : Type 1} → statement M
+queue-place-spec =
+    tie.close
+    (tie.spec
+    (λ c κs. search needs)
+    place-of-requires
+    returns)

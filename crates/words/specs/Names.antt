@@ -1,0 +1,32 @@
+-- What the names in code stand for.
+use Prim.Native.Nat.{ℕ, _<_, _≤_}
+use Rattle.paper.specs.Image.{start, total, clock, reg, flags, status, peer, busy, character}
+use Rattle.paper.specs.declared.Place.{Place}
+use Rattle.paper.specs.declared.Shape.{Shape}
+use Rattle.paper.specs.declared.Cell.{Cell}
+use Rattle.paper.specs.declared.Part.{Part}
+use Rattle.words.specs.declared.Spot.{Spot}
+
+-- the cell of a spot
+abbrev pub spot-cell : Spot → Cell
+spot-cell Spot.Clock = clock
+spot-cell (Spot.Register i r) = reg i r
+spot-cell (Spot.Flags i) = flags i
+spot-cell (Spot.Status i) = status i
+spot-cell (Spot.Peer i) = peer i
+spot-cell (Spot.Busy i) = busy i
+spot-cell (Spot.Character i) = character i
+
+-- the spot is one of an image of shape s
+abbrev pub Names : Shape → Spot → Type 0
+Names s Spot.Clock = Unit {0}
+Names s (Spot.Register i r) = (i .0 < s .n) × (r < 8)
+Names s (Spot.Flags i) = i .0 < s .n
+Names s (Spot.Status i) = i .0 < s .n
+Names s (Spot.Peer i) = i .0 < s .n
+Names s (Spot.Busy i) = i .0 < s .n
+Names s (Spot.Character i) = i .0 < s .n
+
+-- the place is one of the segments
+abbrev pub Among : Shape → Place → Type 0
+Among s p = (start s Part.Segments ≤ p .0) × (p .0 < total s)

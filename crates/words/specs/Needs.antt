@@ -1,0 +1,192 @@
+-- What the calls of this crate ask and make, as laws over values. Assumes nothing.
+use mathlib.Core.Path.{_≡_, refl, sym, ap, _∙_}
+use mathlib.Core.List.{List}
+use mathlib.Core.Bool.{Bool, true, false}
+use Prim.Native.Nat.{ℕ, _+_, _-_, _*_, _<_, _≤_}
+use native.Mathlib.Nat.{mul-le-mul-right, le-of-lt}
+use native.Mathlib.Omega.{arith}
+use borrow.Author.Tests.{lt-ltb, le-ltb, eqb-false}
+use lib.Dec.{eqb}
+use lib.ListN.{getD, set, length}
+use Rattle.paper.specs.Image.{place-at, lead, start, total, cell, Valid, word, place, at, put, base, len, reach}
+use Rattle.paper.specs.Queues.{Has, header-capacity, queue-word, head, tail, count, capacity, slot, appended, first, taken, empty, full}
+use Rattle.paper.specs.Rules.{Fit}
+use Rattle.paper.specs.declared.Task.{Task}
+use Rattle.paper.specs.declared.Address.{Address}
+use Rattle.paper.specs.declared.Place.{Place}
+use Rattle.paper.specs.declared.Shape.{Shape}
+use Rattle.paper.specs.declared.Cell.{Cell}
+use Rattle.paper.specs.declared.Part.{Part}
+use Rattle.paper.specs.declared.Queue.{Queue}
+use Rattle.paper.specs.declared.Reach.{Reach}
+use Rattle.laws.specs.Places.{below}
+use Rattle.laws.specs.Layout.{total-is}
+use Rattle.laws.specs.Queues.{queue-width, word-valid}
+use Rattle.laws.specs.Segments.{segment-from, segment-upto, segment-cell, reached, reaches, stays-outside}
+use Rattle.laws.specs.Sound.{Sound, sound, fixed, put-sound, sound-fit, appended-sound, taken-sound}
+use Rattle.rings.specs.Ring.{Ring, append-at, first-at, take-at}
+use Rattle.words.specs.Names.{spot-cell, Names, Among}
+use Rattle.words.specs.declared.Spot.{Spot}
+
+-- a spot is a cell of the image, past the fixed words of its row
+pub spot-valid : (s : Shape) (x : Spot) → Names s x → Valid s (spot-cell x)
+spot-valid s Spot.Clock h = omega arith
+spot-valid s (Spot.Register i r) h = omega arith
+spot-valid s (Spot.Flags i) h = omega arith
+spot-valid s (Spot.Status i) h = omega arith
+spot-valid s (Spot.Peer i) h = omega arith
+spot-valid s (Spot.Busy i) h = omega arith
+spot-valid s (Spot.Character i) h = omega arith
+
+spot-free : (x : Spot) → fixed (spot-cell x .part) ≤ spot-cell x .column
+spot-free Spot.Clock = omega arith
+spot-free (Spot.Register i r) = omega arith
+spot-free (Spot.Flags i) = omega arith
+spot-free (Spot.Status i) = omega arith
+spot-free (Spot.Peer i) = omega arith
+spot-free (Spot.Busy i) = omega arith
+spot-free (Spot.Character i) = omega arith
+
+-- the cell that code finds for a spot
+pub found-valid : (s : Shape) (x : Spot) (c : Cell) → c ≡ spot-cell x → Names s x → Valid s c
+found-valid s x c e n = rw e (spot-valid s x n)
+
+module _ (s : Shape) (im : List ℕ) (c : Cell) (p : Place) (e : p ≡ place s c) where
+  pub place-inside : Sound s im → Valid s c → p .0 < length im
+  place-inside h v = omega (arith, ap (λ (x : Place). x .0) e, below s c v, sound h .laid .words)
+
+  pub entry-got : (r : ℕ) → r ≡ word im p → r ≡ at s im c
+  unfolding at
+  entry-got r er = rw (er, e)
+
+-- the word read at a spot
+pub got : (s : Shape) (im : List ℕ) (x : Spot) (c : Cell) (p : Place) (r : ℕ) → c ≡ spot-cell x → p ≡ place s c → r ≡ word im p → r ≡ at s im (spot-cell x)
+unfolding at
+got s im x c p r ec ep er = rw (er, ep, ec)
+
+module _ (s : Shape) (im out : List ℕ) (x : Spot) (c : Cell) (p : Place) (v : ℕ) (ec : c ≡ spot-cell x) (ep : p ≡ place s c) (eo : out ≡ set im (p .0) v) where
+  pub spot-put : out ≡ put s im (spot-cell x) v
+  unfolding put
+  spot-put = rw (eo, ep, ec)
+
+  pub spot-put-sound : Sound s im → Names s x → Sound s out
+  spot-put-sound h n = rw spot-put (put-sound s im (spot-cell x) v (spot-valid s x n) (spot-free x) h)
+
+-- the head of a queue is a cell of the image
+pub head-valid : (s : Shape) (q : Queue) (c : Cell) → c ≡ head s q → Has s q → Valid s c
+head-valid s q c e h = rw e (word-valid s q 0 h (omega arith))
+
+-- the row of a message buffer is a small number
+pub pair-small : (s : Shape) (q : Queue) {i j : Task} → q ≡ Queue.Message i j → Fit s → Has s q → i .0 * s .n + j .0 < 272
+pair-small s q {i} {j} e fit h =
+    let g : (i .0 < s .n) × (j .0 < s .n) = rw e at h in
+    let most = fit .tasks .1 in
+    omega (arith, mul-le-mul-right (s .n) (le-of-lt (g .0)), mul-le-mul-right (s .n) most)
+
+-- the words of a queue as they lie from its place on
+along : (s : Shape) (q : Queue) (k : ℕ) → place s (queue-word s q k) .0 ≡ place s (head s q) .0 + k
+unfolding place
+along s q k = omega arith
+
+slot-along : (s : Shape) (q : Queue) (k : ℕ) → place s (slot s q k) .0 ≡ place s (head s q) .0 + 4 + k
+slot-along s q k = omega (arith, along s q (lead + k))
+
+module _ (s : Shape) (im : List ℕ) (q : Queue) (p : Place) (e : p ≡ place s (head s q)) where
+  word-is : (k : ℕ) → getD im (p .0 + k) 0 ≡ at s im (queue-word s q k)
+  unfolding at
+  word-is k = rw (e, along s q k)
+
+  head-is : getD im (p .0) 0 ≡ at s im (head s q)
+  unfolding at
+  head-is = rw e
+
+  pub count-is : (r : ℕ) → r ≡ getD im (p .0 + 2) 0 → r ≡ at s im (count s q)
+  count-is r er = er ∙ word-is 2
+
+  pub full-is : (r : Bool) → r ≡ eqb (getD im (p .0 + 2) 0) (getD im (p .0 + 3) 0) → r ≡ full s im q
+  unfolding full
+  full-is r er = er ∙ rw (word-is 2, word-is 3)
+
+  pub first-is : (r : ℕ) → r ≡ first-at im (p .0) → r ≡ first s im q
+  unfolding first-at first at
+  first-is r er = er ∙ rw (e, slot-along)
+
+  append-is : (v : ℕ) → append-at im (p .0) v ≡ appended s im q v
+  unfolding append-at appended put at
+  append-is v = rw e (simp (slot-along, along s q 1, along s q 2, along s q 3))
+
+  take-is : take-at im (p .0) ≡ taken s im q
+  unfolding take-at taken put at
+  take-is = rw e (simp (along s q 2, along s q 3))
+
+  module _ (h : Sound s im) (hq : Has s q) where
+    pub ring-is : Ring im (p .0)
+    ring-is =
+        let r = sound h .queues q hq in
+        let last = below s (queue-word s q (3 + header-capacity s q)) (word-valid s q (3 + header-capacity s q) hq (omega arith)) in
+        record {
+          within = rw (word-is 3, r .sized, e) (omega (arith, along s q (3 + header-capacity s q), sound h .laid .words));
+          headed = rw (head-is, word-is 3) (r .headed);
+          tailed = rw (word-is 1, word-is 3) (r .tailed);
+          counted = rw (word-is 2, word-is 3) (r .counted);
+        }
+
+    room : full s im q ≡ false → at s im (count s q) < at s im (capacity s q)
+    unfolding full
+    room f =
+        let ne = eqb-false (at s im (count s q)) (at s im (capacity s q)) f in
+        let r = sound h .queues q hq .counted in
+        omega arith
+
+    some : empty s im q ≡ false → 0 < at s im (count s q)
+    unfolding empty
+    some f =
+        let ne = eqb-false (at s im (count s q)) 0 f in
+        omega arith
+
+    pub room-is : full s im q ≡ false → getD im (p .0 + 2) 0 < getD im (p .0 + 3) 0
+    room-is f = rw (word-is 2, word-is 3) (room f)
+
+    pub some-is : empty s im q ≡ false → 0 < getD im (p .0 + 2) 0
+    some-is f = rw (word-is 2) (some f)
+
+    module _ (out : List ℕ) where
+      pub appended-is : (v : ℕ) → out ≡ append-at im (p .0) v → out ≡ appended s im q v
+      appended-is v eo = eo ∙ append-is v
+
+      pub appended-keeps : (v : ℕ) → out ≡ append-at im (p .0) v → full s im q ≡ false → Sound s out
+      appended-keeps v eo f = rw (appended-is v eo) (appended-sound s im q hq h v (room f))
+
+      pub taken-is : out ≡ take-at im (p .0) → out ≡ taken s im q
+      taken-is eo = eo ∙ take-is
+
+      pub taken-keeps : out ≡ take-at im (p .0) → empty s im q ≡ false → Sound s out
+      taken-keeps eo f = rw (taken-is eo) (taken-sound s im q hq h (some f))
+
+-- an empty queue holds no word
+pub empty-is : (s : Shape) (im : List ℕ) (q : Queue) (n : ℕ) → n ≡ at s im (count s q) → eqb n 0 ≡ empty s im q
+unfolding empty
+empty-is s im q n e = rw e
+
+-- an address within the length, and one past it
+module _ (s : Shape) (im : List ℕ) (i : Task) (a : Address) (n : ℕ) (en : n ≡ at s im (len i)) where
+  pub reach-at : (b : ℕ) → b ≡ at s im (base i) → a .0 < n → Reach.At (place-at (b + a .0)) ≡ reach s im i a
+  reach-at b eb h = rw eb (sym (reaches s im i a (omega arith)))
+
+  pub reach-outside : n ≤ a .0 → Reach.Outside ≡ reach s im i a
+  reach-outside h = sym (stays-outside s im i a (omega arith))
+
+-- a place among the segments
+module _ (s : Shape) (im : List ℕ) (p : Place) (h : Sound s im) (among : Among s p) where
+  pub among-inside : p .0 < length im
+  among-inside = omega (arith, sound h .laid .words)
+
+  among-place : place s (segment-cell s p) .0 ≡ p .0
+  unfolding place
+  among-place = omega arith
+
+  pub written-sound : (out : List ℕ) (v : ℕ) → out ≡ set im (p .0) v → Sound s out
+  unfolding put
+  written-sound out v eo =
+      let e : out ≡ put s im (segment-cell s p) v = eo ∙ ap (λ (x : ℕ). set im x v) (sym among-place) in
+      rw e (put-sound s im (segment-cell s p) v (omega arith, omega (arith, total-is s)) (omega arith) h)

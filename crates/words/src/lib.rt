@@ -1,0 +1,268 @@
+// The words and the queues of an image of shape s, by their names.
+ghost use mathlib.Core.Path.{_≡_};
+ghost use mathlib.Core.Bool.{false};
+ghost use Prim.Native.Nat.{_<_};
+ghost use lib.ListN.{set, length};
+ghost use Rattle.paper.specs.Image.{word, cell, place, at as word-at, put as put-word, reach as reach-of};
+ghost use Rattle.paper.specs.declared.Part.the-variants.{SegmentTable};
+ghost use Rattle.paper.specs.Rules.{Fit};
+ghost use Rattle.paper.specs.Queues.{Has, head, appended, first as first-of, taken, count as count-cell, empty as empty-of, full as full-of};
+ghost use Rattle.laws.specs.Sound.{Sound};
+ghost use Rattle.words.specs.Names.{spot-cell, Names, Among};
+use paper::Address;
+use paper::Cell;
+use paper::Part;
+use paper::Place;
+use paper::Queue;
+use paper::Reach;
+use paper::Shape;
+use paper::Task;
+use places::place_of;
+use rings::append_at;
+use rings::count_at;
+use rings::first_at;
+use rings::full_at;
+use rings::take_at;
+
+// The words that may be written one by one: all but the header's, the queues', the segment table's and the segments'.
+pub enum Spot {
+    Clock,
+    Register(Task, usize),
+    Flags(Task),
+    Status(Task),
+    Peer(Task),
+    Busy(Task),
+    Character(Task),
+}
+
+// The word at a place.
+fn load(im: &[u16], p: Place) -> u16
+    requires { ⌜ p .0 < length (now im) ⌝ }
+    ensures { λ r. ⌜ r ≡ word (now (im .entry)) p ⌝ }
+{
+    let at = p.0;
+    im[at]
+}
+
+// Writes the word at a place.
+fn store(im: &mut [u16], p: Place, v: u16)
+    requires { ⌜ p .0 < length (now im) ⌝ }
+    ensures { λ _. ⌜ now (im .exit) ≡ set (now (im .entry)) (p .0) v ⌝ }
+{
+    let at = p.0;
+    im[at] = v;
+}
+
+// The cell that a spot names.
+fn cell_of(x: Spot) -> Cell
+    ensures { λ r. ⌜ r ≡ spot-cell x ⌝ }
+{
+    match x {
+        Spot::Clock => Cell {
+            part: Part::Header,
+            row: 0,
+            column: 17,
+        },
+        Spot::Register(t, r) => Cell {
+            part: Part::TaskTable,
+            row: t.0 as usize,
+            column: r,
+        },
+        Spot::Flags(t) => Cell {
+            part: Part::TaskTable,
+            row: t.0 as usize,
+            column: 8,
+        },
+        Spot::Status(t) => Cell {
+            part: Part::StatusTable,
+            row: t.0 as usize,
+            column: 0,
+        },
+        Spot::Peer(t) => Cell {
+            part: Part::StatusTable,
+            row: t.0 as usize,
+            column: 1,
+        },
+        Spot::Busy(t) => Cell {
+            part: Part::Ports,
+            row: t.0 as usize,
+            column: 0,
+        },
+        Spot::Character(t) => Cell {
+            part: Part::Ports,
+            row: t.0 as usize,
+            column: 1,
+        },
+    }
+}
+
+// The word at a spot.
+pub fn get(s: Shape, im: &[u16], x: Spot) -> u16
+    requires { ⌜ Sound s (now im) ⌝ }
+    requires { ⌜ Names s x ⌝ }
+    ensures { λ r. ⌜ r ≡ word-at s (now (im .entry)) (spot-cell x) ⌝ }
+{
+    load(im, place_of(s, cell_of(x)))
+}
+
+// Writes a word at a spot.
+pub fn put(s: Shape, im: &mut [u16], x: Spot, v: u16)
+    requires { ⌜ Sound s (now im) ⌝ }
+    requires { ⌜ Names s x ⌝ }
+    ensures { λ _. ⌜ now (im .exit) ≡ put-word s (now (im .entry)) (spot-cell x) v ⌝ }
+    ensures { λ _. ⌜ Sound s (now (im .exit)) ⌝ }
+{
+    store(im, place_of(s, cell_of(x)), v);
+}
+
+// The cell of a queue's first word.
+fn head_of(s: Shape, q: Queue) -> Cell
+    requires { ⌜ Fit s ⌝ }
+    requires { ⌜ Has s q ⌝ }
+    ensures { λ r. ⌜ r ≡ head s q ⌝ }
+{
+    match q {
+        Queue::Ready => Cell {
+            part: Part::ReadyQueue,
+            row: 0,
+            column: 0,
+        },
+        Queue::Input(t) => Cell {
+            part: Part::InputBuffers,
+            row: t.0 as usize,
+            column: 0,
+        },
+        Queue::Output(t) => Cell {
+            part: Part::OutputBuffers,
+            row: t.0 as usize,
+            column: 0,
+        },
+        Queue::Message(i, j) => Cell {
+            part: Part::MessageBuffers,
+            row: i.0 as usize * s.n + j.0 as usize,
+            column: 0,
+        },
+    }
+}
+
+// The place of a queue's first word.
+fn queue_place(s: Shape, q: Queue) -> Place
+    requires { ⌜ Fit s ⌝ }
+    requires { ⌜ Has s q ⌝ }
+    ensures { λ r. ⌜ r ≡ place s (head s q) ⌝ }
+{
+    place_of(s, head_of(s, q))
+}
+
+// How many words a queue holds.
+pub fn count(s: Shape, im: &[u16], q: Queue) -> u16
+    requires { ⌜ Sound s (now im) ⌝ }
+    requires { ⌜ Has s q ⌝ }
+    ensures { λ r. ⌜ r ≡ word-at s (now (im .entry)) (count-cell s q) ⌝ }
+{
+    count_at(im, queue_place(s, q))
+}
+
+// Whether a queue is full.
+pub fn full(s: Shape, im: &[u16], q: Queue) -> bool
+    requires { ⌜ Sound s (now im) ⌝ }
+    requires { ⌜ Has s q ⌝ }
+    ensures { λ r. ⌜ r ≡ full-of s (now (im .entry)) q ⌝ }
+{
+    full_at(im, queue_place(s, q))
+}
+
+// Whether a queue is empty.
+pub fn empty(s: Shape, im: &[u16], q: Queue) -> bool
+    requires { ⌜ Sound s (now im) ⌝ }
+    requires { ⌜ Has s q ⌝ }
+    ensures { λ r. ⌜ r ≡ empty-of s (now (im .entry)) q ⌝ }
+{
+    count(s, im, q) == 0
+}
+
+// The first word of a queue.
+pub fn first(s: Shape, im: &[u16], q: Queue) -> u16
+    requires { ⌜ Sound s (now im) ⌝ }
+    requires { ⌜ Has s q ⌝ }
+    ensures { λ r. ⌜ r ≡ first-of s (now (im .entry)) q ⌝ }
+{
+    first_at(im, queue_place(s, q))
+}
+
+// Appends a word to a queue that has room.
+pub fn append(s: Shape, im: &mut [u16], q: Queue, v: u16)
+    requires { ⌜ Sound s (now im) ⌝ }
+    requires { ⌜ Has s q ⌝ }
+    requires { ⌜ full-of s (now im) q ≡ false ⌝ }
+    ensures { λ _. ⌜ now (im .exit) ≡ appended s (now (im .entry)) q v ⌝ }
+    ensures { λ _. ⌜ Sound s (now (im .exit)) ⌝ }
+{
+    append_at(im, queue_place(s, q), v);
+}
+
+// Takes the first word of a queue that holds one.
+pub fn take(s: Shape, im: &mut [u16], q: Queue) -> u16
+    requires { ⌜ Sound s (now im) ⌝ }
+    requires { ⌜ Has s q ⌝ }
+    requires { ⌜ empty-of s (now im) q ≡ false ⌝ }
+    ensures { λ r. ⌜ r ≡ first-of s (now (im .entry)) q ⌝ }
+    ensures { λ _. ⌜ now (im .exit) ≡ taken s (now (im .entry)) q ⌝ }
+    ensures { λ _. ⌜ Sound s (now (im .exit)) ⌝ }
+{
+    take_at(im, queue_place(s, q))
+}
+
+// A word of a task's entry in the segment table.
+fn entry(s: Shape, im: &[u16], t: Task, k: usize) -> u16
+    requires { ⌜ Sound s (now im) ⌝ }
+    requires { ⌜ (t .0 < s .n) × (k < 2) ⌝ }
+    ensures { λ r. ⌜ r ≡ word-at s (now (im .entry)) (cell SegmentTable (t .0) k) ⌝ }
+{
+    load(
+        im,
+        place_of(
+            s,
+            Cell {
+                part: Part::SegmentTable,
+                row: t.0 as usize,
+                column: k,
+            },
+        ),
+    )
+}
+
+// Where an address of a task's segment leads.
+pub fn reach(s: Shape, im: &[u16], t: Task, a: Address) -> Reach
+    requires { ⌜ Sound s (now im) ⌝ }
+    requires { ⌜ t .0 < s .n ⌝ }
+    ensures { λ r. ⌜ r ≡ reach-of s (now (im .entry)) t a ⌝ }
+{
+    let base = entry(s, im, t, 0);
+    let length = entry(s, im, t, 1);
+    let offset = a.0;
+    if offset < length {
+        Reach::At(Place(base as usize + offset as usize))
+    } else {
+        Reach::Outside
+    }
+}
+
+// The word at a place of the segments.
+pub fn read(s: Shape, im: &[u16], p: Place) -> u16
+    requires { ⌜ Sound s (now im) ⌝ }
+    requires { ⌜ Among s p ⌝ }
+    ensures { λ r. ⌜ r ≡ word (now (im .entry)) p ⌝ }
+{
+    load(im, p)
+}
+
+// Writes a word at a place of the segments.
+pub fn write(s: Shape, im: &mut [u16], p: Place, v: u16)
+    requires { ⌜ Sound s (now im) ⌝ }
+    requires { ⌜ Among s p ⌝ }
+    ensures { λ _. ⌜ now (im .exit) ≡ set (now (im .entry)) (p .0) v ⌝ }
+    ensures { λ _. ⌜ Sound s (now (im .exit)) ⌝ }
+{
+    store(im, p, v);
+}

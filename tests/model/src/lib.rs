@@ -1,0 +1,21 @@
+//! An independent model of the kernel, written from the paper alone.
+//!
+//! It decodes an image's words into structs, acts on the structs and encodes
+//! them back. Its answers are stored as vectors that the kernel is compared
+//! with, so it shares no code and no definitions with the kernel.
+
+#![forbid(unsafe_code)]
+
+pub mod cases;
+pub mod check;
+pub mod damage;
+pub mod good;
+pub mod image;
+pub mod junk;
+pub mod layout;
+pub mod numbers;
+pub mod plan;
+pub mod queue;
+pub mod rng;
+pub mod rules;
+pub mod vectors;
