@@ -20,6 +20,22 @@ use Rattle.laws.specs.Places.{one-cell}
 use Rattle.laws.specs.Cells.{at-header, at-other, length-put}
 use Rattle.laws.specs.Queues.{Off, off-part, off-row, queue-row, queue-width, word-valid, appended-off, appended-length, appended-queued, taken-off, taken-length, taken-queued}
 
+-- an image of the size that its shape gives: what reading a cell needs; shut, as contracts say it
+unfoldable pub Sized : Shape → List ℕ → Type 0
+Sized s im = Fit s × (length im ≡ total s)
+
+pub make-sized : (s : Shape) (im : List ℕ) → Fit s → length im ≡ total s → Sized s im
+unfolding Sized
+make-sized s im f w = (f, w)
+
+pub sized-fit : (s : Shape) (im : List ℕ) → Sized s im → Fit s
+unfolding Sized
+sized-fit s im h = h .0
+
+pub sized-words : (s : Shape) (im : List ℕ) → Sized s im → length im ≡ total s
+unfolding Sized
+sized-words s im h = h .1
+
 -- what leaf code needs to be safe
 pub record Orderly (s : Shape) (im : List ℕ) : Type 0 where
   pub laid : Laid s im
@@ -36,6 +52,9 @@ shut h = h
 pub sound : {s : Shape} {im : List ℕ} → Sound s im → Orderly s im
 unfolding Sound
 sound h = h
+
+pub sound-sized : (s : Shape) (im : List ℕ) → Sound s im → Sized s im
+sound-sized s im h = make-sized s im (sound h .laid .fit) (sound h .laid .words)
 
 pub sound-fit : (s : Shape) (im : List ℕ) → Sound s im → Fit s
 sound-fit s im h = sound h .laid .fit

@@ -19,10 +19,14 @@ abbrev pub every : ℕ → (ℕ → Bool) → Bool
 every zero f = true
 every (suc k) f = every k f && f k
 
--- and at each word of a list
-abbrev pub all : (ℕ → Bool) → List ℕ → Bool
-all f [] = true
-all f (w ∷ ws) = f w && all f ws
+-- for every task
+abbrev pub every-task : Shape → (Task → Bool) → Bool
+every-task s f = every (s .n) (λ k. f (task k))
+
+-- each word of a list is below m
+abbrev pub all-below : ℕ → List ℕ → Bool
+all-below m [] = true
+all-below m (w ∷ ws) = ltb w m && all-below m ws
 
 -- where a holds, b does
 abbrev pub implies : Bool → Bool → Bool
@@ -35,32 +39,27 @@ queued s im q =
     ltb (at s im (tail s q)) (at s im (capacity s q)) && leb (at s im (count s q)) (at s im (capacity s q)) &&
     eqb ((at s im (head s q) + at s im (count s q)) % at s im (capacity s q)) (at s im (tail s q))
 
--- for every task
-abbrev pub every-task : Shape → (Task → Bool) → Bool
-every-task s f = every (s .n) (λ k. f (task k))
-
--- the ready queue, and every input, output and message buffer
-unfoldable pub queues-hold : Shape → List ℕ → Bool
-queues-hold s im =
-    queued s im Queue.Ready && every-task s (λ i. queued s im (Queue.Input i)) && every-task s (λ i. queued s im (Queue.Output i)) &&
-    every-task s (λ i. every-task s (λ j. queued s im (Queue.Message i j)))
-
--- words held in input and output buffers are at most 255
-unfoldable pub characters : Shape → List ℕ → Task → Bool
-characters s im i =
-    all (λ w. leb w most-character) (held s im (Queue.Input i)) && all (λ w. leb w most-character) (held s im (Queue.Output i))
-
--- the ready queue holds each task of status 0 exactly once
-unfoldable pub readied-once : Shape → List ℕ → Task → Bool
-readied-once s im i = eqb (times (i .0) (held s im Queue.Ready)) (cond (eqb (at s im (status i)) is-ready) 1 0)
-
--- and no other
+-- the ready queue holds no number but a task's
 unfoldable pub readied-tasks : Shape → List ℕ → Bool
-readied-tasks s im = all (λ w. ltb w (s .n)) (held s im Queue.Ready)
+readied-tasks s im = all-below (s .n) (held s im Queue.Ready)
 
 -- clock at most S; 0 where the ready queue is empty
 unfoldable pub clock-holds : Shape → List ℕ → Bool
 clock-holds s im = leb (at s im clock) (s .slice) && implies (empty s im Queue.Ready) (eqb (at s im clock) 0)
+
+-- the input and output buffer of task i, and its message buffers to every task
+unfoldable pub buffers-hold : Shape → List ℕ → Task → Bool
+buffers-hold s im i =
+    queued s im (Queue.Input i) && queued s im (Queue.Output i) && every-task s (λ j. queued s im (Queue.Message i j))
+
+-- words held in input and output buffers are at most 255
+unfoldable pub characters : Shape → List ℕ → Task → Bool
+characters s im i =
+    all-below (most-character + 1) (held s im (Queue.Input i)) && all-below (most-character + 1) (held s im (Queue.Output i))
+
+-- the ready queue holds each task of status 0 exactly once, and no other task
+unfoldable pub readied-once : Shape → List ℕ → Task → Bool
+readied-once s im i = eqb (times (i .0) (held s im Queue.Ready)) (cond (eqb (at s im (status i)) is-ready) 1 0)
 
 -- busy 0 or 1, character at most 255; an idle port has character 0 and its output buffer is empty
 unfoldable pub port-holds : Shape → List ℕ → Task → Bool
@@ -100,10 +99,11 @@ status-holds s im i =
     implies (eqb (at s im (status i)) is-stopped) (not (eqb (error s im i) 0)) &&
     (eqb (at s im (status i)) (waits Service.Send) || eqb (at s im (status i)) (waits Service.Receive) || eqb (at s im (peer i)) 0)
 
--- all rules, task by task once the queues hold
+-- the rules of task i
 unfoldable pub task-holds : Shape → List ℕ → Task → Bool
 task-holds s im i =
-    characters s im i && readied-once s im i && port-holds s im i && flags-hold s im i && status-holds s im i
+    buffers-hold s im i && characters s im i && readied-once s im i && port-holds s im i && flags-hold s im i && status-holds s im i
 
+-- all rules
 unfoldable pub rules-hold : Shape → List ℕ → Bool
-rules-hold s im = queues-hold s im && readied-tasks s im && clock-holds s im && every-task s (task-holds s im)
+rules-hold s im = queued s im Queue.Ready && readied-tasks s im && clock-holds s im && every-task s (task-holds s im)

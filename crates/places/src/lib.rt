@@ -1,10 +1,15 @@
-// Where a cell lies in an image of shape s.
+// Where a cell lies in an image of shape s, and the word there.
 ghost use mathlib.Core.Path.{_≡_};
-ghost use Rattle.paper.specs.Image.{start, width, Valid, place};
+ghost use Prim.Native.Nat.{_<_};
+ghost use lib.ListN.{set, length};
+ghost use Rattle.paper.specs.Image.{start, width, Valid, place, word, at as word-at};
+ghost use Rattle.paper.specs.Queues.{Has, head};
 ghost use Rattle.paper.specs.Rules.{Fit};
+ghost use Rattle.laws.specs.Sound.{Sized};
 use paper::Cell;
 use paper::Part;
 use paper::Place;
+use paper::Queue;
 use paper::Shape;
 
 // The words of a row: of the header, of a task, of a queue before its slots, of a status, of a port, of a segment's entry.
@@ -67,4 +72,61 @@ pub fn place_of(s: Shape, c: Cell) -> Place
 {
     let p = c.part;
     Place(start_of(s, p) + (c.row * width_of(s, p) + c.column))
+}
+
+// The word at a place.
+pub fn load(im: &[u16], p: Place) -> u16
+    requires { ⌜ p .0 < length (now im) ⌝ }
+    ensures { λ r. ⌜ r ≡ word (now (im .entry)) p ⌝ }
+{
+    let at = p.0;
+    im[at]
+}
+
+// Writes the word at a place.
+pub fn store(im: &mut [u16], p: Place, v: u16)
+    requires { ⌜ p .0 < length (now im) ⌝ }
+    ensures { λ _. ⌜ now (im .exit) ≡ set (now (im .entry)) (p .0) v ⌝ }
+{
+    let at = p.0;
+    im[at] = v;
+}
+
+// The word of a cell.
+pub fn word_of(s: Shape, im: &[u16], c: Cell) -> u16
+    requires { ⌜ Sized s (now im) ⌝ }
+    requires { ⌜ Valid s c ⌝ }
+    ensures { λ r. ⌜ r ≡ word-at s (now (im .entry)) c ⌝ }
+{
+    load(im, place_of(s, c))
+}
+
+// The cell of a queue's first word.
+pub fn head_of(s: Shape, q: Queue) -> Cell
+    requires { ⌜ Fit s ⌝ }
+    requires { ⌜ Has s q ⌝ }
+    ensures { λ r. ⌜ r ≡ head s q ⌝ }
+{
+    match q {
+        Queue::Ready => Cell {
+            part: Part::ReadyQueue,
+            row: 0,
+            column: 0,
+        },
+        Queue::Input(t) => Cell {
+            part: Part::InputBuffers,
+            row: t.0 as usize,
+            column: 0,
+        },
+        Queue::Output(t) => Cell {
+            part: Part::OutputBuffers,
+            row: t.0 as usize,
+            column: 0,
+        },
+        Queue::Message(i, j) => Cell {
+            part: Part::MessageBuffers,
+            row: i.0 as usize * s.n + j.0 as usize,
+            column: 0,
+        },
+    }
 }

@@ -51,18 +51,13 @@ spot-free (Spot.Character i) = omega arith
 pub found-valid : (s : Shape) (x : Spot) (c : Cell) → c ≡ spot-cell x → Names s x → Valid s c
 found-valid s x c e n = rw e (spot-valid s x n)
 
-module _ (s : Shape) (im : List ℕ) (c : Cell) (p : Place) (e : p ≡ place s c) where
-  pub place-inside : Sound s im → Valid s c → p .0 < length im
-  place-inside h v = omega (arith, ap (λ (x : Place). x .0) e, below s c v, sound h .laid .words)
-
-  pub entry-got : (r : ℕ) → r ≡ word im p → r ≡ at s im c
-  unfolding at
-  entry-got r er = rw (er, e)
-
 -- the word read at a spot
-pub got : (s : Shape) (im : List ℕ) (x : Spot) (c : Cell) (p : Place) (r : ℕ) → c ≡ spot-cell x → p ≡ place s c → r ≡ word im p → r ≡ at s im (spot-cell x)
-unfolding at
-got s im x c p r ec ep er = rw (er, ep, ec)
+pub got : (s : Shape) (im : List ℕ) (x : Spot) (c : Cell) (r : ℕ) → c ≡ spot-cell x → r ≡ at s im c → r ≡ at s im (spot-cell x)
+got s im x c r ec er = rw (er, ec)
+
+-- a place that code finds for a cell lies in the image
+pub place-inside : (s : Shape) (im : List ℕ) (c : Cell) (p : Place) → p ≡ place s c → Sound s im → Valid s c → p .0 < length im
+place-inside s im c p e h v = omega (arith, ap (λ (x : Place). x .0) e, below s c v, sound h .laid .words)
 
 module _ (s : Shape) (im out : List ℕ) (x : Spot) (c : Cell) (p : Place) (v : ℕ) (ec : c ≡ spot-cell x) (ep : p ≡ place s c) (eo : out ≡ set im (p .0) v) where
   pub spot-put : out ≡ put s im (spot-cell x) v
@@ -75,13 +70,6 @@ module _ (s : Shape) (im out : List ℕ) (x : Spot) (c : Cell) (p : Place) (v : 
 -- the head of a queue is a cell of the image
 pub head-valid : (s : Shape) (q : Queue) (c : Cell) → c ≡ head s q → Has s q → Valid s c
 head-valid s q c e h = rw e (word-valid s q 0 h (omega arith))
-
--- the row of a message buffer is a small number
-pub pair-small : (s : Shape) (q : Queue) {i j : Task} → q ≡ Queue.Message i j → Fit s → Has s q → i .0 * s .n + j .0 < 272
-pair-small s q {i} {j} e fit h =
-    let g : (i .0 < s .n) × (j .0 < s .n) = rw e at h in
-    let most = fit .tasks .1 in
-    omega (arith, mul-le-mul-right (s .n) (le-of-lt (g .0)), mul-le-mul-right (s .n) most)
 
 -- the words of a queue as they lie from its place on
 along : (s : Shape) (q : Queue) (k : ℕ) → place s (queue-word s q k) .0 ≡ place s (head s q) .0 + k

@@ -17,7 +17,11 @@ use paper::Queue;
 use paper::Reach;
 use paper::Shape;
 use paper::Task;
+use places::head_of;
+use places::load;
 use places::place_of;
+use places::store;
+use places::word_of;
 use rings::append_at;
 use rings::count_at;
 use rings::first_at;
@@ -33,24 +37,6 @@ pub enum Spot {
     Peer(Task),
     Busy(Task),
     Character(Task),
-}
-
-// The word at a place.
-fn load(im: &[u16], p: Place) -> u16
-    requires { ⌜ p .0 < length (now im) ⌝ }
-    ensures { λ r. ⌜ r ≡ word (now (im .entry)) p ⌝ }
-{
-    let at = p.0;
-    im[at]
-}
-
-// Writes the word at a place.
-fn store(im: &mut [u16], p: Place, v: u16)
-    requires { ⌜ p .0 < length (now im) ⌝ }
-    ensures { λ _. ⌜ now (im .exit) ≡ set (now (im .entry)) (p .0) v ⌝ }
-{
-    let at = p.0;
-    im[at] = v;
 }
 
 // The cell that a spot names.
@@ -102,7 +88,7 @@ pub fn get(s: Shape, im: &[u16], x: Spot) -> u16
     requires { ⌜ Names s x ⌝ }
     ensures { λ r. ⌜ r ≡ word-at s (now (im .entry)) (spot-cell x) ⌝ }
 {
-    load(im, place_of(s, cell_of(x)))
+    word_of(s, im, cell_of(x))
 }
 
 // Writes a word at a spot.
@@ -113,36 +99,6 @@ pub fn put(s: Shape, im: &mut [u16], x: Spot, v: u16)
     ensures { λ _. ⌜ Sound s (now (im .exit)) ⌝ }
 {
     store(im, place_of(s, cell_of(x)), v);
-}
-
-// The cell of a queue's first word.
-fn head_of(s: Shape, q: Queue) -> Cell
-    requires { ⌜ Fit s ⌝ }
-    requires { ⌜ Has s q ⌝ }
-    ensures { λ r. ⌜ r ≡ head s q ⌝ }
-{
-    match q {
-        Queue::Ready => Cell {
-            part: Part::ReadyQueue,
-            row: 0,
-            column: 0,
-        },
-        Queue::Input(t) => Cell {
-            part: Part::InputBuffers,
-            row: t.0 as usize,
-            column: 0,
-        },
-        Queue::Output(t) => Cell {
-            part: Part::OutputBuffers,
-            row: t.0 as usize,
-            column: 0,
-        },
-        Queue::Message(i, j) => Cell {
-            part: Part::MessageBuffers,
-            row: i.0 as usize * s.n + j.0 as usize,
-            column: 0,
-        },
-    }
 }
 
 // The place of a queue's first word.
@@ -219,16 +175,14 @@ fn entry(s: Shape, im: &[u16], t: Task, k: usize) -> u16
     requires { ⌜ (t .0 < s .n) × (k < 2) ⌝ }
     ensures { λ r. ⌜ r ≡ word-at s (now (im .entry)) (cell SegmentTable (t .0) k) ⌝ }
 {
-    load(
+    word_of(
+        s,
         im,
-        place_of(
-            s,
-            Cell {
-                part: Part::SegmentTable,
-                row: t.0 as usize,
-                column: k,
-            },
-        ),
+        Cell {
+            part: Part::SegmentTable,
+            row: t.0 as usize,
+            column: k,
+        },
     )
 }
 

@@ -11,6 +11,7 @@ use crate::rng::Rng;
 
 const SMALLEST: Frame = Frame { tasks: 1, slice: 1, input: 1, output: 1, message: 1 };
 const PAIR: Frame = Frame { tasks: 2, slice: 3, input: 1, output: 2, message: 3 };
+const CROWD: Frame = Frame { tasks: 16, slice: 5, input: 1, output: 2, message: 1 };
 const LARGEST: Frame = Frame { tasks: 16, slice: 65535, input: 32, output: 32, message: 32 };
 
 /// A list of words and the number that the check must give for it.
@@ -27,7 +28,7 @@ impl Case {
 }
 
 /// All cases of a seed: special ones, `count` good images each with its
-/// damaged ones, every named damage, and random lists.
+/// damaged ones, every named damage twice, fresh images and random lists.
 pub fn collect(seed: u64, count: usize) -> Vec<Case> {
     let mut rng = Rng::new(seed);
     let damages = damage::all();
@@ -36,12 +37,17 @@ pub fn collect(seed: u64, count: usize) -> Vec<Case> {
     for frame in [SMALLEST, PAIR] {
         let kernel = good::framed(&mut rng, frame);
         lists.extend(damage::sweep(&mut rng, &kernel));
+        lists.extend(damage::every_cut(&kernel));
     }
+    let crowd = good::framed(&mut rng, CROWD);
+    lists.extend(family(&mut rng, &crowd, &damages));
     for _ in 0..count {
         let kernel = good::kernel(&mut rng);
         lists.extend(family(&mut rng, &kernel, &damages));
     }
-    lists.extend(damages.iter().map(|damage| named(&mut rng, damage)));
+    for damage in &damages {
+        lists.extend([named(&mut rng, damage), named(&mut rng, damage)]);
+    }
     lists.extend((0..count.div_ceil(8)).map(|_| good::fresh(&mut rng).encode()));
     for degree in junk::DEGREES {
         lists.extend((0..count.div_ceil(8)).map(|_| junk::list(&mut rng, degree)));

@@ -148,11 +148,12 @@ fn queue(rng: &mut Rng, capacity: usize, length: usize, held: fn(&mut Rng) -> u1
 }
 
 /// Gives a task one of the wished statuses that its buffers allow, and all
-/// that the rules of that status ask of its flags, peer and registers.
+/// that the rules of that status ask of its flags, peer and registers. One
+/// of the wishes is 0 or 5, which all buffers allow.
 fn settle(rng: &mut Rng, kernel: &mut Kernel, me: usize, wishes: &[u16]) {
     let allowed: Vec<u16> =
         wishes.iter().copied().filter(|&wish| allows(kernel, me, wish)).collect();
-    let chosen = if allowed.is_empty() { status::STOPPED } else { *rng.pick(&allowed) };
+    let chosen = *rng.pick(&allowed);
     let peers = peers(kernel, me, chosen);
     let task = &mut kernel.tasks[me];
     task.status = chosen;

@@ -10,7 +10,7 @@ mod tasks;
 
 pub use header::sweep;
 pub use mixed::{guess, noise, several};
-pub use segments::{fit_only_mod_65536, lengthened, total_over_the_largest};
+pub use segments::{every_cut, fit_only_mod_65536, lengthened, total_over_the_largest};
 
 use crate::check::check;
 use crate::image::{Kernel, Task};

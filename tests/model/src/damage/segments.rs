@@ -12,7 +12,7 @@ pub fn damages() -> Vec<Damage> {
 }
 
 /// Damages to the bases and lengths alone.
-const TABLE: [Row; 12] = [
+const TABLE: [Row; 13] = [
     ("base one more", |rng, kernel| with_entry(rng, kernel, |e| e[0] += 1)),
     ("base one less", |rng, kernel| with_entry(rng, kernel, |e| e[0] -= 1)),
     ("base 0", |rng, kernel| with_entry(rng, kernel, |e| e[0] = 0)),
@@ -27,6 +27,7 @@ const TABLE: [Row; 12] = [
     ("lengths exchanged", |_, kernel| exchanged(kernel, 1)),
     ("bases exchanged", |_, kernel| exchanged(kernel, 0)),
     ("a gap between segments", |_, kernel| gap(kernel)),
+    ("end right only mod 65536", |_, kernel| end_right_only_mod_65536(kernel)),
     ("sums that fit only mod 65536", |_, kernel| fit_only_mod_65536(kernel)),
 ];
 
@@ -99,6 +100,12 @@ fn cuts() -> Vec<Damage> {
     list
 }
 
+/// The image cut to each count of words below T.
+pub fn every_cut(kernel: &Kernel) -> Vec<Vec<u16>> {
+    let words = kernel.encode();
+    (0..words.len()).map(|length| words[..length].to_vec()).collect()
+}
+
 /// Images that go on after T.
 fn additions() -> Vec<Damage> {
     let damage = |more: usize| {
@@ -138,6 +145,23 @@ pub fn fit_only_mod_65536(kernel: &Kernel) -> Option<Vec<u16>> {
         words[second] = words[first] - 1;
         words[second + 1] = end - words[second];
     })
+}
+
+/// The image with a longer first segment and a last one that ends at
+/// T + 65536; every base is packed as a number.
+fn end_right_only_mod_65536(kernel: &Kernel) -> Option<Vec<u16>> {
+    const LONGER: u16 = 40000;
+    let layout = kernel.layout();
+    let last = kernel.tasks.len() - 1;
+    let mut words = kernel.encode();
+    words[layout.segment(0) + 1] += LONGER;
+    for task in 1..=last {
+        let base = &mut words[layout.segment(task)];
+        *base = base.checked_add(LONGER)?;
+    }
+    let length = &mut words[layout.segment(last) + 1];
+    *length = length.wrapping_sub(LONGER);
+    (last > 0).then_some(words)
 }
 
 /// The image with a change to a random entry, base and length.

@@ -1,9 +1,9 @@
 -- The row of a message buffer is a small number. Assumes nothing.
 use native.Mathlib.Omega.{arith}
-use Rattle.words.specs.Needs.{pair-small}
+use Rattle.places.specs.Needs.{pair-small}
 use borrow.Author.Needs.{needs}
-use Rattle.words.proofs.head_of.Statement.{statement}
-use Rattle.words.proofs.head_of.Tie as tie
+use Rattle.places.proofs.head_of.Statement.{statement}
+use Rattle.places.proofs.head_of.Tie as tie
 
 mul-t15 : tie.Need-mul-t15
 mul-t15 c = omega (arith, pair-small _ (c .before .before .before .before .before .args .q) (c .before .before .before .q3 .given .1) (c .before .before .before .before .before .pre .0) (c .before .before .before .before .before .pre .1))
