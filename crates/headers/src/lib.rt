@@ -1,0 +1,163 @@
+// The header of an image: the shape that it gives, and the tests of numbers 3, 4 and 5.
+ghost use mathlib.Core.Path.{_≡_};
+ghost use mathlib.Core.Bool.{_&&_, true, false};
+ghost use mathlib.Core.List.{map};
+ghost use Prim.Native.Nat.{_+_, _-_, _*_, _≤_};
+ghost use lib.Dec.{eqb};
+ghost use lib.ListN.{length, getD};
+ghost use Rattle.paper.specs.Image.{offset-words, offsets as packed-offsets, header-word, shape-of as shape-given, segment-start, total};
+ghost use Rattle.paper.specs.Tests.{every, every-task};
+ghost use Rattle.paper.specs.Numbers.{within as is-within, out-of-range as is-out-of-range, not-packed as is-not-packed, segment-right as is-segment-right, wrong-segments as has-wrong-segments};
+ghost use Rattle.laws.specs.Sound.{Sized};
+ghost use Rattle.headers.specs.Needs.{Ranged};
+use paper::Cell;
+use paper::Part;
+use paper::Shape;
+use paper::Task;
+use places::word_of;
+
+const HEADER_WORDS: usize = 18;
+
+const TASK_WORDS: usize = 9;
+
+const LEAD_WORDS: usize = 4;
+
+const PAIR_WORDS: usize = 2;
+
+const MOST_TASKS: usize = 16;
+
+const MOST_SLICE: usize = 65535;
+
+const MOST_CAPACITY: usize = 32;
+
+const MOST_WORDS: usize = 32768;
+
+// A word as a number of any size.
+fn wide(x: u16) -> usize
+    ensures { λ r. ⌜ r ≡ x ⌝ }
+{
+    x as usize
+}
+
+// What a is more than b, or 0.
+fn rest(a: usize, b: usize) -> usize
+    ensures { λ r. ⌜ r ≡ a - b ⌝ }
+{
+    if b <= a {
+        return a - b;
+    }
+    0
+}
+
+// The nine offsets in the header.
+fn starts_of(im: &[u16]) -> [usize; 9]
+    requires { ⌜ 18 ≤ length (now im) ⌝ }
+    ensures { λ r. ⌜ r ≡ map (header-word (now (im .entry))) offset-words ⌝ }
+{
+    [
+        wide(im[7]),
+        wide(im[8]),
+        wide(im[9]),
+        wide(im[10]),
+        wide(im[11]),
+        wide(im[12]),
+        wide(im[13]),
+        wide(im[14]),
+        wide(im[15]),
+    ]
+}
+
+// The shape that the header gives.
+pub fn shape_of(im: &[u16]) -> Shape
+    requires { ⌜ 18 ≤ length (now im) ⌝ }
+    ensures { λ r. ⌜ r ≡ shape-given (now (im .entry)) ⌝ }
+{
+    let starts = starts_of(im);
+    Shape {
+        n: wide(im[2]),
+        slice: im[3],
+        ci: wide(im[4]),
+        co: wide(im[5]),
+        cm: wide(im[6]),
+        starts: starts,
+        words: rest(wide(im[16]), wide(im[15])),
+    }
+}
+
+// Whether x is lo..hi.
+fn within(lo: usize, hi: usize, x: usize) -> bool
+    ensures { λ r. ⌜ r ≡ is-within lo hi x ⌝ }
+{
+    if x < lo {
+        return false;
+    }
+    x <= hi
+}
+
+// Whether N, S or a capacity is out of range.
+pub fn out_of_range(s: Shape) -> bool
+    ensures { λ r. ⌜ r ≡ is-out-of-range s ⌝ }
+{
+    if !within(1, MOST_TASKS, s.n) {
+        return true;
+    }
+    if !within(1, MOST_SLICE, wide(s.slice)) {
+        return true;
+    }
+    if !within(1, MOST_CAPACITY, s.ci) {
+        return true;
+    }
+    if !within(1, MOST_CAPACITY, s.co) {
+        return true;
+    }
+    !within(1, MOST_CAPACITY, s.cm)
+}
+
+// Where a part that starts at start ends.
+fn end_of(start: usize, rows: usize, width: usize) -> usize
+    requires { ⌜ (start ≤ 131072) × (rows ≤ 256) × (width ≤ 36) ⌝ }
+    ensures { λ r. ⌜ (r ≡ start + rows * width) × (r ≤ start + 9216) ⌝ }
+{
+    start + rows * width
+}
+
+// The packed offsets of a shape in range.
+pub fn offsets(s: Shape) -> [usize; 9]
+    requires { ⌜ Ranged s ⌝ }
+    ensures { λ r. ⌜ r ≡ packed-offsets s ⌝ }
+{
+    let n = s.n;
+    let tasks = HEADER_WORDS;
+    let ready = end_of(tasks, n, TASK_WORDS);
+    let status = end_of(ready, 1, LEAD_WORDS + n);
+    let inputs = end_of(status, n, PAIR_WORDS);
+    let outputs = end_of(inputs, n, LEAD_WORDS + s.ci);
+    let messages = end_of(outputs, n, LEAD_WORDS + s.co);
+    let ports = end_of(messages, n * n, LEAD_WORDS + s.cm);
+    let table = end_of(ports, n, PAIR_WORDS);
+    let segments = end_of(table, n, PAIR_WORDS);
+    [tasks, ready, status, inputs, outputs, messages, ports, table, segments]
+}
+
+// Whether nine numbers are the same as nine others.
+fn same(a: [usize; 9], b: [usize; 9]) -> bool
+    ensures { λ r. ⌜ r ≡ every 9 (λ k. eqb (getD a k 0) (getD b k 0)) ⌝ }
+{
+    let mut k = 0;
+    while k < 9 {
+        if a[k] != b[k] {
+            return false;
+        }
+        k += 1;
+    }
+    true
+}
+
+// Whether an offset is not the packed one.
+pub fn not_packed(s: Shape) -> bool
+    requires { ⌜ Ranged s ⌝ }
+    ensures { λ r. ⌜ r ≡ is-not-packed s ⌝ }
+{
+    let starts = s.starts;
+    !same(starts, offsets(s))
+}
