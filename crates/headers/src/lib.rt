@@ -2,7 +2,7 @@
 ghost use mathlib.Core.Path.{_≡_};
 ghost use mathlib.Core.Bool.{_&&_, true, false};
 ghost use mathlib.Core.List.{map};
-ghost use Prim.Native.Nat.{_+_, _-_, _*_, _≤_};
+ghost use Prim.Native.Nat.{_+_, _-_, _*_, _<_, _≤_};
 ghost use lib.Dec.{eqb};
 ghost use lib.ListN.{length, getD};
 ghost use Rattle.paper.specs.Image.{offset-words, offsets as packed-offsets, header-word, shape-of as shape-given, segment-start, total};
@@ -14,7 +14,9 @@ use paper::Cell;
 use paper::Part;
 use paper::Shape;
 use paper::Task;
+use places::wide;
 use places::word_of;
+use truths::both;
 
 const HEADER_WORDS: usize = 18;
 
@@ -31,13 +33,6 @@ const MOST_SLICE: usize = 65535;
 const MOST_CAPACITY: usize = 32;
 
 const MOST_WORDS: usize = 32768;
-
-// A word as a number of any size.
-fn wide(x: u16) -> usize
-    ensures { λ r. ⌜ r ≡ x ⌝ }
-{
-    x as usize
-}
 
 // What a is more than b, or 0.
 fn rest(a: usize, b: usize) -> usize
@@ -88,29 +83,20 @@ pub fn shape_of(im: &[u16]) -> Shape
 fn within(lo: usize, hi: usize, x: usize) -> bool
     ensures { λ r. ⌜ r ≡ is-within lo hi x ⌝ }
 {
-    if x < lo {
-        return false;
-    }
-    x <= hi
+    both(lo <= x, x <= hi)
 }
 
 // Whether N, S or a capacity is out of range.
 pub fn out_of_range(s: Shape) -> bool
     ensures { λ r. ⌜ r ≡ is-out-of-range s ⌝ }
 {
-    if !within(1, MOST_TASKS, s.n) {
-        return true;
-    }
-    if !within(1, MOST_SLICE, wide(s.slice)) {
-        return true;
-    }
-    if !within(1, MOST_CAPACITY, s.ci) {
-        return true;
-    }
-    if !within(1, MOST_CAPACITY, s.co) {
-        return true;
-    }
-    !within(1, MOST_CAPACITY, s.cm)
+    let few = both(
+        within(1, MOST_TASKS, s.n),
+        within(1, MOST_SLICE, wide(s.slice)),
+    );
+    let inputs = both(few, within(1, MOST_CAPACITY, s.ci));
+    let outputs = both(inputs, within(1, MOST_CAPACITY, s.co));
+    !both(outputs, within(1, MOST_CAPACITY, s.cm))
 }
 
 // Where a part that starts at start ends.
@@ -136,7 +122,17 @@ pub fn offsets(s: Shape) -> [usize; 9]
     let ports = end_of(messages, n * n, LEAD_WORDS + s.cm);
     let table = end_of(ports, n, PAIR_WORDS);
     let segments = end_of(table, n, PAIR_WORDS);
-    [tasks, ready, status, inputs, outputs, messages, ports, table, segments]
+    [
+        tasks,
+        ready,
+        status,
+        inputs,
+        outputs,
+        messages,
+        ports,
+        table,
+        segments,
+    ]
 }
 
 // Whether nine numbers are the same as nine others.
@@ -160,4 +156,80 @@ pub fn not_packed(s: Shape) -> bool
 {
     let starts = s.starts;
     !same(starts, offsets(s))
+}
+
+// Whether the segment of task t, which is to start at start, has its base and a length.
+fn segment_right(s: Shape, im: &[u16], t: Task, start: usize) -> bool
+    requires { ⌜ Sized s (now im) ⌝ }
+    requires { ⌜ t .0 < s .n ⌝ }
+    requires { ⌜ start ≡ segment-start s (now im) (t .0) ⌝ }
+    ensures { λ r. ⌜ r ≡ is-segment-right s (now (im .entry)) t ⌝ }
+{
+    let row = t.0 as usize;
+    let base = wide(word_of(
+        s,
+        im,
+        Cell {
+            part: Part::SegmentTable,
+            row: row,
+            column: 0,
+        },
+    ));
+    let length = word_of(
+        s,
+        im,
+        Cell {
+            part: Part::SegmentTable,
+            row: row,
+            column: 1,
+        },
+    );
+    both(base == start, 1 <= length)
+}
+
+// Whether the segments follow one another in task order, and the last ends at T.
+fn segments_right(s: Shape, im: &[u16]) -> bool
+    requires { ⌜ Sized s (now im) ⌝ }
+    ensures { λ r. ⌜ r ≡ (every-task s (is-segment-right s (now (im .entry))) && eqb (segment-start s (now (im .entry)) (s .n)) (total s)) ⌝ }
+{
+    let starts = s.starts;
+    let mut end = starts[8];
+    let mut k: usize = 0;
+    while k < s.n {
+        if !segment_right(s, im, Task(k as u16), end) {
+            return false;
+        }
+        end += wide(word_of(
+            s,
+            im,
+            Cell {
+                part: Part::SegmentTable,
+                row: k,
+                column: 1,
+            },
+        ));
+        k += 1;
+    }
+    end == im.len()
+}
+
+// Whether a segment's base or length, or T, is wrong, T is over 32768, or the image is not T words.
+pub fn wrong_segments(s: Shape, im: &[u16]) -> bool
+    requires { ⌜ 18 ≤ length (now im) ⌝ }
+    requires { ⌜ s ≡ shape-given (now im) ⌝ }
+    requires { ⌜ Ranged s ⌝ }
+    requires { ⌜ is-not-packed s ≡ false ⌝ }
+    ensures { λ r. ⌜ r ≡ has-wrong-segments s (now (im .entry)) ⌝ }
+{
+    let total = wide(im[16]);
+    if total < wide(im[15]) {
+        return true;
+    }
+    if MOST_WORDS < total {
+        return true;
+    }
+    if im.len() != total {
+        return true;
+    }
+    !segments_right(s, im)
 }

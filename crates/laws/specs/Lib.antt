@@ -5,3 +5,5 @@ pub mod Layout
 pub mod Steps
 pub mod Queues
 pub mod Sound
+pub mod Every
+pub mod Checked

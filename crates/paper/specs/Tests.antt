@@ -15,7 +15,7 @@ use Rattle.paper.specs.declared.Queue.{Queue}
 use Rattle.paper.specs.declared.Service.{Service}
 
 -- a test passes at each number below n
-abbrev pub every : ℕ → (ℕ → Bool) → Bool
+unfoldable pub every : ℕ → (ℕ → Bool) → Bool
 every zero f = true
 every (suc k) f = every k f && f k
 

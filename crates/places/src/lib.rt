@@ -25,6 +25,13 @@ const PORT_WORDS: usize = 2;
 
 const ENTRY_WORDS: usize = 2;
 
+// A word as a number of any size.
+pub fn wide(x: u16) -> usize
+    ensures { λ r. ⌜ r ≡ x ⌝ }
+{
+    x as usize
+}
+
 // Where a part starts.
 fn start_of(s: Shape, p: Part) -> usize
     requires { ⌜ Fit s ⌝ }

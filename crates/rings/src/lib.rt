@@ -8,7 +8,7 @@ ghost use Rattle.rings.specs.Ring.{Ring, append-at, first-at, take-at};
 use paper::Place;
 
 // The slot after slot k of a queue of capacity c.
-fn step(k: u16, c: u16) -> u16
+pub fn step(k: u16, c: u16) -> u16
     requires { ⌜ k < c ⌝ }
     ensures { λ r. ⌜ r ≡ next-slot k c ⌝ }
 {

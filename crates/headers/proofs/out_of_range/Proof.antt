@@ -1,0 +1,24 @@
+-- Assumes nothing.
+use Rattle.headers.specs.Needs.{range-tested}
+use borrow.Author.Needs.{needs}
+use Rattle.headers.proofs.out_of_range.Statement.{statement}
+use Rattle.headers.proofs.out_of_range.Tie as tie
+
+returns : tie.Need-returns
+returns c = search range-tested
+
+pub out-of-range-spec : {M : Type 1} → statement M
+out-of-range-spec =
+    tie.close
+    (tie.spec
+    (λ c κs. search needs)
+    (λ c κs. search needs)
+    (λ c κs. search needs)
+    (λ c κs. search needs)
+    (λ c κs. search needs)
+    (λ c κs. search needs)
+    (λ c κs. search needs)
+    (λ c κs. search needs)
+    (λ c κs. search needs)
+    (λ c κs. search needs)
+    returns)

@@ -1,0 +1,32 @@
+-- Assumes nothing.
+use Rattle.headers.specs.Needs.{starts-read}
+use borrow.Author.Needs.{needs}
+use Rattle.headers.proofs.starts_of.Statement.{statement}
+use Rattle.headers.proofs.starts_of.Tie as tie
+
+returns : tie.Need-returns
+returns c = search starts-read
+
+pub starts-of-spec : {M : Type 1} → statement M
+starts-of-spec =
+    tie.close
+    (tie.spec
+    (λ c. search needs)
+    (λ c κs. search needs)
+    (λ c. search needs)
+    (λ c κs. search needs)
+    (λ c. search needs)
+    (λ c κs. search needs)
+    (λ c. search needs)
+    (λ c κs. search needs)
+    (λ c. search needs)
+    (λ c κs. search needs)
+    (λ c. search needs)
+    (λ c κs. search needs)
+    (λ c. search needs)
+    (λ c κs. search needs)
+    (λ c. search needs)
+    (λ c κs. search needs)
+    (λ c. search needs)
+    (λ c κs. search needs)
+    returns)
