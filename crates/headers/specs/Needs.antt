@@ -4,15 +4,23 @@ use mathlib.Core.List.{List, [], _∷_, map}
 use mathlib.Core.Bool.{Bool, true, false, not, _&&_}
 use Prim.Native.Nat.{ℕ, zero, suc, _+_, _-_, _*_, _<_, _≤_}
 use native.Mathlib.Nat.{mul-le-mul-left, mul-le-mul-right, le-trans}
+use native.Mathlib.Numerals.{add-one}
 use native.Mathlib.Omega.{arith}
-use borrow.Author.Tests.{ltb-true, leb-true, eqb-true, eq-eqb, ne-eqb, not-false}
-use lib.Dec.{eqb}
-use lib.ListN.{getD}
-use Rattle.paper.specs.Image.{lead, most-tasks, most-slice, most-capacity, offset-words, offsets, header-word, shape-of}
+use mathlib.Core.Logic.{_≢_}
+use borrow.Author.Tests.{eq-eqb, ne-eqb, le-leb, lt-leb, not-true}
+use lib.Dec.{eqb, leb}
+use lib.ListN.{getD, length, List·getD-eq-default}
+use Rattle.paper.specs.Image.{lead, most-tasks, most-slice, most-capacity, most-words, offset-words, offsets, header-word, shape-of, task, total, start, segment-start, at, base, len}
 use Rattle.paper.specs.Rules.{Within}
-use Rattle.paper.specs.Tests.{every}
-use Rattle.paper.specs.Numbers.{within, out-of-range, not-packed}
+use Rattle.paper.specs.Tests.{every, every-task}
+use Rattle.paper.specs.Numbers.{within, out-of-range, not-packed, segment-right, wrong-segments}
+use Rattle.paper.specs.declared.Task.{Task}
 use Rattle.paper.specs.declared.Shape.{Shape}
+use Rattle.paper.specs.declared.Part.{Part}
+use Rattle.laws.specs.Layout.{largest-offset, total-is}
+use Rattle.laws.specs.Every.{every-fails, every-done}
+use Rattle.laws.specs.Sound.{Sized, make-sized, sized-fit, sized-words}
+use Rattle.laws.specs.Checked.{ranged-is, packed-is}
 
 -- N, S and the capacities are in range
 pub record Ranged (s : Shape) : Type 0 where
@@ -21,6 +29,10 @@ pub record Ranged (s : Shape) : Type 0 where
   pub inputs : Within 1 most-capacity (s .ci)
   pub outputs : Within 1 most-capacity (s .co)
   pub messages : Within 1 most-capacity (s .cm)
+
+-- a word past the end
+pub past-end : (im : List ℕ) (k : ℕ) → length im ≤ k → 0 ≡ header-word im k
+past-end im k h = sym (List·getD-eq-default im 0 h)
 
 -- the nine offsets as they are read
 pub starts-read : (im : List ℕ) (a b c d e f g h i : ℕ) → a ≡ header-word im 7 → b ≡ header-word im 8 → c ≡ header-word im 9
@@ -33,11 +45,12 @@ abbrev pub shaped : ℕ → ℕ → ℕ → ℕ → ℕ → List ℕ → ℕ →
 shaped n slice ci co cm starts words =
     record { n = n; slice = slice; ci = ci; co = co; cm = cm; starts = starts; words = words }
 
-pub shape-read : (im : List ℕ) (n ci co cm total first words : ℕ) (starts : List ℕ) → n ≡ header-word im 2 → ci ≡ header-word im 4
-    → co ≡ header-word im 5 → cm ≡ header-word im 6 → starts ≡ map (header-word im) offset-words → total ≡ header-word im 16
-    → first ≡ header-word im 15 → words ≡ total - first → shaped n (header-word im 3) ci co cm starts words ≡ shape-of im
+pub shape-read : (im : List ℕ) (n slice ci co cm total first words : ℕ) (starts : List ℕ) → starts ≡ map (header-word im) offset-words
+    → n ≡ header-word im 2 → slice ≡ header-word im 3 → ci ≡ header-word im 4 → co ≡ header-word im 5 → cm ≡ header-word im 6
+    → total ≡ header-word im 16 → first ≡ header-word im 15 → words ≡ total - first
+    → shaped n slice ci co cm starts words ≡ shape-of im
 unfolding shape-of
-shape-read im n ci co cm total first words starts en ei eo em es et ef ew = rw (en, ei, eo, em, es, ew, et, ef)
+shape-read im n slice ci co cm total first words starts es en el ei eo em et ef ew = rw (en, el, ei, eo, em, es, ew, et, ef)
 
 -- the range test as it is put together
 pub range-tested : (s : Shape) (w : ℕ) (a b c d e p q r o : Bool) → w ≡ s .slice → a ≡ within 1 most-tasks (s .n) → b ≡ within 1 most-slice w
@@ -67,3 +80,84 @@ pub packed-tested : (s : Shape) (r : Bool) (l : List ℕ) → l ≡ offsets s �
     → not r ≡ not-packed s
 unfolding not-packed
 packed-tested s r l el er = rw (er, el)
+
+-- the test of one segment
+pub segment-tested : (s : Shape) (im : List ℕ) (i : Task) (start b w l : ℕ) (r : Bool) → start ≡ segment-start s im (i .0)
+    → b ≡ at s im (base i) → w ≡ b → l ≡ at s im (len i) → r ≡ (eqb w start && leb 1 l) → r ≡ segment-right s im i
+unfolding segment-right
+segment-tested s im i start b w l r es eb ew el er = rw (er, ew, eb, el, es)
+
+-- the segments, one after another; the first starts where the segments do
+module _ (s : Shape) (im : List ℕ) (h : Sized s im) where
+  pub first-start : getD (s .starts) 8 0 ≡ segment-start s im 0
+  first-start = rw (sized-fit s im h .packed)
+
+  pub first-small : getD (s .starts) 8 0 ≤ 10646
+  first-small = rw (sized-fit s im h .packed) (largest-offset s (sized-fit s im h))
+
+  pub next-start : (end k l w : ℕ) → end ≡ segment-start s im k → l ≡ at s im (len (task k)) → w ≡ l → end + w ≡ segment-start s im (k + 1)
+  next-start end k l w ee el ew = rw (ee, ew, el, add-one)
+
+  pub segment-fails : (k : ℕ) (r : Bool) → k < s .n → r ≡ segment-right s im (task k) → not r ≡ true
+      → false ≡ (every-task s (segment-right s im) && eqb (segment-start s im (s .n)) (total s))
+  segment-fails k r hk er nr = rw (every-fails (s .n) k _ hk (sym er ∙ not-true r nr))
+
+  pub segments-end : (k end : ℕ) → every k (λ j. segment-right s im (task j)) ≡ true → s .n ≤ k → k ≤ s .n → end ≡ segment-start s im k
+      → eqb end (length im) ≡ (every-task s (segment-right s im) && eqb (segment-start s im (s .n)) (total s))
+  segments-end k end e h1 h2 ee =
+      let n : k ≡ s .n = omega arith in
+      let z : segment-start s im k ≡ segment-start s im (s .n) = ap (segment-start s im) n in
+      rw (every-done (s .n) k _ e h1 h2, ← sized-words s im h, ← z, ee)
+
+-- the tests of T, where the offsets are packed
+module _ (s : Shape) (im : List ℕ) (e : s ≡ shape-of im) (np : not-packed s ≡ false) (t f : ℕ) (et : t ≡ header-word im 16) (ef : f ≡ header-word im 15) where
+  packed : s .starts ≡ offsets s
+  unfolding shape-of
+  packed = packed-is s (rw e refl) .0 np
+
+  first-is : start s Part.Segments ≡ f
+  unfolding shape-of
+  first-is =
+      let a : getD (s .starts) 8 0 ≡ f = rw (e, ef) in
+      let b : getD (s .starts) 8 0 ≡ start s Part.Segments = rw packed in
+      sym b ∙ a
+
+  words-are : s .words ≡ t - f
+  unfolding shape-of
+  words-are = rw (e, et, ef)
+
+  total-given : f ≤ t → total s ≡ t
+  total-given h = omega (arith, total-is s, first-is, words-are)
+
+  pub before-first : t < f → true ≡ wrong-segments s im
+  unfolding wrong-segments
+  before-first h = rw (← et, ne-eqb t (total s) (λ z. omega (arith, total-is s, first-is)))
+
+  pub too-large : f ≤ t → most-words < t → true ≡ wrong-segments s im
+  unfolding wrong-segments
+  too-large h l = rw (← et, total-given h, eq-eqb t t refl, lt-leb t most-words l)
+
+  pub not-its-length : f ≤ t → t ≤ most-words → length im ≢ t → true ≡ wrong-segments s im
+  unfolding wrong-segments
+  not-its-length h l ne = rw (← et, total-given h, eq-eqb t t refl, le-leb t most-words l, ne-eqb (length im) t ne)
+
+  module _ (h : f ≤ t) (l : t ≤ most-words) (long : length im ≡ t) where
+    pub has-size : Ranged s → Sized s im
+    has-size r =
+        make-sized s im
+        record {
+          tasks = r .tasks;
+          slice = r .slice;
+          inputs = r .inputs;
+          outputs = r .outputs;
+          messages = r .messages;
+          packed = packed;
+          words = omega (arith, total-given h);
+        }
+        (long ∙ sym (total-given h))
+
+    pub segments-tested : (r : Bool) → r ≡ (every-task s (segment-right s im) && eqb (segment-start s im (s .n)) (total s))
+        → not r ≡ wrong-segments s im
+    unfolding wrong-segments
+    segments-tested r er =
+        rw (er, ← et, total-given h, eq-eqb t t refl, le-leb t most-words l, eq-eqb (length im) t long)

@@ -5,7 +5,7 @@ ghost use mathlib.Core.List.{map};
 ghost use Prim.Native.Nat.{_+_, _-_, _*_, _<_, _≤_};
 ghost use lib.Dec.{eqb};
 ghost use lib.ListN.{length, getD};
-ghost use Rattle.paper.specs.Image.{offset-words, offsets as packed-offsets, header-word, shape-of as shape-given, segment-start, total};
+ghost use Rattle.paper.specs.Image.{offset-words, offsets as packed-offsets, header-word as word-of-header, shape-of as shape-given, segment-start, total};
 ghost use Rattle.paper.specs.Tests.{every, every-task};
 ghost use Rattle.paper.specs.Numbers.{within as is-within, out-of-range as is-out-of-range, not-packed as is-not-packed, segment-right as is-segment-right, wrong-segments as has-wrong-segments};
 ghost use Rattle.laws.specs.Sound.{Sized};
@@ -44,38 +44,56 @@ fn rest(a: usize, b: usize) -> usize
     0
 }
 
+// A word of the header, and 0 past the end of a list that is too short for one.
+pub fn header_word(im: &[u16], k: usize) -> usize
+    ensures { λ r. ⌜ r ≡ word-of-header (now (im .entry)) k ⌝ }
+{
+    if k < im.len() {
+        return wide(im[k]);
+    }
+    0
+}
+
 // The nine offsets in the header.
 fn starts_of(im: &[u16]) -> [usize; 9]
-    requires { ⌜ 18 ≤ length (now im) ⌝ }
-    ensures { λ r. ⌜ r ≡ map (header-word (now (im .entry))) offset-words ⌝ }
+    ensures { λ r. ⌜ r ≡ map (word-of-header (now (im .entry))) offset-words ⌝ }
 {
     [
-        wide(im[7]),
-        wide(im[8]),
-        wide(im[9]),
-        wide(im[10]),
-        wide(im[11]),
-        wide(im[12]),
-        wide(im[13]),
-        wide(im[14]),
-        wide(im[15]),
+        header_word(im, 7),
+        header_word(im, 8),
+        header_word(im, 9),
+        header_word(im, 10),
+        header_word(im, 11),
+        header_word(im, 12),
+        header_word(im, 13),
+        header_word(im, 14),
+        header_word(im, 15),
     ]
+}
+
+// The slice in the header.
+fn slice_of(im: &[u16]) -> u16
+    ensures { λ r. ⌜ r ≡ word-of-header (now (im .entry)) 3 ⌝ }
+{
+    if 3 < im.len() {
+        return im[3];
+    }
+    0
 }
 
 // The shape that the header gives.
 pub fn shape_of(im: &[u16]) -> Shape
-    requires { ⌜ 18 ≤ length (now im) ⌝ }
     ensures { λ r. ⌜ r ≡ shape-given (now (im .entry)) ⌝ }
 {
     let starts = starts_of(im);
     Shape {
-        n: wide(im[2]),
-        slice: im[3],
-        ci: wide(im[4]),
-        co: wide(im[5]),
-        cm: wide(im[6]),
+        n: header_word(im, 2),
+        slice: slice_of(im),
+        ci: header_word(im, 4),
+        co: header_word(im, 5),
+        cm: header_word(im, 6),
         starts: starts,
-        words: rest(wide(im[16]), wide(im[15])),
+        words: rest(header_word(im, 16), header_word(im, 15)),
     }
 }
 
@@ -215,14 +233,13 @@ fn segments_right(s: Shape, im: &[u16]) -> bool
 
 // Whether a segment's base or length, or T, is wrong, T is over 32768, or the image is not T words.
 pub fn wrong_segments(s: Shape, im: &[u16]) -> bool
-    requires { ⌜ 18 ≤ length (now im) ⌝ }
     requires { ⌜ s ≡ shape-given (now im) ⌝ }
     requires { ⌜ Ranged s ⌝ }
     requires { ⌜ is-not-packed s ≡ false ⌝ }
     ensures { λ r. ⌜ r ≡ has-wrong-segments s (now (im .entry)) ⌝ }
 {
-    let total = wide(im[16]);
-    if total < wide(im[15]) {
+    let total = header_word(im, 16);
+    if total < header_word(im, 15) {
         return true;
     }
     if MOST_WORDS < total {

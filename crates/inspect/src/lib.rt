@@ -31,18 +31,19 @@ const MARK: u16 = 19284;
 const EDITION: u16 = 1;
 
 // Whether the rules of task i hold.
-fn task_holds(s: Shape, im: &[u16], i: Task) -> bool
-{
+fn task_holds(s: Shape, im: &[u16], i: Task) -> bool {
     if !buffers_hold(s, im, i) {
         return false;
     }
     let words = both(characters(s, im, i), readied_once(s, im, i));
-    both(both(words, port_holds(s, im, i)), both(flags_hold(s, im, i), status_holds(s, im, i)))
+    both(
+        both(words, port_holds(s, im, i)),
+        both(flags_hold(s, im, i), status_holds(s, im, i)),
+    )
 }
 
 // Whether the rules of every task hold.
-fn tasks_hold(s: Shape, im: &[u16]) -> bool
-{
+fn tasks_hold(s: Shape, im: &[u16]) -> bool {
     let mut k: usize = 0;
     while k < s.n {
         if !task_holds(s, im, Task(k as u16)) {
@@ -54,16 +55,22 @@ fn tasks_hold(s: Shape, im: &[u16]) -> bool
 }
 
 // Whether the clock obeys its rules.
-fn clock_holds(s: Shape, im: &[u16]) -> bool
-{
-    let clock = word_of(s, im, Cell { part: Part::Header, row: 0, column: 17 });
+fn clock_holds(s: Shape, im: &[u16]) -> bool {
+    let clock = word_of(
+        s,
+        im,
+        Cell {
+            part: Part::Header,
+            row: 0,
+            column: 17,
+        },
+    );
     let idle = queue_word(s, im, Queue::Ready, 2) == 0;
     both(clock <= s.slice, implies(idle, clock == 0))
 }
 
 // Whether all rules of "What an image must hold" hold.
-fn rules_hold(s: Shape, im: &[u16]) -> bool
-{
+fn rules_hold(s: Shape, im: &[u16]) -> bool {
     if !queued(s, im, Queue::Ready) {
         return false;
     }
@@ -72,8 +79,7 @@ fn rules_hold(s: Shape, im: &[u16]) -> bool
 }
 
 // The verdict on an image.
-pub fn check(im: &[u16]) -> Verdict
-{
+pub fn check(im: &[u16]) -> Verdict {
     if im.len() < HEADER_WORDS {
         return Verdict::Refused(Refusal::TooShort);
     }
@@ -94,4 +100,30 @@ pub fn check(im: &[u16]) -> Verdict
         return Verdict::Refused(Refusal::RuleBroken);
     }
     Verdict::Fine
+}
+
+// The paper's number of a refusal.
+fn number_of(r: Refusal) -> u16 {
+    match r {
+        Refusal::TooShort => 1,
+        Refusal::NotMarked => 2,
+        Refusal::OutOfRange => 3,
+        Refusal::NotPacked => 4,
+        Refusal::WrongSegments => 5,
+        Refusal::RuleBroken => 6,
+        Refusal::MalformedEvent => 7,
+        Refusal::InputFull => 8,
+        Refusal::PortIdle => 9,
+        Refusal::ReadyFull => 10,
+        Refusal::BadPlan => 11,
+        Refusal::WrongTarget => 12,
+    }
+}
+
+// The number 1..6 of an image's refusal, or 0.
+pub fn number(im: &[u16]) -> u16 {
+    match check(im) {
+        Verdict::Fine => 0,
+        Verdict::Refused(r) => number_of(r),
+    }
 }

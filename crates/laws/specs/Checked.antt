@@ -61,7 +61,7 @@ upto P n =
     (λ h k l. dite (ℕ-discrete k n) (λ e. rw e (h .1)) (λ ne. h .0 k (omega arith)), λ f. (λ k l. f k (omega arith), f n (omega arith)))
 
 -- a test passes at each number below n
-every-is : (n : ℕ) (f : ℕ → Bool) → So (every n f) ↔ ((k : ℕ) → k < n → So (f k))
+pub every-is : (n : ℕ) (f : ℕ → Bool) → So (every n f) ↔ ((k : ℕ) → k < n → So (f k))
 unfolding every
 every-is zero f = (λ _ k l. absurd (omega arith), λ _. refl)
 every-is (suc n) f = simp (and-eq-true-iff, every-is n f) (upto (λ (k : ℕ). So (f k)) n)
@@ -101,7 +101,7 @@ count-is t x =
 -- the rules, each as its test
 module _ (s : Shape) (im : List ℕ) where
   -- every queue
-  queued-is : (q : Queue) → So (queued s im q) ↔ Queued s im q
+  pub queued-is : (q : Queue) → So (queued s im q) ↔ Queued s im q
   unfolding queued
   queued-is q = simp tests (λ h. search, λ r. search)
 
@@ -111,7 +111,7 @@ module _ (s : Shape) (im : List ℕ) where
   clock-is = simp tests Iff·rfl
 
   -- the buffers of task i are queues
-  buffers-are : (i : Task) → So (buffers-hold s im i) ↔
+  pub buffers-are : (i : Task) → So (buffers-hold s im i) ↔
       (Queued s im (Queue.Input i) × Queued s im (Queue.Output i) × ((k : ℕ) → k < s .n → Queued s im (Queue.Message i (task k))))
   unfolding buffers-hold
   buffers-are i = simp (tests, queued-is) Iff·rfl
@@ -203,32 +203,32 @@ module _ (s : Shape) (im : List ℕ) where
       )
 
 -- a fault that does not show
-no-fault : (b : Bool) → (not b ≡ false) ↔ So b
+pub no-fault : (b : Bool) → (not b ≡ false) ↔ So b
 no-fault true = (λ _. refl, λ _. refl)
 no-fault false = (λ e. absurd (true≢false e), λ e. absurd (false≢true e))
 
 -- 1: 18 words or more
-long-is : (im : List ℕ) → (too-short im ≡ false) ↔ (header-words ≤ length im)
+pub long-is : (im : List ℕ) → (too-short im ≡ false) ↔ (header-words ≤ length im)
 long-is im = (ltb-false (length im) header-words, le-ltb (length im) header-words)
 
 -- 2: mark and edition
-marked-is : (im : List ℕ) → (not-marked im ≡ false) ↔ ((header-word im 0 ≡ mark) × (header-word im 1 ≡ edition))
+pub marked-is : (im : List ℕ) → (not-marked im ≡ false) ↔ ((header-word im 0 ≡ mark) × (header-word im 1 ≡ edition))
 marked-is im = simp (no-fault, tests) Iff·rfl
 
 -- 3: N, S and the capacities in range
-ranged-is : (s : Shape) → (out-of-range s ≡ false) ↔
+pub ranged-is : (s : Shape) → (out-of-range s ≡ false) ↔
     (Within 1 most-tasks (s .n) × Within 1 most-slice (s .slice) × Within 1 most-capacity (s .ci) × Within 1 most-capacity (s .co) ×
     Within 1 most-capacity (s .cm))
 unfolding out-of-range
 ranged-is s = simp (no-fault, tests) (λ h. search, λ r. search)
 
 -- 4: the offsets packed
-packed-is : (s : Shape) → length (s .starts) ≡ 9 → (not-packed s ≡ false) ↔ (s .starts ≡ offsets s)
+pub packed-is : (s : Shape) → length (s .starts) ≡ 9 → (not-packed s ≡ false) ↔ (s .starts ≡ offsets s)
 unfolding not-packed
 packed-is s e = simp no-fault (alike 9 (s .starts) (offsets s) e refl)
 
 -- 5: the segments and T
-segments-are : (s : Shape) (im : List ℕ) → (wrong-segments s im ≡ false) ↔
+pub segments-are : (s : Shape) (im : List ℕ) → (wrong-segments s im ≡ false) ↔
     ((header-word im 16 ≡ total s) × (total s ≤ most-words) × (length im ≡ total s) × (segment-start s im (s .n) ≡ total s) ×
     ((k : ℕ) → k < s .n → (at s im (base (task k)) ≡ segment-start s im k) × (1 ≤ at s im (len (task k)))))
 unfolding wrong-segments segment-right

@@ -8,7 +8,7 @@ use native.Mathlib.Decide.{ℕ-discrete}
 use native.Mathlib.Omega.{arith}
 use lib.Dec.{T, T-not, eqb, eqb-refl}
 use lib.ListN.{length}
-use Rattle.paper.specs.Image.{task, lead, ord, rows, width, total, cell, Valid, place, at, put, base, len, header-word, segment-start}
+use Rattle.paper.specs.Image.{most-tasks, task, lead, ord, rows, width, total, cell, Valid, place, at, put, base, len, header-word, segment-start}
 use Rattle.paper.specs.Queues.{part-of, row-of, Has, header-capacity, queue-word, head, count, capacity, appended, taken}
 use Rattle.paper.specs.Rules.{Fit, Laid, Queued}
 use Rattle.paper.specs.declared.Task.{Task}
@@ -35,6 +35,9 @@ sized-fit s im h = h .0
 pub sized-words : (s : Shape) (im : List ℕ) → Sized s im → length im ≡ total s
 unfolding Sized
 sized-words s im h = h .1
+
+pub sized-few : (s : Shape) (im : List ℕ) → Sized s im → s .n ≤ most-tasks
+sized-few s im h = sized-fit s im h .tasks .1
 
 -- what leaf code needs to be safe
 pub record Orderly (s : Shape) (im : List ℕ) : Type 0 where

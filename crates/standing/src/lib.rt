@@ -36,84 +36,129 @@ const MOST_PENDING: u16 = 4;
 
 // A register of task i.
 fn register(s: Shape, im: &[u16], i: Task, r: usize) -> u16 {
-    word_of(s, im, Cell { part: Part::TaskTable, row: i.0 as usize, column: r })
+    word_of(
+        s,
+        im,
+        Cell {
+            part: Part::TaskTable,
+            row: i.0 as usize,
+            column: r,
+        },
+    )
 }
 
 // The flags of task i.
 fn flags(s: Shape, im: &[u16], i: Task) -> u16 {
-    word_of(s, im, Cell { part: Part::TaskTable, row: i.0 as usize, column: 8 })
+    word_of(
+        s,
+        im,
+        Cell {
+            part: Part::TaskTable,
+            row: i.0 as usize,
+            column: 8,
+        },
+    )
 }
 
 // The status of task i.
 fn status(s: Shape, im: &[u16], i: Task) -> u16 {
-    word_of(s, im, Cell { part: Part::StatusTable, row: i.0 as usize, column: 0 })
+    word_of(
+        s,
+        im,
+        Cell {
+            part: Part::StatusTable,
+            row: i.0 as usize,
+            column: 0,
+        },
+    )
 }
 
 // The peer of task i.
 fn peer(s: Shape, im: &[u16], i: Task) -> u16 {
-    word_of(s, im, Cell { part: Part::StatusTable, row: i.0 as usize, column: 1 })
+    word_of(
+        s,
+        im,
+        Cell {
+            part: Part::StatusTable,
+            row: i.0 as usize,
+            column: 1,
+        },
+    )
 }
 
 // How often the ready queue holds a task of this status.
-fn due(status: u16) -> usize
-{
+fn due(status: u16) -> usize {
     if status == READY { 1 } else { 0 }
 }
 
 // Whether the ready queue holds task i once if it is ready, and else not.
-pub fn readied_once(s: Shape, im: &[u16], i: Task) -> bool
-{
+pub fn readied_once(s: Shape, im: &[u16], i: Task) -> bool {
     times_ready(s, im, i.0) == due(status(s, im, i))
 }
 
 // Whether the port of task i obeys its rules.
-pub fn port_holds(s: Shape, im: &[u16], i: Task) -> bool
-{
-    let busy = word_of(s, im, Cell { part: Part::Ports, row: i.0 as usize, column: 0 });
-    let character = word_of(s, im, Cell { part: Part::Ports, row: i.0 as usize, column: 1 });
+pub fn port_holds(s: Shape, im: &[u16], i: Task) -> bool {
+    let busy = word_of(
+        s,
+        im,
+        Cell {
+            part: Part::Ports,
+            row: i.0 as usize,
+            column: 0,
+        },
+    );
+    let character = word_of(
+        s,
+        im,
+        Cell {
+            part: Part::Ports,
+            row: i.0 as usize,
+            column: 1,
+        },
+    );
     let idle = both(character == 0, queue_word(s, im, Queue::Output(i), 2) == 0);
-    both(both(busy <= 1, character <= MOST_CHARACTER), implies(busy == 0, idle))
+    both(
+        both(busy <= 1, character <= MOST_CHARACTER),
+        implies(busy == 0, idle),
+    )
 }
 
 // Whether the flags of task i obey their rules.
-pub fn flags_hold(s: Shape, im: &[u16], i: Task) -> bool
-{
+pub fn flags_hold(s: Shape, im: &[u16], i: Task) -> bool {
     let f = flags(s, im, i);
     let cc = f % 4;
     let error = f / 4 % 8;
     let pending = f / 32;
-    let ranges = both(both(cc <= MOST_CC, error <= MOST_ERROR), pending <= MOST_PENDING);
+    let ranges = both(
+        both(cc <= MOST_CC, error <= MOST_ERROR),
+        pending <= MOST_PENDING,
+    );
     both(ranges, either(error == 0, pending == 0))
 }
 
 // The number that task i's pending field holds.
-fn pending(s: Shape, im: &[u16], i: Task) -> u16
-{
+fn pending(s: Shape, im: &[u16], i: Task) -> u16 {
     flags(s, im, i) / 32
 }
 
 // Whether R2 = peer < N.
-fn peered(s: Shape, im: &[u16], i: Task) -> bool
-{
+fn peered(s: Shape, im: &[u16], i: Task) -> bool {
     let p = peer(s, im, i);
     both(register(s, im, i, 2) == p, wide(p) < s.n)
 }
 
 // Whether a queue holds as many words as it can.
-fn is_full(s: Shape, im: &[u16], q: Queue) -> bool
-{
+fn is_full(s: Shape, im: &[u16], q: Queue) -> bool {
     queue_word(s, im, q, 2) == queue_word(s, im, q, 3)
 }
 
 // Whether a queue holds no word.
-fn is_empty(s: Shape, im: &[u16], q: Queue) -> bool
-{
+fn is_empty(s: Shape, im: &[u16], q: Queue) -> bool {
     queue_word(s, im, q, 2) == 0
 }
 
 // Whether task i may wait to send.
-fn may_send(s: Shape, im: &[u16], i: Task) -> bool
-{
+fn may_send(s: Shape, im: &[u16], i: Task) -> bool {
     let asked = both(pending(s, im, i) == 1, peered(s, im, i));
     if !asked {
         return false;
@@ -122,8 +167,7 @@ fn may_send(s: Shape, im: &[u16], i: Task) -> bool
 }
 
 // Whether task i may wait to receive.
-fn may_receive(s: Shape, im: &[u16], i: Task) -> bool
-{
+fn may_receive(s: Shape, im: &[u16], i: Task) -> bool {
     let asked = both(pending(s, im, i) == 2, peered(s, im, i));
     if !asked {
         return false;
@@ -132,25 +176,34 @@ fn may_receive(s: Shape, im: &[u16], i: Task) -> bool
 }
 
 // Whether task i may wait for input.
-fn may_input(s: Shape, im: &[u16], i: Task) -> bool
-{
+fn may_input(s: Shape, im: &[u16], i: Task) -> bool {
     both(pending(s, im, i) == 3, is_empty(s, im, Queue::Input(i)))
 }
 
 // Whether task i may wait for output.
-fn may_output(s: Shape, im: &[u16], i: Task) -> bool
-{
-    let asked = both(pending(s, im, i) == 4, register(s, im, i, 3) <= MOST_CHARACTER);
+fn may_output(s: Shape, im: &[u16], i: Task) -> bool {
+    let asked = both(
+        pending(s, im, i) == 4,
+        register(s, im, i, 3) <= MOST_CHARACTER,
+    );
     both(asked, is_full(s, im, Queue::Output(i)))
 }
 
 // Whether the status of task i obeys its rules.
-pub fn status_holds(s: Shape, im: &[u16], i: Task) -> bool
-{
+pub fn status_holds(s: Shape, im: &[u16], i: Task) -> bool {
     let k = status(s, im, i);
-    let messages = both(implies(k == 1, may_send(s, im, i)), implies(k == 2, may_receive(s, im, i)));
-    let devices = both(implies(k == 3, may_input(s, im, i)), implies(k == 4, may_output(s, im, i)));
+    let messages = both(
+        implies(k == 1, may_send(s, im, i)),
+        implies(k == 2, may_receive(s, im, i)),
+    );
+    let devices = both(
+        implies(k == 3, may_input(s, im, i)),
+        implies(k == 4, may_output(s, im, i)),
+    );
     let stopped = implies(k == STOPPED, flags(s, im, i) / 4 % 8 != 0);
     let peerless = either(either(k == 1, k == 2), peer(s, im, i) == 0);
-    both(both(k <= STOPPED, both(messages, devices)), both(stopped, peerless))
+    both(
+        both(k <= STOPPED, both(messages, devices)),
+        both(stopped, peerless),
+    )
 }

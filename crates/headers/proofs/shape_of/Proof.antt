@@ -5,25 +5,19 @@ use Rattle.headers.proofs.shape_of.Statement.{statement}
 use Rattle.headers.proofs.shape_of.Tie as tie
 
 returns : tie.Need-returns
-returns c = shape-read _ _ _ _ _ _ _ _ _ (c .before .before .before .before .before .before .before .before .before .before .before .before .wide .ensures) (c .before .before .before .before .before .before .before .before .before .wide2 .ensures) (c .before .before .before .before .before .before .before .wide3 .ensures) (c .before .before .before .before .before .wide4 .ensures) (c .before .before .before .before .before .before .before .before .before .before .before .before .before .before .starts-of .ensures) (c .before .before .before .wide5 .ensures) (c .before .wide6 .ensures) (c .rest .ensures)
+returns c = shape-read _ _ _ _ _ _ _ _ _ _ (c .before .before .before .before .before .before .before .before .starts-of .ensures) (c .before .before .before .before .before .before .before .header-word .ensures) (c .before .before .before .before .before .before .slice-of .ensures) (c .before .before .before .before .before .header-word2 .ensures) (c .before .before .before .before .header-word3 .ensures) (c .before .before .before .header-word4 .ensures) (c .before .before .header-word5 .ensures) (c .before .header-word6 .ensures) (c .rest .ensures)
 
 pub shape-of-spec : {M : Type 1} → statement M
 shape-of-spec =
     tie.close
     (tie.spec
     (λ c κs. search needs)
-    (λ c. search needs)
     (λ c κs. search needs)
-    (λ c. search needs)
-    (λ c. search needs)
     (λ c κs. search needs)
-    (λ c. search needs)
     (λ c κs. search needs)
-    (λ c. search needs)
     (λ c κs. search needs)
-    (λ c. search needs)
     (λ c κs. search needs)
-    (λ c. search needs)
+    (λ c κs. search needs)
     (λ c κs. search needs)
     (λ c κs. search needs)
     returns)

@@ -1,0 +1,19 @@
+-- Assumes nothing.
+use Rattle.headers.specs.Needs.{segment-tested}
+use borrow.Author.Needs.{needs}
+use Rattle.headers.proofs.segment_right.Statement.{statement}
+use Rattle.headers.proofs.segment_right.Tie as tie
+
+returns : tie.Need-returns
+returns c = search segment-tested
+
+pub segment-right-spec : {M : Type 1} → statement M
+segment-right-spec =
+    tie.close
+    (tie.spec
+    (λ c. search needs)
+    (λ c κs. search needs)
+    (λ c κs. search needs)
+    (λ c κs. search needs)
+    (λ c κs. search needs)
+    returns)
