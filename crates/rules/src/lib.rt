@@ -18,6 +18,7 @@ use places::wide;
 use places::word_of;
 use rings::step;
 use truths::both;
+use truths::one_if;
 
 const LEAD_WORDS: usize = 4;
 
@@ -114,9 +115,7 @@ pub fn times_ready(s: Shape, im: &[u16], x: u16) -> usize
     let mut left = queue_word(s, im, Queue::Ready, 2);
     let mut found: usize = 0;
     while 0 < left {
-        if x == queue_word(s, im, Queue::Ready, LEAD_WORDS + wide(at)) {
-            found += 1;
-        }
+        found += one_if(x == queue_word(s, im, Queue::Ready, LEAD_WORDS + wide(at)));
         at = step(at, capacity);
         left -= 1;
     }

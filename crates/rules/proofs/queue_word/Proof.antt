@@ -1,0 +1,23 @@
+-- Assumes nothing.
+use Rattle.laws.specs.Sound.{sized-fit}
+use Rattle.rules.specs.Needs.{word-found, word-got}
+use borrow.Author.Needs.{needs}
+use Rattle.rules.proofs.queue_word.Statement.{statement}
+use Rattle.rules.proofs.queue_word.Tie as tie
+
+head-of-requires : tie.Need-head-of-requires
+head-of-requires c κs = search sized-fit
+
+word-of-requires : tie.Need-word-of-requires
+word-of-requires c κs = search word-found
+
+returns : tie.Need-returns
+returns c = search word-got
+
+pub queue-word-spec : {M : Type 1} → statement M
+queue-word-spec =
+    tie.close
+    (tie.spec
+    head-of-requires
+    word-of-requires
+    returns)
