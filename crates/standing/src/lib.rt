@@ -1,17 +1,17 @@
 // The rules of a task, tested: its place in the ready queue, its port, its flags and its status.
 ghost use mathlib.Core.Path.{_≡_};
-ghost use mathlib.Core.Bool.{true, cond};
+ghost use mathlib.Core.Bool.{true};
 ghost use Prim.Native.Nat.{_<_};
-ghost use lib.Dec.{eqb};
-ghost use Rattle.paper.specs.Image.{cell, at as word-at};
-ghost use Rattle.paper.specs.Flags.{waits as waits-with, is-ready};
+ghost use Rattle.paper.specs.Image.{at as word-at, reg as reg-cell, flags as flags-cell, status as status-cell, peer as peer-cell};
+ghost use Rattle.paper.specs.Queues.{Has, empty as empty-of, full as full-of};
+ghost use Rattle.paper.specs.Flags.{error as error-of-task, pending as pending-of-task};
 ghost use Rattle.paper.specs.Tests.{queued, readied-once as is-readied-once, port-holds as does-port-hold, flags-hold as do-flags-hold, peered as is-peered, standing as is-standing, status-holds as does-status-hold};
 ghost use Rattle.paper.specs.declared.Queue.the-variants.{Ready};
+ghost use Rattle.paper.specs.declared.Service.the-variants.{Send, Receive, Input, Output};
 ghost use Rattle.laws.specs.Sound.{Sized};
 use paper::Cell;
 use paper::Part;
 use paper::Queue;
-use paper::Service;
 use paper::Shape;
 use paper::Task;
 use places::wide;
@@ -21,6 +21,16 @@ use rules::times_ready;
 use truths::both;
 use truths::either;
 use truths::implies;
+use truths::one_if;
+
+// The numbers of the services, which are those of the statuses that wait for them.
+const SEND: u16 = 1;
+
+const RECEIVE: u16 = 2;
+
+const INPUT: u16 = 3;
+
+const OUTPUT: u16 = 4;
 
 const READY: u16 = 0;
 
@@ -35,7 +45,11 @@ const MOST_ERROR: u16 = 6;
 const MOST_PENDING: u16 = 4;
 
 // A register of task i.
-fn register(s: Shape, im: &[u16], i: Task, r: usize) -> u16 {
+fn register(s: Shape, im: &[u16], i: Task, r: usize) -> u16
+    requires { ⌜ Sized s (now im) ⌝ }
+    requires { ⌜ (i .0 < s .n) × (r < 8) ⌝ }
+    ensures { λ v. ⌜ v ≡ word-at s (now (im .entry)) (reg-cell i r) ⌝ }
+{
     word_of(
         s,
         im,
@@ -48,7 +62,11 @@ fn register(s: Shape, im: &[u16], i: Task, r: usize) -> u16 {
 }
 
 // The flags of task i.
-fn flags(s: Shape, im: &[u16], i: Task) -> u16 {
+fn flags(s: Shape, im: &[u16], i: Task) -> u16
+    requires { ⌜ Sized s (now im) ⌝ }
+    requires { ⌜ i .0 < s .n ⌝ }
+    ensures { λ v. ⌜ v ≡ word-at s (now (im .entry)) (flags-cell i) ⌝ }
+{
     word_of(
         s,
         im,
@@ -60,8 +78,30 @@ fn flags(s: Shape, im: &[u16], i: Task) -> u16 {
     )
 }
 
+// The error of task i.
+fn error(s: Shape, im: &[u16], i: Task) -> u16
+    requires { ⌜ Sized s (now im) ⌝ }
+    requires { ⌜ i .0 < s .n ⌝ }
+    ensures { λ v. ⌜ v ≡ error-of-task s (now (im .entry)) i ⌝ }
+{
+    flags(s, im, i) / 4 % 8
+}
+
+// The pending service of task i.
+fn pending(s: Shape, im: &[u16], i: Task) -> u16
+    requires { ⌜ Sized s (now im) ⌝ }
+    requires { ⌜ i .0 < s .n ⌝ }
+    ensures { λ v. ⌜ v ≡ pending-of-task s (now (im .entry)) i ⌝ }
+{
+    flags(s, im, i) / 32
+}
+
 // The status of task i.
-fn status(s: Shape, im: &[u16], i: Task) -> u16 {
+fn status(s: Shape, im: &[u16], i: Task) -> u16
+    requires { ⌜ Sized s (now im) ⌝ }
+    requires { ⌜ i .0 < s .n ⌝ }
+    ensures { λ v. ⌜ v ≡ word-at s (now (im .entry)) (status-cell i) ⌝ }
+{
     word_of(
         s,
         im,
@@ -74,7 +114,11 @@ fn status(s: Shape, im: &[u16], i: Task) -> u16 {
 }
 
 // The peer of task i.
-fn peer(s: Shape, im: &[u16], i: Task) -> u16 {
+fn peer(s: Shape, im: &[u16], i: Task) -> u16
+    requires { ⌜ Sized s (now im) ⌝ }
+    requires { ⌜ i .0 < s .n ⌝ }
+    ensures { λ v. ⌜ v ≡ word-at s (now (im .entry)) (peer-cell i) ⌝ }
+{
     word_of(
         s,
         im,
@@ -86,18 +130,40 @@ fn peer(s: Shape, im: &[u16], i: Task) -> u16 {
     )
 }
 
-// How often the ready queue holds a task of this status.
-fn due(status: u16) -> usize {
-    if status == READY { 1 } else { 0 }
+// Whether a queue is full.
+fn is_full(s: Shape, im: &[u16], q: Queue) -> bool
+    requires { ⌜ Sized s (now im) ⌝ }
+    requires { ⌜ Has s q ⌝ }
+    ensures { λ r. ⌜ r ≡ full-of s (now (im .entry)) q ⌝ }
+{
+    queue_word(s, im, q, 2) == queue_word(s, im, q, 3)
+}
+
+// Whether a queue is empty.
+pub fn is_empty(s: Shape, im: &[u16], q: Queue) -> bool
+    requires { ⌜ Sized s (now im) ⌝ }
+    requires { ⌜ Has s q ⌝ }
+    ensures { λ r. ⌜ r ≡ empty-of s (now (im .entry)) q ⌝ }
+{
+    queue_word(s, im, q, 2) == 0
 }
 
 // Whether the ready queue holds task i once if it is ready, and else not.
-pub fn readied_once(s: Shape, im: &[u16], i: Task) -> bool {
-    times_ready(s, im, i.0) == due(status(s, im, i))
+pub fn readied_once(s: Shape, im: &[u16], i: Task) -> bool
+    requires { ⌜ Sized s (now im) ⌝ }
+    requires { ⌜ i .0 < s .n ⌝ }
+    requires { ⌜ queued s (now im) Ready ≡ true ⌝ }
+    ensures { λ r. ⌜ r ≡ is-readied-once s (now (im .entry)) i ⌝ }
+{
+    times_ready(s, im, i.0) == one_if(status(s, im, i) == READY)
 }
 
 // Whether the port of task i obeys its rules.
-pub fn port_holds(s: Shape, im: &[u16], i: Task) -> bool {
+pub fn port_holds(s: Shape, im: &[u16], i: Task) -> bool
+    requires { ⌜ Sized s (now im) ⌝ }
+    requires { ⌜ i .0 < s .n ⌝ }
+    ensures { λ r. ⌜ r ≡ does-port-hold s (now (im .entry)) i ⌝ }
+{
     let busy = word_of(
         s,
         im,
@@ -116,7 +182,7 @@ pub fn port_holds(s: Shape, im: &[u16], i: Task) -> bool {
             column: 1,
         },
     );
-    let idle = both(character == 0, queue_word(s, im, Queue::Output(i), 2) == 0);
+    let idle = both(character == 0, is_empty(s, im, Queue::Output(i)));
     both(
         both(busy <= 1, character <= MOST_CHARACTER),
         implies(busy == 0, idle),
@@ -124,86 +190,93 @@ pub fn port_holds(s: Shape, im: &[u16], i: Task) -> bool {
 }
 
 // Whether the flags of task i obey their rules.
-pub fn flags_hold(s: Shape, im: &[u16], i: Task) -> bool {
+pub fn flags_hold(s: Shape, im: &[u16], i: Task) -> bool
+    requires { ⌜ Sized s (now im) ⌝ }
+    requires { ⌜ i .0 < s .n ⌝ }
+    ensures { λ r. ⌜ r ≡ do-flags-hold s (now (im .entry)) i ⌝ }
+{
     let f = flags(s, im, i);
-    let cc = f % 4;
     let error = f / 4 % 8;
     let pending = f / 32;
     let ranges = both(
-        both(cc <= MOST_CC, error <= MOST_ERROR),
+        both(f % 4 <= MOST_CC, error <= MOST_ERROR),
         pending <= MOST_PENDING,
     );
     both(ranges, either(error == 0, pending == 0))
 }
 
-// The number that task i's pending field holds.
-fn pending(s: Shape, im: &[u16], i: Task) -> u16 {
-    flags(s, im, i) / 32
-}
-
 // Whether R2 = peer < N.
-fn peered(s: Shape, im: &[u16], i: Task) -> bool {
+fn peered(s: Shape, im: &[u16], i: Task) -> bool
+    requires { ⌜ Sized s (now im) ⌝ }
+    requires { ⌜ i .0 < s .n ⌝ }
+    ensures { λ r. ⌜ r ≡ is-peered s (now (im .entry)) i ⌝ }
+{
     let p = peer(s, im, i);
     both(register(s, im, i, 2) == p, wide(p) < s.n)
 }
 
-// Whether a queue holds as many words as it can.
-fn is_full(s: Shape, im: &[u16], q: Queue) -> bool {
-    queue_word(s, im, q, 2) == queue_word(s, im, q, 3)
-}
-
-// Whether a queue holds no word.
-fn is_empty(s: Shape, im: &[u16], q: Queue) -> bool {
-    queue_word(s, im, q, 2) == 0
-}
-
-// Whether task i may wait to send.
-fn may_send(s: Shape, im: &[u16], i: Task) -> bool {
-    let asked = both(pending(s, im, i) == 1, peered(s, im, i));
+// Whether task i stands as one that waits to send.
+fn may_send(s: Shape, im: &[u16], i: Task) -> bool
+    requires { ⌜ Sized s (now im) ⌝ }
+    requires { ⌜ i .0 < s .n ⌝ }
+    ensures { λ r. ⌜ r ≡ is-standing s (now (im .entry)) i Send ⌝ }
+{
+    let asked = both(pending(s, im, i) == SEND, peered(s, im, i));
     if !asked {
         return false;
     }
     is_full(s, im, Queue::Message(i, Task(peer(s, im, i))))
 }
 
-// Whether task i may wait to receive.
-fn may_receive(s: Shape, im: &[u16], i: Task) -> bool {
-    let asked = both(pending(s, im, i) == 2, peered(s, im, i));
+// Whether task i stands as one that waits to receive.
+fn may_receive(s: Shape, im: &[u16], i: Task) -> bool
+    requires { ⌜ Sized s (now im) ⌝ }
+    requires { ⌜ i .0 < s .n ⌝ }
+    ensures { λ r. ⌜ r ≡ is-standing s (now (im .entry)) i Receive ⌝ }
+{
+    let asked = both(pending(s, im, i) == RECEIVE, peered(s, im, i));
     if !asked {
         return false;
     }
     is_empty(s, im, Queue::Message(Task(peer(s, im, i)), i))
 }
 
-// Whether task i may wait for input.
-fn may_input(s: Shape, im: &[u16], i: Task) -> bool {
-    both(pending(s, im, i) == 3, is_empty(s, im, Queue::Input(i)))
+// Whether task i stands as one that waits for input.
+fn may_input(s: Shape, im: &[u16], i: Task) -> bool
+    requires { ⌜ Sized s (now im) ⌝ }
+    requires { ⌜ i .0 < s .n ⌝ }
+    ensures { λ r. ⌜ r ≡ is-standing s (now (im .entry)) i Input ⌝ }
+{
+    both(pending(s, im, i) == INPUT, is_empty(s, im, Queue::Input(i)))
 }
 
-// Whether task i may wait for output.
-fn may_output(s: Shape, im: &[u16], i: Task) -> bool {
+// Whether task i stands as one that waits for output.
+fn may_output(s: Shape, im: &[u16], i: Task) -> bool
+    requires { ⌜ Sized s (now im) ⌝ }
+    requires { ⌜ i .0 < s .n ⌝ }
+    ensures { λ r. ⌜ r ≡ is-standing s (now (im .entry)) i Output ⌝ }
+{
     let asked = both(
-        pending(s, im, i) == 4,
+        pending(s, im, i) == OUTPUT,
         register(s, im, i, 3) <= MOST_CHARACTER,
     );
     both(asked, is_full(s, im, Queue::Output(i)))
 }
 
 // Whether the status of task i obeys its rules.
-pub fn status_holds(s: Shape, im: &[u16], i: Task) -> bool {
+pub fn status_holds(s: Shape, im: &[u16], i: Task) -> bool
+    requires { ⌜ Sized s (now im) ⌝ }
+    requires { ⌜ i .0 < s .n ⌝ }
+    ensures { λ r. ⌜ r ≡ does-status-hold s (now (im .entry)) i ⌝ }
+{
     let k = status(s, im, i);
-    let messages = both(
-        implies(k == 1, may_send(s, im, i)),
-        implies(k == 2, may_receive(s, im, i)),
-    );
-    let devices = both(
-        implies(k == 3, may_input(s, im, i)),
-        implies(k == 4, may_output(s, im, i)),
-    );
-    let stopped = implies(k == STOPPED, flags(s, im, i) / 4 % 8 != 0);
-    let peerless = either(either(k == 1, k == 2), peer(s, im, i) == 0);
+    let sends = both(k <= STOPPED, implies(k == SEND, may_send(s, im, i)));
+    let receives = both(sends, implies(k == RECEIVE, may_receive(s, im, i)));
+    let inputs = both(receives, implies(k == INPUT, may_input(s, im, i)));
+    let outputs = both(inputs, implies(k == OUTPUT, may_output(s, im, i)));
+    let stops = both(outputs, implies(k == STOPPED, error(s, im, i) != 0));
     both(
-        both(k <= STOPPED, both(messages, devices)),
-        both(stopped, peerless),
+        stops,
+        either(either(k == SEND, k == RECEIVE), peer(s, im, i) == 0),
     )
 }

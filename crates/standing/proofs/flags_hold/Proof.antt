@@ -1,0 +1,19 @@
+-- Assumes nothing.
+use Rattle.standing.specs.Needs.{flags-tested}
+use borrow.Author.Needs.{needs}
+use Rattle.standing.proofs.flags_hold.Statement.{statement}
+use Rattle.standing.proofs.flags_hold.Tie as tie
+
+returns : tie.Need-returns
+returns c = search flags-tested
+
+pub flags-hold-spec : {M : Type 1} → statement M
+flags-hold-spec =
+    tie.close
+    (tie.spec
+    (λ c κs. search needs)
+    (λ c κs. search needs)
+    (λ c κs. search needs)
+    (λ c κs. search needs)
+    (λ c κs. search needs)
+    returns)

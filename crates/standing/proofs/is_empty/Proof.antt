@@ -1,0 +1,15 @@
+-- Assumes nothing.
+use Rattle.standing.specs.Needs.{empty-tested}
+use borrow.Author.Needs.{needs}
+use Rattle.standing.proofs.is_empty.Statement.{statement}
+use Rattle.standing.proofs.is_empty.Tie as tie
+
+returns : tie.Need-returns
+returns c = search empty-tested
+
+pub is-empty-spec : {M : Type 1} → statement M
+is-empty-spec =
+    tie.close
+    (tie.spec
+    (λ c κs. search needs)
+    returns)

@@ -1,0 +1,16 @@
+-- Assumes nothing.
+use Rattle.standing.specs.Needs.{full-tested}
+use borrow.Author.Needs.{needs}
+use Rattle.standing.proofs.is_full.Statement.{statement}
+use Rattle.standing.proofs.is_full.Tie as tie
+
+returns : tie.Need-returns
+returns c = search full-tested
+
+pub is-full-spec : {M : Type 1} → statement M
+is-full-spec =
+    tie.close
+    (tie.spec
+    (λ c κs. search needs)
+    (λ c κs. search needs)
+    returns)

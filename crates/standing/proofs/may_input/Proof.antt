@@ -1,0 +1,17 @@
+-- Assumes nothing.
+use Rattle.standing.specs.Needs.{input-tested}
+use borrow.Author.Needs.{needs}
+use Rattle.standing.proofs.may_input.Statement.{statement}
+use Rattle.standing.proofs.may_input.Tie as tie
+
+returns : tie.Need-returns
+returns c = search input-tested
+
+pub may-input-spec : {M : Type 1} → statement M
+may-input-spec =
+    tie.close
+    (tie.spec
+    (λ c κs. search needs)
+    (λ c κs. search needs)
+    (λ c κs. search needs)
+    returns)

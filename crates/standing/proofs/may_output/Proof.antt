@@ -1,0 +1,19 @@
+-- Assumes nothing.
+use Rattle.standing.specs.Needs.{output-tested}
+use borrow.Author.Needs.{needs}
+use Rattle.standing.proofs.may_output.Statement.{statement}
+use Rattle.standing.proofs.may_output.Tie as tie
+
+returns : tie.Need-returns
+returns c = search output-tested
+
+pub may-output-spec : {M : Type 1} → statement M
+may-output-spec =
+    tie.close
+    (tie.spec
+    (λ c κs. search needs)
+    (λ c κs. search needs)
+    (λ c κs. search needs)
+    (λ c κs. search needs)
+    (λ c κs. search needs)
+    returns)

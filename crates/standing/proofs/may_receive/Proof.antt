@@ -1,0 +1,26 @@
+-- Assumes nothing.
+use Rattle.standing.specs.Needs.{not-asked, asked-so, partner-in, from-partner}
+use borrow.Author.Needs.{needs}
+use Rattle.standing.proofs.may_receive.Statement.{statement}
+use Rattle.standing.proofs.may_receive.Tie as tie
+
+returns : tie.Need-returns
+returns c = not-asked _ _ _ _ _ _ (c .before .before .before .pending .ensures) _ (c .before .before .peered .ensures) (c .before .both .ensures) _ (c .if1 .taken)
+
+is-empty-requires : tie.Need-is-empty-requires
+is-empty-requires c κs = (c .before .before .before .before .before .before .pre .0, (partner-in _ _ _ _ _ _ (c .before .before .before .before .pending .ensures) _ (c .before .before .before .peered .ensures) (c .before .before .both .ensures) _ (c .peer .ensures) (c .before .if1 .left), c .before .before .before .before .before .before .pre .1))
+
+returns-2 : tie.Need-returns-2
+returns-2 c = asked-so _ _ _ _ _ _ (c .before .before .before .before .before .pending .ensures) _ (c .before .before .before .before .peered .ensures) (c .before .before .before .both .ensures) _ _ (from-partner _ _ _ _ _ (c .before .peer .ensures) (c .is-empty .ensures)) (c .before .before .if1 .left)
+
+pub may-receive-spec : {M : Type 1} → statement M
+may-receive-spec =
+    tie.close
+    (tie.spec
+    (λ c κs. search needs)
+    (λ c κs. search needs)
+    (λ c κs. search needs)
+    returns
+    (λ c κs. search needs)
+    is-empty-requires
+    returns-2)

@@ -1,0 +1,18 @@
+-- Assumes nothing.
+use Rattle.standing.specs.Needs.{peered-tested}
+use borrow.Author.Needs.{needs}
+use Rattle.standing.proofs.peered.Statement.{statement}
+use Rattle.standing.proofs.peered.Tie as tie
+
+returns : tie.Need-returns
+returns c = search peered-tested
+
+pub peered-spec : {M : Type 1} → statement M
+peered-spec =
+    tie.close
+    (tie.spec
+    (λ c κs. search needs)
+    (λ c κs. search needs)
+    (λ c κs. search needs)
+    (λ c κs. search needs)
+    returns)

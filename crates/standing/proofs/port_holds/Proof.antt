@@ -1,0 +1,23 @@
+-- Assumes nothing.
+use Rattle.standing.specs.Needs.{port-tested}
+use borrow.Author.Needs.{needs}
+use Rattle.standing.proofs.port_holds.Statement.{statement}
+use Rattle.standing.proofs.port_holds.Tie as tie
+
+returns : tie.Need-returns
+returns c = search port-tested
+
+pub port-holds-spec : {M : Type 1} → statement M
+port-holds-spec =
+    tie.close
+    (tie.spec
+    (λ c. search needs)
+    (λ c κs. search needs)
+    (λ c. search needs)
+    (λ c κs. search needs)
+    (λ c κs. search needs)
+    (λ c κs. search needs)
+    (λ c κs. search needs)
+    (λ c κs. search needs)
+    (λ c κs. search needs)
+    returns)
