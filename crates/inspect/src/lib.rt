@@ -1,4 +1,13 @@
 // Checking an image: numbers 1 to 6.
+ghost use mathlib.Core.Path.{_≡_};
+ghost use mathlib.Core.Bool.{true};
+ghost use Prim.Native.Nat.{_<_};
+ghost use Rattle.paper.specs.Image.{shape-of as shape-given};
+ghost use Rattle.paper.specs.Tests.{every-task, queued as is-queued, task-holds as does-task-hold, clock-holds as does-clock-hold, rules-hold as do-rules-hold};
+ghost use Rattle.paper.specs.Numbers.{number, verdict-number, check as verdict-on};
+ghost use Rattle.paper.specs.declared.Queue.the-variants.{Ready};
+ghost use Rattle.laws.specs.Sound.{Sized};
+use headers::header_word;
 use headers::not_packed;
 use headers::out_of_range;
 use headers::shape_of;
@@ -10,14 +19,13 @@ use paper::Refusal;
 use paper::Shape;
 use paper::Task;
 use paper::Verdict;
-use places::wide;
 use places::word_of;
 use rules::buffers_hold;
 use rules::characters;
 use rules::held_below;
-use rules::queue_word;
 use rules::queued;
 use standing::flags_hold;
+use standing::is_empty;
 use standing::port_holds;
 use standing::readied_once;
 use standing::status_holds;
@@ -26,24 +34,37 @@ use truths::implies;
 
 const HEADER_WORDS: usize = 18;
 
-const MARK: u16 = 19284;
+const MARK: usize = 19284;
 
-const EDITION: u16 = 1;
+const EDITION: usize = 1;
+
+// What one inspection of an image tells: the verdict, and the shape that its header gives.
+pub struct Inspected {
+    pub verdict: Verdict,
+    pub shape: Shape,
+}
 
 // Whether the rules of task i hold.
-fn task_holds(s: Shape, im: &[u16], i: Task) -> bool {
+fn task_holds(s: Shape, im: &[u16], i: Task) -> bool
+    requires { ⌜ Sized s (now im) ⌝ }
+    requires { ⌜ i .0 < s .n ⌝ }
+    requires { ⌜ is-queued s (now im) Ready ≡ true ⌝ }
+    ensures { λ r. ⌜ r ≡ does-task-hold s (now (im .entry)) i ⌝ }
+{
     if !buffers_hold(s, im, i) {
         return false;
     }
     let words = both(characters(s, im, i), readied_once(s, im, i));
-    both(
-        both(words, port_holds(s, im, i)),
-        both(flags_hold(s, im, i), status_holds(s, im, i)),
-    )
+    let port = both(words, port_holds(s, im, i));
+    both(both(port, flags_hold(s, im, i)), status_holds(s, im, i))
 }
 
 // Whether the rules of every task hold.
-fn tasks_hold(s: Shape, im: &[u16]) -> bool {
+fn tasks_hold(s: Shape, im: &[u16]) -> bool
+    requires { ⌜ Sized s (now im) ⌝ }
+    requires { ⌜ is-queued s (now im) Ready ≡ true ⌝ }
+    ensures { λ r. ⌜ r ≡ every-task s (does-task-hold s (now (im .entry))) ⌝ }
+{
     let mut k: usize = 0;
     while k < s.n {
         if !task_holds(s, im, Task(k as u16)) {
@@ -55,7 +76,10 @@ fn tasks_hold(s: Shape, im: &[u16]) -> bool {
 }
 
 // Whether the clock obeys its rules.
-fn clock_holds(s: Shape, im: &[u16]) -> bool {
+fn clock_holds(s: Shape, im: &[u16]) -> bool
+    requires { ⌜ Sized s (now im) ⌝ }
+    ensures { λ r. ⌜ r ≡ does-clock-hold s (now (im .entry)) ⌝ }
+{
     let clock = word_of(
         s,
         im,
@@ -65,12 +89,17 @@ fn clock_holds(s: Shape, im: &[u16]) -> bool {
             column: 17,
         },
     );
-    let idle = queue_word(s, im, Queue::Ready, 2) == 0;
-    both(clock <= s.slice, implies(idle, clock == 0))
+    both(
+        clock <= s.slice,
+        implies(is_empty(s, im, Queue::Ready), clock == 0),
+    )
 }
 
 // Whether all rules of "What an image must hold" hold.
-fn rules_hold(s: Shape, im: &[u16]) -> bool {
+fn rules_hold(s: Shape, im: &[u16]) -> bool
+    requires { ⌜ Sized s (now im) ⌝ }
+    ensures { λ r. ⌜ r ≡ do-rules-hold s (now (im .entry)) ⌝ }
+{
     if !queued(s, im, Queue::Ready) {
         return false;
     }
@@ -79,11 +108,13 @@ fn rules_hold(s: Shape, im: &[u16]) -> bool {
 }
 
 // The verdict on an image.
-pub fn check(im: &[u16]) -> Verdict {
+fn verdict(im: &[u16]) -> Verdict
+    ensures { λ r. ⌜ r ≡ verdict-on (now (im .entry)) ⌝ }
+{
     if im.len() < HEADER_WORDS {
         return Verdict::Refused(Refusal::TooShort);
     }
-    if !both(im[0] == MARK, im[1] == EDITION) {
+    if !both(header_word(im, 0) == MARK, header_word(im, 1) == EDITION) {
         return Verdict::Refused(Refusal::NotMarked);
     }
     let s = shape_of(im);
@@ -102,8 +133,22 @@ pub fn check(im: &[u16]) -> Verdict {
     Verdict::Fine
 }
 
+// Inspects an image once, for whoever goes on with it.
+pub fn inspect(im: &[u16]) -> Inspected
+    ensures { λ r. ⌜ (r .verdict ≡ verdict-on (now (im .entry))) × (r .shape ≡ shape-given (now (im .entry))) ⌝ }
+{
+    let found = verdict(im);
+    let shape = shape_of(im);
+    Inspected {
+        verdict: found,
+        shape: shape,
+    }
+}
+
 // The paper's number of a refusal.
-fn number_of(r: Refusal) -> u16 {
+fn number_of(r: Refusal) -> u16
+    ensures { λ n. ⌜ n ≡ number r ⌝ }
+{
     match r {
         Refusal::TooShort => 1,
         Refusal::NotMarked => 2,
@@ -120,9 +165,12 @@ fn number_of(r: Refusal) -> u16 {
     }
 }
 
-// The number 1..6 of an image's refusal, or 0.
-pub fn number(im: &[u16]) -> u16 {
-    match check(im) {
+// The number of an image's refusal, 1 to 6, or 0 where it is good.
+pub fn check(im: &[u16]) -> u16
+    ensures { λ r. ⌜ r ≡ verdict-number (verdict-on (now (im .entry))) ⌝ }
+{
+    let found = verdict(im);
+    match found {
         Verdict::Fine => 0,
         Verdict::Refused(r) => number_of(r),
     }

@@ -1,0 +1,141 @@
+-- What the calls of this crate ask and make, as laws over values. Assumes nothing.
+use mathlib.Core.Path.{_≡_, refl, sym, _∙_}
+use mathlib.Core.List.{List}
+use mathlib.Core.Bool.{Bool, true, false, not, _&&_}
+use Prim.Native.Nat.{ℕ, _<_, _≤_}
+use borrow.Author.Tests.{lt-ltb, le-ltb, not-true, not-false}
+use lib.Dec.{eqb, leb}
+use lib.ListN.{length}
+use Rattle.paper.specs.Image.{header-words, mark, edition, header-word, shape-of, at, clock, task}
+use Rattle.paper.specs.Queues.{held, empty}
+use Rattle.paper.specs.Tests.{implies, every-task, all-below, queued, buffers-hold, characters, readied-once, port-holds, flags-hold, status-holds, task-holds, clock-holds, readied-tasks, rules-hold}
+use Rattle.paper.specs.Numbers.{number, verdict-number, out-of-range, not-packed, wrong-segments, check}
+use Rattle.paper.specs.declared.Task.{Task}
+use Rattle.paper.specs.declared.Shape.{Shape}
+use Rattle.paper.specs.declared.Queue.{Queue}
+use Rattle.paper.specs.declared.Refusal.{Refusal}
+use Rattle.paper.specs.declared.Verdict.{Verdict}
+use Rattle.laws.specs.Every.{every-fails}
+use Rattle.laws.specs.Checked.{ranged-is, packed-is, segments-are}
+use Rattle.laws.specs.Sound.{Sized, make-sized}
+use Rattle.headers.specs.Needs.{Ranged}
+
+-- the rules of a task, side by side
+module _ (s : Shape) (im : List ℕ) (i : Task) (b : Bool) (eb : b ≡ buffers-hold s im i) where
+  pub task-fails : not b ≡ true → false ≡ task-holds s im i
+  unfolding task-holds
+  task-fails n = let e = not-true b n in rw (← eb, e)
+
+  pub buffers-so : not b ≡ false → buffers-hold s im i ≡ true
+  buffers-so n = sym eb ∙ not-false b n
+
+  pub task-tested : (c r p f t w x y o : Bool) → not b ≡ false → c ≡ characters s im i → r ≡ readied-once s im i → w ≡ (c && r)
+      → p ≡ port-holds s im i → x ≡ (w && p) → f ≡ flags-hold s im i → y ≡ (x && f) → t ≡ status-holds s im i → o ≡ (y && t)
+      → o ≡ task-holds s im i
+  unfolding task-holds
+  task-tested c r p f t w x y o n ec er ew ep ex ef ey et eo = rw (eo, ey, ex, ew, ec, er, ep, ef, et, buffers-so n)
+
+-- one task after another
+pub tasks-fail : (s : Shape) (im : List ℕ) (k : ℕ) (r : Bool) → k < s .n → r ≡ task-holds s im (task k) → not r ≡ true
+    → false ≡ every-task s (task-holds s im)
+tasks-fail s im k r hk er nr = sym (every-fails (s .n) k _ hk (sym er ∙ not-true r nr))
+
+pub clock-tested : (s : Shape) (im : List ℕ) (c : ℕ) (e p o : Bool) → c ≡ at s im clock → e ≡ empty s im Queue.Ready
+    → p ≡ implies e (eqb c 0) → o ≡ (leb c (s .slice) && p) → o ≡ clock-holds s im
+unfolding clock-holds
+clock-tested s im c e p o ec ee ep eo = rw (eo, ep, ee, ec)
+
+-- all rules, once the ready queue is a queue
+module _ (s : Shape) (im : List ℕ) (b : Bool) (eb : b ≡ queued s im Queue.Ready) where
+  pub rules-fail : not b ≡ true → false ≡ rules-hold s im
+  unfolding rules-hold
+  rules-fail n = let e = not-true b n in rw (← eb, e)
+
+  pub ready-so : not b ≡ false → queued s im Queue.Ready ≡ true
+  ready-so n = sym eb ∙ not-false b n
+
+  pub rules-tested : (h c w t o : Bool) → not b ≡ false → h ≡ all-below (s .n) (held s im Queue.Ready) → c ≡ clock-holds s im → w ≡ (h && c)
+      → t ≡ every-task s (task-holds s im) → o ≡ (w && t) → o ≡ rules-hold s im
+  unfolding rules-hold readied-tasks
+  rules-tested h c w t o n eh ec ew et eo = rw (eo, ew, eh, ec, et, ready-so n)
+
+-- what the tests 3, 4 and 5 leave to the later ones
+pub ranged-so : (s : Shape) (r : Bool) → r ≡ out-of-range s → r ≡ false → Ranged s
+ranged-so s r er inside =
+    let h = ranged-is s .0 (sym er ∙ inside) in
+    record { tasks = h .0; slice = h .1; inputs = h .2; outputs = h .3; messages = h .4 }
+
+pub packed-so : (s : Shape) (p : Bool) → p ≡ not-packed s → p ≡ false → not-packed s ≡ false
+packed-so s p ep packed = sym ep ∙ packed
+
+pub sized-so : (s : Shape) (im : List ℕ) → s ≡ shape-of im → Ranged s → not-packed s ≡ false → (w : Bool) → w ≡ wrong-segments s im → w ≡ false → Sized s im
+unfolding shape-of
+sized-so s im es g packed w ew right =
+    let h = segments-are s im .0 (sym ew ∙ right) in
+    make-sized s im
+    record {
+      tasks = g .tasks;
+      slice = g .slice;
+      inputs = g .inputs;
+      outputs = g .outputs;
+      messages = g .messages;
+      packed = packed-is s (rw es refl) .0 packed;
+      words = h .1;
+    }
+    (h .2)
+
+-- the tests 1 to 6, one after another
+module _ (im : List ℕ) where
+  pub too-short-so : length im < header-words → Verdict.Refused Refusal.TooShort ≡ check im
+  unfolding check
+  too-short-so h = rw (lt-ltb (length im) header-words h)
+
+  module _ (long : header-words ≤ length im) (a b : ℕ) (m : Bool) (ea : a ≡ header-word im 0) (eb : b ≡ header-word im 1)
+      (em : m ≡ (eqb a mark && eqb b edition)) where
+    pub not-marked-so : not m ≡ true → Verdict.Refused Refusal.NotMarked ≡ check im
+    unfolding check
+    not-marked-so n = let e = not-true m n in rw (le-ltb (length im) header-words long, ← ea, ← eb, ← em, e)
+
+    module _ (marked : not m ≡ false) (s : Shape) (es : s ≡ shape-of im) (r : Bool) (er : r ≡ out-of-range s) where
+      pub out-of-range-so : r ≡ true → Verdict.Refused Refusal.OutOfRange ≡ check im
+      unfolding check
+      out-of-range-so e =
+          let f = not-false m marked in
+          rw (le-ltb (length im) header-words long, ← ea, ← eb, ← em, f, ← es, ← er, e)
+
+      module _ (inside : r ≡ false) (p : Bool) (ep : p ≡ not-packed s) where
+        pub not-packed-so : p ≡ true → Verdict.Refused Refusal.NotPacked ≡ check im
+        unfolding check
+        not-packed-so e =
+            let f = not-false m marked in
+            rw (le-ltb (length im) header-words long, ← ea, ← eb, ← em, f, ← es, ← er, inside, ← ep, e)
+
+        module _ (packed : p ≡ false) (w : Bool) (ew : w ≡ wrong-segments s im) where
+          pub wrong-segments-so : w ≡ true → Verdict.Refused Refusal.WrongSegments ≡ check im
+          unfolding check
+          wrong-segments-so e =
+              let f = not-false m marked in
+              rw (le-ltb (length im) header-words long, ← ea, ← eb, ← em, f, ← es, ← er, inside, ← ep, packed, ← ew, e)
+
+          module _ (right : w ≡ false) (o : Bool) (eo : o ≡ rules-hold s im) where
+            pub rule-broken-so : not o ≡ true → Verdict.Refused Refusal.RuleBroken ≡ check im
+            unfolding check
+            rule-broken-so n =
+                let f = not-false m marked in
+                let e = not-true o n in
+                rw (le-ltb (length im) header-words long, ← ea, ← eb, ← em, f, ← es, ← er, inside, ← ep, packed, ← ew, right, ← eo, e)
+
+            pub fine-so : not o ≡ false → Verdict.Fine ≡ check im
+            unfolding check
+            fine-so n =
+                let f = not-false m marked in
+                let e = not-false o n in
+                rw (le-ltb (length im) header-words long, ← ea, ← eb, ← em, f, ← es, ← er, inside, ← ep, packed, ← ew, right, ← eo, e)
+
+-- the number of a verdict
+module _ (im : List ℕ) (v : Verdict) (ev : v ≡ check im) where
+  pub fine-number : v ≡ Verdict.Fine → 0 ≡ verdict-number (check im)
+  fine-number e = rw (← ev, e)
+
+  pub refused-number : (r : Refusal) (n : ℕ) → v ≡ Verdict.Refused r → n ≡ number r → n ≡ verdict-number (check im)
+  refused-number r n e en = rw (en, ← ev, e)
