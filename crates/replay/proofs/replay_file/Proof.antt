@@ -1,0 +1,36 @@
+-- `replay_file` meets its contract: the loop keeps the length of the image, and has a turn less each time. Assumes nothing.
+use mathlib.Core.Path.{_≡_}
+use lib.ListN.{length}
+use borrow.Author.Needs.{needs}
+use Rattle.replay.proofs.replay_file.Statement.{statement}
+use Rattle.replay.proofs.replay_file.Tie as tie
+
+abbrev Inv-loop : tie.InvT-loop
+Inv-loop fd im₀ tally₀ turns₀ im tally turns = length im ≡ length im₀
+
+abbrev μ-loop : tie.MeasureT-loop
+μ-loop fd im₀ tally₀ turns₀ im tally turns = turns
+
+pub replay-file-spec : {M : Type 1} → statement M
+replay-file-spec =
+    tie.close
+    (tie.spec
+    Inv-loop
+    μ-loop
+    (λ c. search needs)
+    (λ c κs. search needs)
+    (λ c. search needs)
+    (λ c κs. search needs)
+    (λ c. search needs)
+    (λ c. search needs)
+    (λ c. search needs)
+    (λ c. search needs)
+    (λ c κs. search needs)
+    (λ c. search needs)
+    (λ c. search needs)
+    (λ c. search needs)
+    (λ c. search needs)
+    (λ c. search needs)
+    (λ c κs. search needs)
+    (λ c. search needs)
+    (λ c. search needs))
