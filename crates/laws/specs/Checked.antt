@@ -14,7 +14,7 @@ use Rattle.paper.specs.Image.{task, header-words, mark, edition, most-tasks, mo
 use Rattle.paper.specs.Queues.{Has, held, empty, full}
 use Rattle.paper.specs.Rules.{Within, Laid, Flagged, Queued, Empty, Characters, times, Ready, Ported, Stands, Good}
 use Rattle.paper.specs.Tests.{every, all-below, queued, readied-tasks, clock-holds, buffers-hold, characters, readied-once, port-holds, flags-hold, status-holds, task-holds, rules-hold}
-use Rattle.paper.specs.Numbers.{refused-if, too-short, not-marked, out-of-range, not-packed, segment-right, wrong-segments, check}
+use Rattle.paper.specs.Numbers.{number, verdict-number, refused-if, too-short, not-marked, out-of-range, not-packed, segment-right, wrong-segments, check}
 use Rattle.paper.specs.declared.Task.{Task}
 use Rattle.paper.specs.declared.Shape.{Shape}
 use Rattle.paper.specs.declared.Queue.{Queue}
@@ -298,3 +298,27 @@ checked-good im e = check-is im .0 e
 -- and what is good, in whatever shape, the check passes
 pub good-checked : (s : Shape) (im : List ℕ) → Good s im → check im ≡ Verdict.Fine
 good-checked s im g = check-is im .1 (rw (shape-is s im (g .laid)) g)
+
+-- each refusal has a number of its own, and none is 0
+number-some : (r : Refusal) → 1 ≤ number r
+number-some Refusal.TooShort = omega arith
+number-some Refusal.NotMarked = omega arith
+number-some Refusal.OutOfRange = omega arith
+number-some Refusal.NotPacked = omega arith
+number-some Refusal.WrongSegments = omega arith
+number-some Refusal.RuleBroken = omega arith
+number-some Refusal.MalformedEvent = omega arith
+number-some Refusal.InputFull = omega arith
+number-some Refusal.PortIdle = omega arith
+number-some Refusal.ReadyFull = omega arith
+number-some Refusal.BadPlan = omega arith
+number-some Refusal.WrongTarget = omega arith
+
+zero-is : (v : Verdict) → (verdict-number v ≡ 0) ↔ (v ≡ Verdict.Fine)
+zero-is Verdict.Fine = (λ _. refl, λ _. refl)
+zero-is (Verdict.Refused r) =
+    (λ e. absurd (omega (arith, number-some r)), λ e. absurd (let z : _≡_ {A = ℕ} 0 1 = cc in omega arith))
+
+-- the number that the check returns is 0 exactly when the image is good
+pub check-zero : (im : List ℕ) → (verdict-number (check im) ≡ 0) ↔ Good (shape-of im) im
+check-zero im = (λ e. checked-good im (zero-is (check im) .0 e), λ g. zero-is (check im) .1 (good-checked (shape-of im) im g))
