@@ -9,7 +9,7 @@ use lib.ListN.{length}
 use Rattle.paper.specs.Image.{header-words, mark, edition, header-word, shape-of, at, clock, task}
 use Rattle.paper.specs.Queues.{held, empty}
 use Rattle.paper.specs.Tests.{implies, every-task, all-below, queued, buffers-hold, characters, readied-once, port-holds, flags-hold, status-holds, task-holds, clock-holds, readied-tasks, rules-hold}
-use Rattle.paper.specs.Numbers.{number, verdict-number, out-of-range, not-packed, wrong-segments, check}
+use Rattle.paper.specs.Numbers.{verdict-number, out-of-range, not-packed, wrong-segments, check}
 use Rattle.paper.specs.declared.Task.{Task}
 use Rattle.paper.specs.declared.Shape.{Shape}
 use Rattle.paper.specs.declared.Queue.{Queue}
@@ -133,9 +133,5 @@ module _ (im : List ℕ) where
                 rw (le-ltb (length im) header-words long, ← ea, ← eb, ← em, f, ← es, ← er, inside, ← ep, packed, ← ew, right, ← eo, e)
 
 -- the number of a verdict
-module _ (im : List ℕ) (v : Verdict) (ev : v ≡ check im) where
-  pub fine-number : v ≡ Verdict.Fine → 0 ≡ verdict-number (check im)
-  fine-number e = rw (← ev, e)
-
-  pub refused-number : (r : Refusal) (n : ℕ) → v ≡ Verdict.Refused r → n ≡ number r → n ≡ verdict-number (check im)
-  refused-number r n e en = rw (en, ← ev, e)
+pub numbered : (im : List ℕ) (v : Verdict) (n : ℕ) → v ≡ check im → n ≡ verdict-number v → n ≡ verdict-number (check im)
+numbered im v n ev en = rw (en, ev)

@@ -4,7 +4,7 @@ ghost use mathlib.Core.Bool.{true};
 ghost use Prim.Native.Nat.{_<_};
 ghost use Rattle.paper.specs.Image.{shape-of as shape-given};
 ghost use Rattle.paper.specs.Tests.{every-task, queued as is-queued, task-holds as does-task-hold, clock-holds as does-clock-hold, rules-hold as do-rules-hold};
-ghost use Rattle.paper.specs.Numbers.{number, verdict-number, check as verdict-on};
+ghost use Rattle.paper.specs.Numbers.{verdict-number, check as verdict-on};
 ghost use Rattle.paper.specs.declared.Queue.the-variants.{Ready};
 ghost use Rattle.laws.specs.Sound.{Sized};
 use headers::header_word;
@@ -12,6 +12,7 @@ use headers::not_packed;
 use headers::out_of_range;
 use headers::shape_of;
 use headers::wrong_segments;
+use numbers::number_of_verdict;
 use paper::Cell;
 use paper::Part;
 use paper::Queue;
@@ -145,33 +146,9 @@ pub fn inspect(im: &[u16]) -> Inspected
     }
 }
 
-// The paper's number of a refusal.
-fn number_of(r: Refusal) -> u16
-    ensures { λ n. ⌜ n ≡ number r ⌝ }
-{
-    match r {
-        Refusal::TooShort => 1,
-        Refusal::NotMarked => 2,
-        Refusal::OutOfRange => 3,
-        Refusal::NotPacked => 4,
-        Refusal::WrongSegments => 5,
-        Refusal::RuleBroken => 6,
-        Refusal::MalformedEvent => 7,
-        Refusal::InputFull => 8,
-        Refusal::PortIdle => 9,
-        Refusal::ReadyFull => 10,
-        Refusal::BadPlan => 11,
-        Refusal::WrongTarget => 12,
-    }
-}
-
 // The number of an image's refusal, 1 to 6, or 0 where it is good.
 pub fn check(im: &[u16]) -> u16
     ensures { λ r. ⌜ r ≡ verdict-number (verdict-on (now (im .entry))) ⌝ }
 {
-    let found = verdict(im);
-    match found {
-        Verdict::Fine => 0,
-        Verdict::Refused(r) => number_of(r),
-    }
+    number_of_verdict(verdict(im))
 }

@@ -1,0 +1,47 @@
+-- k zeros are written. Assumes nothing.
+use mathlib.Core.Path.{_≡_, refl, sym, ap, _∙_}
+use Prim.Native.Nat.{_+_, _-_, _≤_}
+use native.Mathlib.Omega.{arith}
+use lib.ListN.{length, replicate}
+use Rattle.writes.specs.Written.{written, written-none, kept-length, zero-more, zeros-again, zeros-done}
+use borrow.Author.Needs.{needs}
+use Rattle.writes.proofs.put_zeros.Statement.{statement}
+use Rattle.writes.proofs.put_zeros.Tie as tie
+
+abbrev Inv-loop : tie.InvT-loop
+Inv-loop out₀ at n k₀ out k = (out ≡ written out₀ at (replicate k 0)) × (k ≤ n)
+
+abbrev μ-loop : tie.MeasureT-loop
+μ-loop out₀ at n k₀ out k = n - k
+
+loop-holds : tie.Need-loop-holds Inv-loop μ-loop
+loop-holds c = (sym (written-none _ _), omega arith)
+
+slice-write-out : tie.Need-slice-write-out Inv-loop μ-loop
+slice-write-out c = omega (arith, kept-length _ _ _ _ (c .before .loop .inv .0))
+
+loop-again : tie.Need-loop-again Inv-loop μ-loop
+loop-again c = (zeros-again _ _ _ _ (c .before .loop .inv .0), omega arith)
+
+same-length : tie.Need-same-length Inv-loop μ-loop
+same-length c = kept-length _ _ _ _ (c .before .loop .inv .0)
+
+returns : tie.Need-returns Inv-loop μ-loop
+returns c = (refl, zeros-done _ _ _ _ _ (c .before .loop .inv .0) (c .loop-test .left) (c .before .loop .inv .1))
+
+pub put-zeros-spec : {M : Type 1} → statement M
+put-zeros-spec =
+    tie.close
+    (tie.spec
+    Inv-loop
+    μ-loop
+    loop-holds
+    (λ c. search needs)
+    (λ c. search needs)
+    slice-write-out
+    (λ c. search needs)
+    (λ c. search needs)
+    loop-again
+    (λ c. search needs)
+    same-length
+    returns)
