@@ -31,8 +31,8 @@ pub record Ranged (s : Shape) : Type 0 where
   pub messages : Within 1 most-capacity (s .cm)
 
 -- a word past the end
-pub past-end : (im : List ℕ) (k : ℕ) → length im ≤ k → 0 ≡ header-word im k
-past-end im k h = sym (List·getD-eq-default im 0 h)
+pub past-end : (l : List ℕ) (k : ℕ) → length l ≤ k → 0 ≡ getD l k 0
+past-end l k h = sym (List·getD-eq-default l 0 h)
 
 -- the nine offsets as they are read
 pub starts-read : (im : List ℕ) (a b c d e f g h i : ℕ) → a ≡ header-word im 7 → b ≡ header-word im 8 → c ≡ header-word im 9

@@ -44,14 +44,21 @@ fn rest(a: usize, b: usize) -> usize
     0
 }
 
+// A word of a list, and 0 past its end.
+pub fn word_or_zero(l: &[u16], k: usize) -> u16
+    ensures { λ r. ⌜ r ≡ getD (now (l .entry)) k 0 ⌝ }
+{
+    if k < l.len() {
+        return l[k];
+    }
+    0
+}
+
 // A word of the header, and 0 past the end of a list that is too short for one.
 pub fn header_word(im: &[u16], k: usize) -> usize
     ensures { λ r. ⌜ r ≡ word-of-header (now (im .entry)) k ⌝ }
 {
-    if k < im.len() {
-        return wide(im[k]);
-    }
-    0
+    wide(word_or_zero(im, k))
 }
 
 // The nine offsets in the header.
@@ -71,16 +78,6 @@ fn starts_of(im: &[u16]) -> [usize; 9]
     ]
 }
 
-// The slice in the header.
-fn slice_of(im: &[u16]) -> u16
-    ensures { λ r. ⌜ r ≡ word-of-header (now (im .entry)) 3 ⌝ }
-{
-    if 3 < im.len() {
-        return im[3];
-    }
-    0
-}
-
 // The shape that the header gives.
 pub fn shape_of(im: &[u16]) -> Shape
     ensures { λ r. ⌜ r ≡ shape-given (now (im .entry)) ⌝ }
@@ -88,7 +85,7 @@ pub fn shape_of(im: &[u16]) -> Shape
     let starts = starts_of(im);
     Shape {
         n: header_word(im, 2),
-        slice: slice_of(im),
+        slice: word_or_zero(im, 3),
         ci: header_word(im, 4),
         co: header_word(im, 5),
         cm: header_word(im, 6),

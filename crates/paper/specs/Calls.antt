@@ -4,15 +4,33 @@ use mathlib.Core.Bool.{not}
 use Prim.Native.Nat.{ℕ, _+_, _%_}
 use lib.Dec.{eqb}
 use lib.ListN.{length}
-use Rattle.paper.specs.Image.{shape-of}
+use Rattle.paper.specs.Image.{total, shape-of}
 use Rattle.paper.specs.Waking.{Outcome, refused}
 use Rattle.paper.specs.Events.{event-of, happening}
-use Rattle.paper.specs.Plans.{fresh}
-use Rattle.paper.specs.Numbers.{and-then, refused-if, check, check-build}
+use Rattle.paper.specs.Plans.{plan-shape, fresh}
+use Rattle.paper.specs.Numbers.{number, and-then, refused-if, check, check-plan, check-build}
 use Rattle.paper.specs.declared.Shape.{Shape}
 use Rattle.paper.specs.declared.Refusal.{Refusal}
 use Rattle.paper.specs.declared.Verdict.{Verdict}
 use Rattle.paper.specs.declared.Reply.{Reply}
+use Rattle.paper.specs.declared.Size.{Size}
+
+-- the words that an accepted plan needs
+abbrev pub size-as : Verdict → List ℕ → Size
+size-as Verdict.Fine plan = Size.Words (total (plan-shape plan))
+size-as (Verdict.Refused r) plan = Size.Refused r
+
+unfoldable pub plan-size : List ℕ → Size
+plan-size plan = size-as (check-plan plan) plan
+
+-- its number and value: 0 and T, or the refusal's number and 0
+abbrev pub size-number : Size → ℕ
+size-number (Size.Words n) = 0
+size-number (Size.Refused r) = number r
+
+abbrev pub size-value : Size → ℕ
+size-value (Size.Words n) = n
+size-value (Size.Refused r) = 0
 
 -- building: the verdict, and the target after it
 abbrev pub built-as : Verdict → List ℕ → List ℕ → List ℕ

@@ -117,6 +117,12 @@ pub enum Verdict {
     Refused(Refusal),
 }
 
+// How many words an accepted plan needs, or why it is refused.
+pub enum Size {
+    Words(usize),
+    Refused(Refusal),
+}
+
 // What an event comes to.
 pub enum Reply {
     Accepted(Answer),

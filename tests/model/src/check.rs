@@ -64,7 +64,7 @@ mod tests {
 
     /// The paper's image: tables at 18 27 32 34 39 44 49 51, segment at 53.
     fn papers_image() -> Vec<u16> {
-        plan::build(&[1, 2, 1, 1, 1, 4, 2, 4656, 4672]).expect("a good plan").encode()
+        plan::accept(&[1, 2, 1, 1, 1, 4, 2, 4656, 4672]).expect("a good plan").encode()
     }
 
     /// The check of the paper's image with some of its words changed.

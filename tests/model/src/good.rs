@@ -1,5 +1,6 @@
 //! Good images, most of which no plan and no event reaches.
 
+use crate::building::Draft;
 use crate::check::check;
 use crate::image::{service, status, Flags, Kernel, Port, Task};
 use crate::layout::{word, Frame, Layout, LARGEST_TASKS};
@@ -32,17 +33,8 @@ pub fn with_total(rng: &mut Rng, frame: Frame, total: usize) -> Kernel {
 
 /// The fresh kernel of a random plan.
 pub fn fresh(rng: &mut Rng) -> Kernel {
-    let frame = frame(rng);
-    let mut plan = frame.words().to_vec();
-    let mut programs = Vec::new();
-    for _ in 0..frame.tasks {
-        let length = segment_length(rng);
-        let program_length = rng.below(length + 1);
-        plan.extend([length, program_length].map(word));
-        programs.extend((0..program_length).map(|_| rng.any_word()));
-    }
-    plan.extend(programs);
-    let kernel = plan::build(&plan).expect("the plan is good");
+    let draft = Draft::random(rng);
+    let kernel = plan::accept(&draft.words()).expect("the plan is good");
     assert_good(&kernel);
     kernel
 }
@@ -73,7 +65,8 @@ fn capacity(rng: &mut Rng) -> usize {
     }
 }
 
-fn segment_length(rng: &mut Rng) -> usize {
+/// A length in which small numbers are common.
+pub fn segment_length(rng: &mut Rng) -> usize {
     let most = *rng.pick(&[1, 4, 12, 30]);
     rng.between(1, most)
 }

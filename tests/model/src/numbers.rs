@@ -16,3 +16,5 @@ pub const SEGMENT_OR_TOTAL: u16 = 5;
 pub const OTHER_RULE: u16 = 6;
 /// The plan is too short, too long, or one of its lengths is wrong.
 pub const PLAN: u16 = 11;
+/// The target of a build is not T words.
+pub const TARGET: u16 = 12;

@@ -1,16 +1,17 @@
 -- Assumes nothing.
 use Rattle.headers.specs.Needs.{past-end}
 use borrow.Author.Needs.{needs}
-use Rattle.headers.proofs.slice_of.Statement.{statement}
-use Rattle.headers.proofs.slice_of.Tie as tie
+use Rattle.headers.proofs.word_or_zero.Statement.{statement}
+use Rattle.headers.proofs.word_or_zero.Tie as tie
 
 returns-2 : tie.Need-returns-2
 returns-2 c = search past-end
 
-pub slice-of-spec : {M : Type 1} → statement M
-slice-of-spec =
+pub word-or-zero-spec : {M : Type 1} → statement M
+word-or-zero-spec =
     tie.close
     (tie.spec
+    (λ c. search needs)
     (λ c. search needs)
     (λ c. search needs)
     returns-2)
