@@ -17,18 +17,10 @@ use Rattle.paper.specs.Numbers.{within, out-of-range, not-packed, segment-right
 use Rattle.paper.specs.declared.Task.{Task}
 use Rattle.paper.specs.declared.Shape.{Shape}
 use Rattle.paper.specs.declared.Part.{Part}
-use Rattle.laws.specs.Layout.{largest-offset, total-is}
+use Rattle.laws.specs.Layout.{Ranged, fit-ranged, largest-offset, total-is}
 use Rattle.laws.specs.Every.{every-fails, every-done}
 use Rattle.laws.specs.Sound.{Sized, make-sized, sized-fit, sized-words}
 use Rattle.laws.specs.Checked.{ranged-is, packed-is}
-
--- N, S and the capacities are in range
-pub record Ranged (s : Shape) : Type 0 where
-  pub tasks : Within 1 most-tasks (s .n)
-  pub slice : Within 1 most-slice (s .slice)
-  pub inputs : Within 1 most-capacity (s .ci)
-  pub outputs : Within 1 most-capacity (s .co)
-  pub messages : Within 1 most-capacity (s .cm)
 
 -- a word past the end
 pub past-end : (l : List ℕ) (k : ℕ) → length l ≤ k → 0 ≡ getD l k 0
@@ -93,7 +85,7 @@ module _ (s : Shape) (im : List ℕ) (h : Sized s im) where
   first-start = rw (sized-fit s im h .packed)
 
   pub first-small : getD (s .starts) 8 0 ≤ 10646
-  first-small = rw (sized-fit s im h .packed) (largest-offset s (sized-fit s im h))
+  first-small = rw (sized-fit s im h .packed) (largest-offset s (fit-ranged s (sized-fit s im h)))
 
   pub next-start : (end k l w : ℕ) → end ≡ segment-start s im k → l ≡ at s im (len (task k)) → w ≡ l → end + w ≡ segment-start s im (k + 1)
   next-start end k l w ee el ew = rw (ee, ew, el, add-one)

@@ -9,7 +9,7 @@ ghost use Rattle.paper.specs.Image.{offset-words, offsets as packed-offsets, he
 ghost use Rattle.paper.specs.Tests.{every, every-task};
 ghost use Rattle.paper.specs.Numbers.{within as is-within, out-of-range as is-out-of-range, not-packed as is-not-packed, segment-right as is-segment-right, wrong-segments as has-wrong-segments};
 ghost use Rattle.laws.specs.Sound.{Sized};
-ghost use Rattle.headers.specs.Needs.{Ranged};
+ghost use Rattle.laws.specs.Layout.{Ranged};
 use paper::Cell;
 use paper::Part;
 use paper::Shape;

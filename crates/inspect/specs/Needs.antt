@@ -18,7 +18,7 @@ use Rattle.paper.specs.declared.Verdict.{Verdict}
 use Rattle.laws.specs.Every.{every-fails}
 use Rattle.laws.specs.Checked.{ranged-is, packed-is, segments-are}
 use Rattle.laws.specs.Sound.{Sized, make-sized}
-use Rattle.headers.specs.Needs.{Ranged}
+use Rattle.laws.specs.Layout.{Ranged}
 
 -- the rules of a task, side by side
 module _ (s : Shape) (im : List ℕ) (i : Task) (b : Bool) (eb : b ≡ buffers-hold s im i) where

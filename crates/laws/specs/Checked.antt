@@ -23,11 +23,11 @@ use Rattle.paper.specs.declared.Verdict.{Verdict}
 use Rattle.laws.specs.Layout.{shape-is, smallest-total}
 
 -- two numbers are equal
-equal : (a b : ℕ) → So (eqb a b) ↔ (a ≡ b)
+pub equal : (a b : ℕ) → So (eqb a b) ↔ (a ≡ b)
 equal a b = (eqb-true a b, eq-eqb a b)
 
 -- one is at most the other; a < b says so of suc a and b, as a test and as a statement
-at-most : (a b : ℕ) → So (leb a b) ↔ (a ≤ b)
+pub at-most : (a b : ℕ) → So (leb a b) ↔ (a ≤ b)
 at-most a b = (leb-true a b, le-leb a b)
 
 -- not
@@ -273,7 +273,7 @@ laid-is im =
     )
 
 -- one test of several in their order
-passed : (b : Bool) (r : Refusal) (v : Verdict) → (refused-if b r v ≡ Verdict.Fine) ↔ ((b ≡ false) × (v ≡ Verdict.Fine))
+pub passed : (b : Bool) (r : Refusal) (v : Verdict) → (refused-if b r v ≡ Verdict.Fine) ↔ ((b ≡ false) × (v ≡ Verdict.Fine))
 passed true r v = (λ e. absurd (let z : _≡_ {A = ℕ} 0 1 = cc in omega arith), λ h. absurd (true≢false (h .0)))
 passed false r v = (λ e. (refl, e), λ h. h .1)
 

@@ -6,8 +6,8 @@ use native.Mathlib.Nat.{mul-le-mul-right}
 use native.Mathlib.Omega.{arith}
 use lib.Dec.{lit<}
 use lib.ListN.{getD}
-use Rattle.paper.specs.Image.{task, start, total, offset-words, header-word, shape-of}
-use Rattle.paper.specs.Rules.{Fit, Laid}
+use Rattle.paper.specs.Image.{most-tasks, most-slice, most-capacity, task, start, total, offset-words, header-word, shape-of}
+use Rattle.paper.specs.Rules.{Within, Fit, Laid}
 use Rattle.paper.specs.declared.Shape.{Shape}
 use Rattle.paper.specs.declared.Part.{Part}
 use Rattle.laws.specs.Segments.{starts-later}
@@ -41,22 +41,33 @@ shape-is s im laid =
     cc (n, slice, ci, co, cm, starts, words) in
     e
 
-module _ (s : Shape) (fit : Fit s) where
-  -- the largest offset of the first segment is 10646
-  pub largest-offset : start s Part.Segments ≤ 10646
-  largest-offset =
-      let most = fit .tasks .1 in
-      omega (
-        arith,
-        mul-le-mul-right (s .ci) most,
-        mul-le-mul-right (s .co) most,
-        mul-le-mul-right (s .n) most,
-        mul-le-mul-right (s .cm) (mul-le-mul-right (s .n) most),
-        mul-le-mul-right (s .cm) most,
-        fit .inputs,
-        fit .outputs,
-        fit .messages,
-      )
+-- N, S and the capacities are in range
+pub record Ranged (s : Shape) : Type 0 where
+  pub tasks : Within 1 most-tasks (s .n)
+  pub slice : Within 1 most-slice (s .slice)
+  pub inputs : Within 1 most-capacity (s .ci)
+  pub outputs : Within 1 most-capacity (s .co)
+  pub messages : Within 1 most-capacity (s .cm)
+
+pub fit-ranged : (s : Shape) → Fit s → Ranged s
+fit-ranged s f =
+    record { tasks = f .tasks; slice = f .slice; inputs = f .inputs; outputs = f .outputs; messages = f .messages }
+
+-- the largest offset of the first segment is 10646
+pub largest-offset : (s : Shape) → Ranged s → start s Part.Segments ≤ 10646
+largest-offset s r =
+    let most = r .tasks .1 in
+    omega (
+      arith,
+      mul-le-mul-right (s .ci) most,
+      mul-le-mul-right (s .co) most,
+      mul-le-mul-right (s .n) most,
+      mul-le-mul-right (s .cm) (mul-le-mul-right (s .n) most),
+      mul-le-mul-right (s .cm) most,
+      r .inputs,
+      r .outputs,
+      r .messages,
+    )
 
 -- the smallest T is 54
 pub smallest-total : (s : Shape) (im : List ℕ) → Laid s im → 54 ≤ total s

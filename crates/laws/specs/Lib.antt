@@ -7,3 +7,5 @@ pub mod Queues
 pub mod Sound
 pub mod Every
 pub mod Checked
+pub mod Rows
+pub mod Fresh

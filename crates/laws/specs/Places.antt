@@ -3,8 +3,7 @@ use mathlib.Core.Path.{_≡_, refl, sym, ap}
 use mathlib.Core.List.{List}
 use mathlib.Core.Logic.{_≢_}
 use Prim.Native.Nat.{ℕ, zero, suc, _+_, _*_, _<_, _≤_}
-use native.Mathlib.Nat.{mul-le-mul-right, le-refl}
-use native.Mathlib.Decide.{le-ind}
+use native.Mathlib.Nat.{mul-le-mul-right}
 use native.Mathlib.Omega.{arith}
 use lib.ListN.{getD}
 use Rattle.paper.specs.Image.{most-words, parts, ord, rows, width, size, begin, start, total, cell, Valid, place}
@@ -12,6 +11,7 @@ use Rattle.paper.specs.Rules.{Fit}
 use Rattle.paper.specs.declared.Shape.{Shape}
 use Rattle.paper.specs.declared.Cell.{Cell}
 use Rattle.paper.specs.declared.Part.{Part}
+use Rattle.laws.specs.Rows.{rising}
 
 -- a row and a column within a table of rows of width w
 pub row-below : (w : ℕ) {i m k : ℕ} → i < m → k < w → i * w + k < m * w
@@ -33,7 +33,7 @@ column-same w i j k l hk hl e =
     omega arith
 
 -- the list of parts and their order agree
-part-at : (p : Part) → getD parts (ord p) Part.Segments ≡ p
+pub part-at : (p : Part) → getD parts (ord p) Part.Segments ≡ p
 part-at Part.Header = refl
 part-at Part.TaskTable = refl
 part-at Part.ReadyQueue = refl
@@ -45,7 +45,7 @@ part-at Part.Ports = refl
 part-at Part.SegmentTable = refl
 part-at Part.Segments = refl
 
-ord-below : (p : Part) → ord p < 10
+pub ord-below : (p : Part) → ord p < 10
 ord-below Part.Header = omega arith
 ord-below Part.TaskTable = omega arith
 ord-below Part.ReadyQueue = omega arith
@@ -62,7 +62,7 @@ part-ends : (s : Shape) (p : Part) → start s p + size s p ≡ begin s (suc (or
 part-ends s p = rw part-at
 
 begins-later : (s : Shape) (a b : ℕ) → a ≤ b → begin s a ≤ begin s b
-begins-later s a b h = le-ind (λ m. begin s a ≤ begin s m) (le-refl _) (λ m _ ih. omega arith) b h
+begins-later s a b h = rising (begin s) (λ k. omega arith) a b h
 
 -- a cell lies in its part
 pub from-start : (s : Shape) (c : Cell) → start s (c .part) ≤ place s c .0

@@ -36,7 +36,7 @@ pub word-valid : (s : Shape) (q : Queue) (k : ℕ) → Has s q → k < lead + he
 word-valid s q k h l = (queue-row s q h, rw (queue-width s q) l)
 
 -- the words held, one more at the end
-words-snoc : (s : Shape) (im : List ℕ) (q : Queue) (h n : ℕ)
+pub words-snoc : (s : Shape) (im : List ℕ) (q : Queue) (h n : ℕ)
     → words-from s im q h (suc n) ≡ words-from s im q h n ++ (at s im (slot s q (steps h n (at s im (capacity s q)))) ∷ [])
 words-snoc s im q h zero = refl
 words-snoc s im q h (suc n) = ap {B = List ℕ} (λ (l : List ℕ). at s im (slot s q h) ∷ l) (words-snoc s im q (step h (at s im (capacity s q))) n)

@@ -4,8 +4,6 @@ use mathlib.Core.List.{List}
 use mathlib.Core.Bool.{Bool, true, false, cond}
 use mathlib.Core.Logic.{_≢_}
 use Prim.Native.Nat.{ℕ, zero, suc, _+_, _-_, _*_, _<_, _≤_}
-use native.Mathlib.Nat.{le-refl}
-use native.Mathlib.Decide.{le-ind}
 use native.Mathlib.Omega.{arith}
 use borrow.Author.Tests.{lt-ltb, le-ltb, ltb-true, ltb-false}
 use lib.Dec.{T, ltb, ltb→lt}
@@ -20,6 +18,7 @@ use Rattle.paper.specs.declared.Cell.{Cell}
 use Rattle.paper.specs.declared.Part.{Part}
 use Rattle.paper.specs.declared.Reach.{Reach}
 use Rattle.laws.specs.Places.{before-part}
+use Rattle.laws.specs.Rows.{rising}
 
 -- what an answer of `reach` tells
 module _ (s : Shape) (im : List ℕ) (i : Task) (a : Address) where
@@ -57,7 +56,7 @@ abbrev pub segment-cell : Shape → Place → Cell
 segment-cell s p = cell Part.Segments 0 (p .0 - start s Part.Segments)
 
 pub starts-later : (s : Shape) (im : List ℕ) (a b : ℕ) → a ≤ b → segment-start s im a ≤ segment-start s im b
-starts-later s im a b h = le-ind (λ m. segment-start s im a ≤ segment-start s im m) (le-refl _) (λ m _ ih. omega arith) b h
+starts-later s im a b h = rising (segment-start s im) (λ k. omega arith) a b h
 
 module _ (s : Shape) (im : List ℕ) (laid : Laid s im) where
   -- the segment of a task lies between the tables and T

@@ -6,6 +6,7 @@
 
 #![forbid(unsafe_code)]
 
+pub mod building;
 pub mod cases;
 pub mod check;
 pub mod damage;

@@ -161,7 +161,8 @@ mod tests {
         assert_eq!(size(&plan), Ok(10662));
         let image = image(&plan, 10662);
         assert_eq!(image[15..18], [10646, 10662, 1]);
-        assert_eq!(image[162..182].iter().sum::<u16>(), 16 + 16 + 15 * 16 / 2);
+        assert_eq!(image[162..166], [0, 0, 16, 16]);
+        assert!((0..16).eq(image[166..182].iter().copied()));
         assert_eq!(image[10644..10648], [10661, 1, 0, 0]);
     }
 

@@ -1,5 +1,7 @@
 //! A small seeded generator: the same seed gives the same vectors.
 
+use crate::layout::word;
+
 /// SplitMix64.
 pub struct Rng {
     state: u64,
@@ -42,6 +44,17 @@ impl Rng {
     pub fn word(&mut self) -> u16 {
         let any = self.any_word();
         *self.pick(&[0, 1, 2, 255, 256, 32768, 65535, any, any, any])
+    }
+
+    /// A word near an old one, or one below a limit, or any.
+    pub fn changed(&mut self, old: u16, limit: usize) -> u16 {
+        match self.below(5) {
+            0 => old.wrapping_add(1),
+            1 => old.wrapping_sub(1),
+            2 => old ^ (1 << self.below(16)),
+            3 => word(self.below(limit)),
+            _ => self.word(),
+        }
     }
 
     /// A character, 0..255, in which both ends are common.

@@ -48,6 +48,11 @@ pub fn all() -> Vec<Fault> {
     under_five_words().into_iter().chain(out_of_range()).chain(rest).collect()
 }
 
+/// Every fault of a plan that gives this number.
+pub fn of_number(number: u16) -> Vec<Fault> {
+    all().into_iter().filter(|fault| fault.expected == number).collect()
+}
+
 /// One fault of the list that this good draft can have, carried out.
 pub fn any(rng: &mut Rng, draft: &Draft, faults: &[Fault]) -> Draft {
     loop {
@@ -57,8 +62,8 @@ pub fn any(rng: &mut Rng, draft: &Draft, faults: &[Fault]) -> Draft {
     }
 }
 
-/// A value out of range on top of a fault of number 11, so that the order of
-/// the tests decides.
+/// A value out of range on top of one fault of the list, so that the order
+/// of the tests decides.
 pub fn two(rng: &mut Rng, draft: &Draft, faults: &[Fault]) -> Draft {
     let mut faulty = any(rng, draft, faults);
     let &(_, place, value) = rng.pick(&OUT_OF_RANGE);
@@ -259,7 +264,7 @@ mod tests {
     #[test]
     fn out_of_range_comes_before_all_but_under_five_words() {
         let mut rng = Rng::new(5);
-        let faults = all();
+        let faults = of_number(numbers::PLAN);
         for _ in 0..500 {
             let draft = Draft::random(&mut rng);
             let words = two(&mut rng, &draft, &faults).words();

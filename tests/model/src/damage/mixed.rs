@@ -32,19 +32,8 @@ pub fn noise(rng: &mut Rng, kernel: &Kernel) -> Vec<u16> {
     let mut words = kernel.encode();
     let reach = if rng.percent(90) { kernel.layout().first_segment } else { words.len() };
     let place = rng.below(reach);
-    words[place] = changed(rng, words[place]);
+    words[place] = rng.changed(words[place], 6);
     words
-}
-
-/// A word near the old one, or a small one, or any.
-fn changed(rng: &mut Rng, old: u16) -> u16 {
-    match rng.below(5) {
-        0 => old.wrapping_add(1),
-        1 => old.wrapping_sub(1),
-        2 => old ^ (1 << rng.below(16)),
-        3 => word(rng.below(6)),
-        _ => rng.word(),
-    }
 }
 
 /// The image with a random task's status, flags, peer and R2 guessed, and the
