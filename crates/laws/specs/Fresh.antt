@@ -36,7 +36,7 @@ pub record Planned (plan : List ℕ) : Type 0 where
   pub ends : length plan ≡ program-start plan (plan-tasks plan)
 
 -- a later program starts later
-programs-later : (plan : List ℕ) (a b : ℕ) → a ≤ b → program-start plan a ≤ program-start plan b
+pub programs-later : (plan : List ℕ) (a b : ℕ) → a ≤ b → program-start plan a ≤ program-start plan b
 programs-later plan = rising (program-start plan) (λ k. omega arith)
 
 -- a number is not below another
@@ -68,7 +68,7 @@ pub planned-back : (plan : List ℕ) → Planned plan → check-plan plan ≡ Ve
 planned-back plan r = planned-is plan .1 r
 
 -- a fresh queue has four words and its slots
-queue-long : (c : ℕ) → length (fresh-queue c) ≡ lead + c
+pub queue-long : (c : ℕ) → length (fresh-queue c) ≡ lead + c
 queue-long c = simp length-replicate (omega arith)
 
 -- its length: the ready queue is full, the others are empty
@@ -96,7 +96,7 @@ fresh-counts s fit (Queue.Message i j) = none-counts _ (fit .messages .0)
 -- the image of a plan that passes
 module _ (plan : List ℕ) (fine : check-plan plan ≡ Verdict.Fine) where
   -- a segment is as long as its pair says
-  segment-long : (k : ℕ) → k < plan-tasks plan → length (fresh-segment plan k) ≡ segment-length plan k
+  pub segment-long : (k : ℕ) → k < plan-tasks plan → length (fresh-segment plan k) ≡ segment-length plan k
   segment-long k h =
       let r = planned plan fine in
       let whole : program-length plan k ≤ length (drop (program-start plan k) plan) =
@@ -124,7 +124,7 @@ module _ (plan : List ℕ) (fine : check-plan plan ≡ Verdict.Fine) where
   part-length p = joined-length _ _ (fresh-row (plan-shape plan) plan p) (λ i _. row-length p i)
 
   -- and ends where the next begins
-  part-next : (k : ℕ) → k < 10
+  pub part-next : (k : ℕ) → k < 10
       → begin (plan-shape plan) (suc k) ≡ begin (plan-shape plan) k + length (fresh-part (plan-shape plan) plan (getD parts k Part.Segments))
   part-next k h = rw part-length
 

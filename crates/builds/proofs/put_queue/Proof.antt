@@ -1,0 +1,19 @@
+-- Assumes nothing.
+use native.Mathlib.Omega.{arith}
+use Rattle.builds.specs.Needs.{then-on}
+use borrow.Author.Needs.{needs}
+use Rattle.builds.proofs.put_queue.Statement.{statement}
+use Rattle.builds.proofs.put_queue.Tie as tie
+
+returns : tie.Need-returns
+returns c = (omega arith, then-on _ _ _ _ _ _ _ (c .before .before .before .before .before .before .put-lead .ensures .1) (c .before .before .before .before .before .before .put-lead .ensures .0) (c .before .before .put-zeros .ensures .1))
+
+pub put-queue-spec : {M : Type 1} → statement M
+put-queue-spec =
+    tie.close
+    (tie.spec
+    (λ c. search needs)
+    (λ c κs. search needs)
+    (λ c κs. search needs)
+    (λ c. search needs)
+    returns)

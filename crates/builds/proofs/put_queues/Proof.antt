@@ -1,0 +1,46 @@
+-- The queues before row k are written. Assumes nothing.
+use mathlib.Core.Path.{_∙_}
+use Prim.Native.Nat.{_+_, _-_, _≤_}
+use native.Mathlib.Omega.{arith}
+use Rattle.paper.specs.Plans.{fresh-queue}
+use Rattle.writes.specs.Written.{kept-length}
+use Rattle.builds.specs.Needs.{Rows, no-wide-rows, wide-row-more, wide-row-room, rows-done, by-width}
+use Rattle.laws.specs.Fresh.{queue-long}
+use borrow.Author.Needs.{needs}
+use Rattle.builds.proofs.put_queues.Statement.{statement}
+use Rattle.builds.proofs.put_queues.Tie as tie
+
+abbrev Inv-loop : tie.InvT-loop
+Inv-loop out₀ at rows capacity next₀ k₀ out next k = Rows (λ i. fresh-queue capacity) (by-width (4 + capacity)) out₀ at k next out × (k ≤ rows)
+
+abbrev μ-loop : tie.MeasureT-loop
+μ-loop out₀ at rows capacity next₀ k₀ out next k = rows - k
+
+loop-holds : tie.Need-loop-holds Inv-loop μ-loop
+loop-holds c = (no-wide-rows _ _ _ _, omega arith)
+
+put-queue-requires : tie.Need-put-queue-requires Inv-loop μ-loop
+put-queue-requires c κs = (c .before .before .before .before .pre .0 .1, wide-row-room _ _ _ _ _ _ _ (c .before .before .loop .inv .0) (queue-long _) _ (c .before .loop-test .taken) (c .before .before .before .before .pre .1))
+
+loop-again : tie.Need-loop-again Inv-loop μ-loop
+loop-again c = (wide-row-more _ _ _ _ _ _ _ (c .before .before .before .before .before .loop .inv .0) (queue-long _) _ _ (c .before .before .put-queue .ensures .1) (c .before .before .put-queue .ensures .0), omega arith)
+
+same-length : tie.Need-same-length Inv-loop μ-loop
+same-length c = kept-length _ _ _ _ (c .before .loop .inv .0 .made)
+
+returns : tie.Need-returns Inv-loop μ-loop
+returns c = rows-done _ _ _ _ _ _ _ (c .before .loop .inv .0) _ (c .loop-test .left) (c .before .loop .inv .1)
+
+pub put-queues-spec : {M : Type 1} → statement M
+put-queues-spec =
+    tie.close
+    (tie.spec
+    Inv-loop
+    μ-loop
+    loop-holds
+    put-queue-requires
+    (λ c. search needs)
+    (λ c. search needs)
+    loop-again
+    same-length
+    returns)

@@ -1,0 +1,19 @@
+-- Assumes nothing.
+use native.Mathlib.Omega.{arith}
+use Rattle.builds.specs.Needs.{then-again}
+use borrow.Author.Needs.{needs}
+use Rattle.builds.proofs.put_task.Statement.{statement}
+use Rattle.builds.proofs.put_task.Tie as tie
+
+returns : tie.Need-returns
+returns c = (omega arith, then-again _ _ _ _ _ _ _ (c .before .before .before .before .before .before .before .before .before .before .put-word .ensures .1) (c .before .before .before .before .before .before .before .before .before .before .put-word .ensures .0) (c .before .before .before .before .before .before .put-word2 .ensures .1) _ _ _ (c .before .before .before .before .before .before .put-word2 .ensures .0) (c .before .before .put-zeros .ensures .1))
+
+pub put-task-spec : {M : Type 1} → statement M
+put-task-spec =
+    tie.close
+    (tie.spec
+    (λ c κs. search needs)
+    (λ c κs. search needs)
+    (λ c κs. search needs)
+    (λ c. search needs)
+    returns)

@@ -1,0 +1,52 @@
+-- The tasks before k are written. Assumes nothing.
+use mathlib.Core.Path.{refl, ap, _∙_}
+use mathlib.Core.List.{List, _∷_}
+use Prim.Native.Nat.{ℕ, _+_, _-_, _≤_}
+use native.Mathlib.Omega.{arith}
+use lib.ListN.{replicate}
+use Rattle.paper.specs.Plans.{fresh-row}
+use Rattle.paper.specs.declared.Part.{Part}
+use Rattle.writes.specs.Written.{kept-length}
+use Rattle.builds.specs.Needs.{Rows, no-wide-rows, wide-row-more, wide-row-room, rows-done, by-width, plan-few, task-made}
+use borrow.Author.Needs.{needs}
+use Rattle.builds.proofs.put_tasks.Statement.{statement}
+use Rattle.builds.proofs.put_tasks.Tie as tie
+
+abbrev Inv-loop : tie.InvT-loop
+Inv-loop s plan out₀ at next₀ k₀ out next k = Rows (fresh-row s plan Part.TaskTable) (by-width 9) out₀ at k next out × (k ≤ s .n)
+
+abbrev μ-loop : tie.MeasureT-loop
+μ-loop s plan out₀ at next₀ k₀ out next k = s .n - k
+
+loop-holds : tie.Need-loop-holds Inv-loop μ-loop
+loop-holds c = (no-wide-rows _ _ _ _, omega arith)
+
+length-of-requires : tie.Need-length-of-requires Inv-loop μ-loop
+length-of-requires c κs = omega (arith, plan-few _ _ (c .before .before .before .before .before .before .pre .0))
+
+put-task-requires : tie.Need-put-task-requires Inv-loop μ-loop
+put-task-requires c κs = wide-row-room _ _ _ _ _ _ _ (c .before .before .before .before .loop .inv .0) refl _ (c .before .before .if1 .taken) (c .before .before .before .before .before .before .before .pre .1)
+
+loop-again : tie.Need-loop-again Inv-loop μ-loop
+loop-again c = (wide-row-more _ _ _ _ _ _ _ (c .before .before .before .before .before .before .before .loop .inv .0) refl _ _ (task-made (c .before .before .before .before .before .before .before .before .before .before .args .s) (c .before .before .before .before .before .before .before .before .before .before .args .plan .now) (c .before .before .before .before .before .before .before .loop .k) _ _ _ _ (c .before .before .before .length-of .ensures) (c .before .before .put-task .ensures .1)) (c .before .before .put-task .ensures .0), omega arith)
+
+same-length : tie.Need-same-length Inv-loop μ-loop
+same-length c = kept-length _ _ _ _ (c .before .before .loop .inv .0 .made)
+
+returns : tie.Need-returns Inv-loop μ-loop
+returns c = rows-done _ _ _ _ _ _ _ (c .before .before .loop .inv .0) _ (c .if1 .left) (c .before .before .loop .inv .1)
+
+pub put-tasks-spec : {M : Type 1} → statement M
+put-tasks-spec =
+    tie.close
+    (tie.spec
+    Inv-loop
+    μ-loop
+    loop-holds
+    length-of-requires
+    put-task-requires
+    (λ c. search needs)
+    (λ c. search needs)
+    loop-again
+    same-length
+    returns)
