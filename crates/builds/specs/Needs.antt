@@ -7,7 +7,7 @@ use native.Mathlib.Numerals.{add-one}
 use native.Mathlib.Omega.{arith}
 use lib.ListN.{length, getD, take, drop, replicate, length-append, length-drop, length-replicate, replicate-append-replicate}
 use lib.Seq.{length-take-le}
-use Rattle.paper.specs.Image.{most-words, start, total, header}
+use Rattle.paper.specs.Image.{mark, edition, most-words, begin, start, offsets, total, header}
 use Rattle.paper.specs.Plans.{plan-tasks, segment-length, program-length, segment-words, program-start, joined, fresh-queue, fresh-row, fresh-part, fresh-segment, fresh, plan-shape}
 use Rattle.paper.specs.Numbers.{check-plan}
 use Rattle.paper.specs.declared.Shape.{Shape}
@@ -15,7 +15,9 @@ use Rattle.paper.specs.declared.Part.{Part}
 use Rattle.paper.specs.declared.Verdict.{Verdict}
 use Rattle.paper.specs.Rules.{Fit}
 use Rattle.laws.specs.Rows.{rising}
-use Rattle.laws.specs.Layout.{total-is}
+use Rattle.laws.specs.Places.{begins-later}
+use Rattle.laws.specs.Layout.{total-is, largest-offset}
+use Rattle.plans.specs.Needs.{Packed}
 use Rattle.laws.specs.Fresh.{planned, programs-later, segment-long}
 use Rattle.writes.specs.Written.{written, written-none, written-on, kept-length}
 
@@ -138,3 +140,54 @@ segment-made plan k l p l′ p′ from at o out el ep el′ ep′ ef eo = rw (eo
 pub next-program : (plan : List ℕ) (k p p′ from : ℕ) → from ≡ program-start plan k → p ≡ program-length plan k → p′ ≡ p
     → from + p′ ≡ program-start plan (k + 1)
 next-program plan k p p′ from ef ep ep′ = rw (add-one, ef, ep′, ep)
+
+-- the segments, one after another
+module _ (s : Shape) (plan : List ℕ) (p : Plan s plan) where
+  pub first-program : 5 + 2 * s .n ≡ program-start plan 0
+  first-program = rw (plan-count s plan p)
+
+  -- what task k's segment asks: its program lies in the plan, fits the segment, and there is room
+  pub segment-asks : (k l q l′ q′ from : ℕ) → k < s .n → l ≡ segment-length plan k → q ≡ program-length plan k → l′ ≡ l → q′ ≡ q
+      → from ≡ program-start plan k → (q′ ≤ l′) × (from + q′ ≤ length plan)
+  segment-asks k l q l′ q′ from h el eq el′ eq′ ef =
+      (omega (arith, program-fits s plan p k h), omega (arith, program-inside s plan p k h))
+
+  module _ (o : List ℕ) (at k next : ℕ) (out : List ℕ) (r : Rows (fresh-segment plan) (segment-words plan) o at k next out) where
+    pub segment-room : (l l′ : ℕ) → k < s .n → l ≡ segment-length plan k → l′ ≡ l → at + s .words ≤ length o → next + l′ ≤ length out
+    segment-room l l′ h el el′ room =
+        omega (arith, r .place, kept-length o out at _ (r .made), words-upto s plan p (suc k) h)
+
+    pub segment-more : (out′ : List ℕ) (next′ l l′ : ℕ) → k < s .n → l ≡ segment-length plan k → l′ ≡ l → out′ ≡ written out next (fresh-segment plan k)
+        → next′ ≡ next + l′ → Rows (fresh-segment plan) (segment-words plan) o at (k + 1) next′ out′
+    segment-more out′ next′ l l′ h el el′ eo en =
+        let e = segment-size s plan p k h in
+        row-more (fresh-segment plan) (segment-words plan) o at k next out r out′ next′ (rw e) eo (omega arith)
+
+    pub segments-done : s .n ≤ k → k ≤ s .n → (next ≡ at + s .words) × (out ≡ written o at (joined (s .n) (fresh-segment plan)))
+    segments-done h l =
+        let d = rows-done (fresh-segment plan) (segment-words plan) o at k next out r (s .n) h l in
+        (d .0 ∙ ap (λ (x : ℕ). at + x) (sym (plan-words s plan p)), d .1)
+
+-- the offsets are the starts of the parts after the header, and small
+offset-is : (s : Shape) (k : ℕ) → k < 9 → getD (offsets s) k 0 ≡ begin s (suc k)
+offset-is s zero h = refl
+offset-is s (suc zero) h = refl
+offset-is s (suc (suc zero)) h = refl
+offset-is s (suc (suc (suc zero))) h = refl
+offset-is s (suc (suc (suc (suc zero)))) h = refl
+offset-is s (suc (suc (suc (suc (suc zero))))) h = refl
+offset-is s (suc (suc (suc (suc (suc (suc zero)))))) h = refl
+offset-is s (suc (suc (suc (suc (suc (suc (suc zero))))))) h = refl
+offset-is s (suc (suc (suc (suc (suc (suc (suc (suc zero)))))))) h = refl
+offset-is s (suc (suc (suc (suc (suc (suc (suc (suc (suc k))))))))) h = absurd (omega arith)
+
+pub offset-small : (s : Shape) → Packed s → (k : ℕ) → k < 9 → getD (s .starts) k 0 ≤ 10646
+offset-small s p k h = rw (p .packed, offset-is s k h) (omega (arith, begins-later s (suc k) 9 h, largest-offset s (p .ranged)))
+
+-- the header as it is written
+pub header-made : (s : Shape) (t : ℕ) (o out : List ℕ) → Packed s → t ≡ total s
+    → out ≡ written o 0 (mark ∷ edition ∷ s .n ∷ s .slice ∷ s .ci ∷ s .co ∷ s .cm ∷ getD (s .starts) 0 0 ∷ getD (s .starts) 1 0 ∷
+    getD (s .starts) 2 0 ∷ getD (s .starts) 3 0 ∷ getD (s .starts) 4 0 ∷ getD (s .starts) 5 0 ∷ getD (s .starts) 6 0 ∷ getD (s .starts) 7 0 ∷
+    getD (s .starts) 8 0 ∷ t ∷ s .slice ∷ [])
+    → out ≡ written o 0 (header s ++ (s .slice ∷ []))
+header-made s t o out p et eo = rw (eo, et, p .packed)

@@ -61,7 +61,7 @@ ord-below Part.Segments = omega arith
 part-ends : (s : Shape) (p : Part) → start s p + size s p ≡ begin s (suc (ord p))
 part-ends s p = rw part-at
 
-begins-later : (s : Shape) (a b : ℕ) → a ≤ b → begin s a ≤ begin s b
+pub begins-later : (s : Shape) (a b : ℕ) → a ≤ b → begin s a ≤ begin s b
 begins-later s a b h = rising (begin s) (λ k. omega arith) a b h
 
 -- a cell lies in its part
