@@ -1,193 +1,126 @@
 -- What the calls of this crate ask and make, as laws over values. Assumes nothing.
 use mathlib.Core.Path.{_≡_, refl, sym, ap, _∙_}
 use mathlib.Core.List.{List, [], _∷_, _++_, append-assoc}
-use Prim.Native.Nat.{ℕ, zero, suc, _+_, _-_, _*_, _<_, _≤_}
-use native.Mathlib.Nat.{mul-le-mul-right, suc-mul, zero-mul}
-use native.Mathlib.Numerals.{add-one}
+use mathlib.Core.Bool.{Bool, true, false, not}
+use mathlib.Core.Logic.{_≢_}
+use Prim.Native.Nat.{ℕ, zero, suc, _+_, _*_, _<_, _≤_}
+use native.Mathlib.Nat.{suc-mul, zero-mul}
 use native.Mathlib.Omega.{arith}
-use lib.ListN.{length, getD, take, drop, replicate, length-append, length-drop, length-replicate, replicate-append-replicate}
-use lib.Seq.{length-take-le}
-use Rattle.paper.specs.Image.{mark, edition, most-words, begin, start, offsets, total, header}
-use Rattle.paper.specs.Plans.{plan-tasks, segment-length, program-length, segment-words, program-start, joined, fresh-queue, fresh-row, fresh-part, fresh-segment, fresh, plan-shape}
-use Rattle.paper.specs.Numbers.{check-plan}
+use borrow.Author.Tests.{eq-eqb, ne-eqb}
+use lib.Dec.{eqb}
+use lib.ListN.{length, getD, replicate, length-append, replicate-append-replicate}
+use Rattle.paper.specs.Image.{lead, parts, size, begin, total}
+use Rattle.paper.specs.Plans.{joined, fresh-part, fresh, plan-shape}
+use Rattle.paper.specs.Numbers.{verdict-number, check-plan, check-build}
+use Rattle.paper.specs.Calls.{built}
 use Rattle.paper.specs.declared.Shape.{Shape}
 use Rattle.paper.specs.declared.Part.{Part}
+use Rattle.paper.specs.declared.Refusal.{Refusal}
 use Rattle.paper.specs.declared.Verdict.{Verdict}
-use Rattle.paper.specs.Rules.{Fit}
-use Rattle.laws.specs.Rows.{rising}
-use Rattle.laws.specs.Places.{begins-later}
-use Rattle.laws.specs.Layout.{total-is, largest-offset}
-use Rattle.plans.specs.Needs.{Packed}
-use Rattle.laws.specs.Fresh.{planned, programs-later, segment-long}
-use Rattle.writes.specs.Written.{written, written-none, written-on, kept-length}
+use Rattle.laws.specs.Fresh.{part-length, fresh-length}
+use Rattle.writes.specs.Written.{written, written-all}
+use Rattle.parts.specs.Needs.{Plan, then-on, then-again}
 
--- the shape of an accepted plan
-pub record Plan (s : Shape) (plan : List ℕ) : Type 0 where
-  pub shape : s ≡ plan-shape plan
-  pub fine : check-plan plan ≡ Verdict.Fine
+-- rows of zeros
+pub zero-rows : (n w : ℕ) → replicate (n * w) 0 ≡ joined n (λ i. replicate w 0)
+zero-rows zero w = rw (zero-mul w)
+zero-rows (suc n) w = rw (suc-mul n w, ← zero-rows n w) (sym (replicate-append-replicate (n * w) w 0))
 
--- two lists written one after another, and a third
-module _ (o a b : List ℕ) (at p : ℕ) (x y : List ℕ) (ea : a ≡ written o at x) (ep : p ≡ at + length x) (eb : b ≡ written a p y) where
-  pub then-on : b ≡ written o at (x ++ y)
-  then-on = rw (eb, ea, ep) (written-on o at x y)
+-- the size of a part of the fresh image
+pub part-size : (s : Shape) (plan : List ℕ) → Plan s plan → (p : Part) → length (fresh-part s plan p) ≡ size s p
+part-size s plan h p = rw (h .shape) (part-length plan (h .fine) p)
 
-  pub then-again : (c : List ℕ) (q : ℕ) (z : List ℕ) → q ≡ p + length y → c ≡ written b q z → c ≡ written o at ((x ++ y) ++ z)
-  then-again c q z eq ec =
-      rw (ec, then-on) (ap (λ (k : ℕ). written (written o at (x ++ y)) k z) (eq ∙ rw length-append (omega arith)) ∙ written-on o at (x ++ y) z)
+-- ten lists in three groups are the ten one after another
+ten-lists : (a b c d e f g h i j : List ℕ)
+    → ((((a ++ b) ++ c) ++ d) ++ ((e ++ f) ++ g)) ++ ((h ++ i) ++ j) ≡ ((((((((a ++ b) ++ c) ++ d) ++ e) ++ f) ++ g) ++ h) ++ i) ++ j
+ten-lists a b c d e f g h i j = simp append-assoc
 
--- rows so far: the first k lists of f written from place at on, list k to start pos k words later
-pub record Rows (f : ℕ → List ℕ) (pos : ℕ → ℕ) (o : List ℕ) (at k next : ℕ) (out : List ℕ) : Type 0 where
-  pub made : out ≡ written o at (joined k f)
-  pub place : next ≡ at + pos k
-  pub sized : length (joined k f) ≡ pos k
+-- the fresh image is its ten parts
+parts-joined : (s : Shape) (plan : List ℕ) → s ≡ plan-shape plan
+    → ((((fresh-part s plan Part.Header ++ fresh-part s plan Part.TaskTable) ++ fresh-part s plan Part.ReadyQueue) ++ fresh-part s plan Part.StatusTable) ++
+    ((fresh-part s plan Part.InputBuffers ++ fresh-part s plan Part.OutputBuffers) ++ fresh-part s plan Part.MessageBuffers)) ++
+    ((fresh-part s plan Part.Ports ++ fresh-part s plan Part.SegmentTable) ++ fresh-part s plan Part.Segments) ≡ fresh plan
+unfolding fresh
+parts-joined s plan e =
+    ten-lists (fresh-part s plan Part.Header) (fresh-part s plan Part.TaskTable) (fresh-part s plan Part.ReadyQueue) (fresh-part s plan Part.StatusTable)
+    (fresh-part s plan Part.InputBuffers) (fresh-part s plan Part.OutputBuffers) (fresh-part s plan Part.MessageBuffers) (fresh-part s plan Part.Ports)
+    (fresh-part s plan Part.SegmentTable) (fresh-part s plan Part.Segments) ∙
+    ap (λ (x : Shape). joined 10 (λ k. fresh-part x plan (getD parts k Part.Segments))) e
 
-module _ (f : ℕ → List ℕ) (pos : ℕ → ℕ) (o : List ℕ) (at : ℕ) where
-  pub no-rows : pos 0 ≡ 0 → Rows f pos o at 0 at o
-  no-rows e = record { made = sym (written-none o at); place = omega arith; sized = sym e; }
+-- the parts of an accepted plan's image, as they are written
+module _ (s : Shape) (plan : List ℕ) (h : Plan s plan) where
+  -- where a part that starts at place at ends
+  after : (p : Part) (at q : ℕ) → q ≡ at + size s p → q ≡ at + length (fresh-part s plan p)
+  after p at q e = e ∙ ap (λ (x : ℕ). at + x) (sym (part-size s plan h p))
 
-  module _ (k next : ℕ) (out : List ℕ) (r : Rows f pos o at k next out) where
-    pub row-more : (out′ : List ℕ) (next′ : ℕ) → pos (suc k) ≡ pos k + length (f k) → out′ ≡ written out next (f k) → next′ ≡ next + length (f k)
-        → Rows f pos o at (k + 1) next′ out′
-    row-more out′ next′ e eo en =
-        record {
-          made = rw add-one (then-on o out out′ at next (joined k f) (f k) (r .made) (r .place ∙ ap (λ (x : ℕ). at + x) (sym (r .sized))) eo);
-          place = rw (add-one, e) (omega (arith, r .place));
-          sized = rw (add-one, e) (length-append (joined k f) (f k) ∙ omega (arith, r .sized));
-        }
+  pub tables-made : (o a b c d : List ℕ) (p q r : ℕ) → a ≡ written o 0 (fresh-part s plan Part.Header) → p ≡ 18
+      → b ≡ written a p (fresh-part s plan Part.TaskTable) → q ≡ p + s .n * 9
+      → c ≡ written b q (fresh-part s plan Part.ReadyQueue) → r ≡ q + (lead + s .n)
+      → d ≡ written c r (replicate (s .n * 2) 0)
+      → d ≡ written o 0 (((fresh-part s plan Part.Header ++ fresh-part s plan Part.TaskTable) ++ fresh-part s plan Part.ReadyQueue) ++ fresh-part s plan Part.StatusTable)
+  tables-made o a b c d p q r ea ep eb eq ec er ed =
+      let x = fresh-part s plan Part.Header in
+      let y = fresh-part s plan Part.TaskTable in
+      let z = fresh-part s plan Part.ReadyQueue in
+      let e1 : p ≡ 0 + length x = after Part.Header 0 p (omega arith) in
+      let e2 : q ≡ p + length y = after Part.TaskTable p q eq in
+      let e3 : r ≡ q + length z = after Part.ReadyQueue q r (omega arith) in
+      let w : r ≡ 0 + length ((x ++ y) ++ z) = simp length-append (omega arith) in
+      then-on o c d 0 r ((x ++ y) ++ z) (fresh-part s plan Part.StatusTable)
+      (then-again o a b 0 p x y ea e1 eb c q z e2 ec) w (ed ∙ ap (written c r) (zero-rows (s .n) 2))
 
-    pub row-room : (n : ℕ) → pos (suc k) ≡ pos k + length (f k) → pos (suc k) ≤ pos n → at + pos n ≤ length o → next + length (f k) ≤ length out
-    row-room n e h room = omega (arith, r .place, kept-length o out at (joined k f) (r .made))
+  pub buffers-made : (o a b c : List ℕ) (at p q : ℕ) → a ≡ written o at (fresh-part s plan Part.InputBuffers) → p ≡ at + s .n * (lead + s .ci)
+      → b ≡ written a p (fresh-part s plan Part.OutputBuffers) → q ≡ p + s .n * (lead + s .co) → c ≡ written b q (fresh-part s plan Part.MessageBuffers)
+      → c ≡ written o at ((fresh-part s plan Part.InputBuffers ++ fresh-part s plan Part.OutputBuffers) ++ fresh-part s plan Part.MessageBuffers)
+  buffers-made o a b c at p q ea ep eb eq ec =
+      then-again o a b at p _ _ ea (after Part.InputBuffers at p ep) eb c q _ (after Part.OutputBuffers p q eq) ec
 
-    pub rows-done : (n : ℕ) → n ≤ k → k ≤ n → (next ≡ at + pos n) × (out ≡ written o at (joined n f))
-    rows-done n h l = let z : n ≡ k = omega arith in rw z (r .place, r .made)
+  pub rest-made : (o a b c : List ℕ) (at p q : ℕ) → a ≡ written o at (replicate (s .n * 2) 0) → p ≡ at + s .n * 2
+      → b ≡ written a p (fresh-part s plan Part.SegmentTable) → q ≡ p + s .n * 2 → c ≡ written b q (fresh-part s plan Part.Segments)
+      → c ≡ written o at ((fresh-part s plan Part.Ports ++ fresh-part s plan Part.SegmentTable) ++ fresh-part s plan Part.Segments)
+  rest-made o a b c at p q ea ep eb eq ec =
+      then-again o a b at p _ _ (ea ∙ ap (written o at) (zero-rows (s .n) 2)) (after Part.Ports at p ep) eb c q _ (after Part.SegmentTable p q eq) ec
 
--- rows of one width w
-abbrev pub by-width : ℕ → ℕ → ℕ
-by-width w k = k * w
+  -- the three stages make the fresh image
+  pub image-made : (o a b c : List ℕ) (p q : ℕ) → length o ≡ total s
+      → a ≡ written o 0 (((fresh-part s plan Part.Header ++ fresh-part s plan Part.TaskTable) ++ fresh-part s plan Part.ReadyQueue) ++ fresh-part s plan Part.StatusTable)
+      → p ≡ begin s 4
+      → b ≡ written a p ((fresh-part s plan Part.InputBuffers ++ fresh-part s plan Part.OutputBuffers) ++ fresh-part s plan Part.MessageBuffers)
+      → q ≡ begin s 7
+      → c ≡ written b q ((fresh-part s plan Part.Ports ++ fresh-part s plan Part.SegmentTable) ++ fresh-part s plan Part.Segments)
+      → c ≡ fresh plan
+  image-made o a b c p q long ea ep eb eq ec =
+      let size-of : (k : Part) → length (fresh-part s plan k) ≡ size s k = part-size s plan h in
+      let e1 : p ≡ 0 + length (((fresh-part s plan Part.Header ++ fresh-part s plan Part.TaskTable) ++ fresh-part s plan Part.ReadyQueue) ++ fresh-part s plan Part.StatusTable) =
+      simp length-append (omega (arith, size-of Part.Header, size-of Part.TaskTable, size-of Part.ReadyQueue, size-of Part.StatusTable)) in
+      let e2 : q ≡ p + length ((fresh-part s plan Part.InputBuffers ++ fresh-part s plan Part.OutputBuffers) ++ fresh-part s plan Part.MessageBuffers) =
+      simp length-append (omega (arith, size-of Part.InputBuffers, size-of Part.OutputBuffers, size-of Part.MessageBuffers)) in
+      then-again o a b 0 p _ _ ea e1 eb c q _ e2 ec ∙ ap (written o 0) (parts-joined s plan (h .shape)) ∙
+      written-all o (fresh plan) (long ∙ ap total (h .shape) ∙ sym (fresh-length plan (h .fine)))
 
-module _ (f : ℕ → List ℕ) (w : ℕ) (o : List ℕ) (at : ℕ) where
-  pub no-wide-rows : Rows f (by-width w) o at 0 at o
-  no-wide-rows = no-rows f (by-width w) o at (zero-mul w)
+-- the answer and the target
+module _ (plan target : List ℕ) where
+  pub refused-number : (r : Refusal) → check-plan plan ≡ Verdict.Refused r → verdict-number (Verdict.Refused r) ≡ verdict-number (check-build plan target)
+  unfolding check-build
+  refused-number r e = rw e
 
-  module _ (k next : ℕ) (out : List ℕ) (r : Rows f (by-width w) o at k next out) (e : length (f k) ≡ w) where
-    pub wide-row-more : (out′ : List ℕ) (next′ : ℕ) → out′ ≡ written out next (f k) → next′ ≡ next + w → Rows f (by-width w) o at (k + 1) next′ out′
-    wide-row-more out′ next′ eo en =
-        row-more f (by-width w) o at k next out r out′ next′ (suc-mul k w ∙ ap (λ (x : ℕ). k * w + x) (sym e)) eo (en ∙ ap (λ (x : ℕ). next + x) (sym e))
+  pub refused-target : (r : Refusal) → check-plan plan ≡ Verdict.Refused r → target ≡ built plan target
+  unfolding built check-build
+  refused-target r e = rw e
 
-    pub wide-row-room : (n : ℕ) → k < n → at + n * w ≤ length o → next + w ≤ length out
-    wide-row-room n h room = omega (arith, r .place, kept-length o out at (joined k f) (r .made), mul-le-mul-right w h, suc-mul k w)
+  module _ (fine : check-plan plan ≡ Verdict.Fine) (s : Shape) (es : s ≡ plan-shape plan) (t : ℕ) (et : t ≡ total s) where
+    pub wrong-number : length target ≢ t → verdict-number (Verdict.Refused Refusal.WrongTarget) ≡ verdict-number (check-build plan target)
+    unfolding check-build
+    wrong-number ne = rw (fine, ← es, ← et, ne-eqb (length target) t ne)
 
--- a program within its plan has its length
-pub program-size : (plan : List ℕ) (from p at r : ℕ) → from + p ≤ length plan → r ≡ at + p → r ≡ at + length (take p (drop from plan))
-program-size plan from p at r h e =
-    e ∙ ap (λ (x : ℕ). at + x) (sym (length-take-le p (drop from plan) (simp length-drop (omega arith))))
+    pub wrong-target : length target ≢ t → target ≡ built plan target
+    unfolding built check-build
+    wrong-target ne = rw (fine, ← es, ← et, ne-eqb (length target) t ne)
 
--- what an accepted plan fixes
-module _ (s : Shape) (plan : List ℕ) (p : Plan s plan) where
-  pub plan-fit : Fit s
-  plan-fit = rw (p .shape) (planned plan (p .fine) .fit)
+    pub built-number : length target ≡ t → 0 ≡ verdict-number (check-build plan target)
+    unfolding check-build
+    built-number e = rw (fine, ← es, ← et, eq-eqb (length target) t e)
 
-  pub plan-few : s .n ≤ 16
-  plan-few = plan-fit .tasks .1
-
-  pub plan-count : s .n ≡ plan-tasks plan
-  unfolding plan-shape
-  plan-count = rw (p .shape)
-
-  -- the segments before that of task k fit the image
-  pub plan-words : s .words ≡ segment-words plan (s .n)
-  unfolding plan-shape
-  plan-words = rw (p .shape)
-
-  pub words-upto : (k : ℕ) → k ≤ s .n → segment-words plan k ≤ s .words
-  words-upto k h = omega (arith, plan-words, rising (segment-words plan) (λ j. omega arith) k (s .n) h)
-
-  pub base-small : (k b : ℕ) → k ≤ s .n → b ≡ start s Part.Segments + segment-words plan k → b ≤ most-words
-  base-small k b h e = omega (arith, words-upto k h, total-is s, plan-fit .words)
-
-  pub first-base : getD (s .starts) 8 0 ≡ start s Part.Segments + segment-words plan 0
-  first-base = rw (plan-fit .packed) (omega arith)
-
-  -- the program and the segment of task k
-  pub program-inside : (k : ℕ) → k < s .n → program-start plan k + program-length plan k ≤ length plan
-  program-inside k h =
-      omega (arith, programs-later plan (suc k) (s .n) h, planned plan (p .fine) .ends, ap (program-start plan) plan-count)
-
-  pub program-fits : (k : ℕ) → k < s .n → program-length plan k ≤ segment-length plan k
-  program-fits k h = planned plan (p .fine) .pairs k (omega (arith, plan-count)) .1
-
-  pub segment-size : (k : ℕ) → k < s .n → length (fresh-segment plan k) ≡ segment-length plan k
-  segment-size k h = segment-long plan (p .fine) k (omega (arith, plan-count))
-
--- a task's row as it is written
-pub task-made : (s : Shape) (plan : List ℕ) (k l at : ℕ) (o out : List ℕ) → l ≡ segment-length plan k
-    → out ≡ written o at (0 ∷ l ∷ replicate 7 0) → out ≡ written o at (fresh-row s plan Part.TaskTable k)
-task-made s plan k l at o out el eo = rw (eo, el)
-
--- an entry of the segment table, and a segment, as they are written
-pub entry-made : (s : Shape) (plan : List ℕ) (k l b at : ℕ) (o out : List ℕ) → l ≡ segment-length plan k
-    → b ≡ start s Part.Segments + segment-words plan k → out ≡ written o at (b ∷ l ∷ []) → out ≡ written o at (fresh-row s plan Part.SegmentTable k)
-entry-made s plan k l b at o out el eb eo = rw (eo, el, eb)
-
-pub next-base : (s : Shape) (plan : List ℕ) (k l w b : ℕ) → b ≡ start s Part.Segments + segment-words plan k → l ≡ segment-length plan k → w ≡ l
-    → b + w ≡ start s Part.Segments + segment-words plan (k + 1)
-next-base s plan k l w b eb el ew = rw (add-one, eb, ew, el) (omega arith)
-
-pub segment-made : (plan : List ℕ) (k l p l′ p′ from at : ℕ) (o out : List ℕ) → l ≡ segment-length plan k → p ≡ program-length plan k → l′ ≡ l → p′ ≡ p
-    → from ≡ program-start plan k → out ≡ written o at (take p′ (drop from plan) ++ replicate (l′ - p′) 0) → out ≡ written o at (fresh-segment plan k)
-segment-made plan k l p l′ p′ from at o out el ep el′ ep′ ef eo = rw (eo, ef, el′, ep′, el, ep)
-
-pub next-program : (plan : List ℕ) (k p p′ from : ℕ) → from ≡ program-start plan k → p ≡ program-length plan k → p′ ≡ p
-    → from + p′ ≡ program-start plan (k + 1)
-next-program plan k p p′ from ef ep ep′ = rw (add-one, ef, ep′, ep)
-
--- the segments, one after another
-module _ (s : Shape) (plan : List ℕ) (p : Plan s plan) where
-  pub first-program : 5 + 2 * s .n ≡ program-start plan 0
-  first-program = rw (plan-count s plan p)
-
-  -- what task k's segment asks: its program lies in the plan, fits the segment, and there is room
-  pub segment-asks : (k l q l′ q′ from : ℕ) → k < s .n → l ≡ segment-length plan k → q ≡ program-length plan k → l′ ≡ l → q′ ≡ q
-      → from ≡ program-start plan k → (q′ ≤ l′) × (from + q′ ≤ length plan)
-  segment-asks k l q l′ q′ from h el eq el′ eq′ ef =
-      (omega (arith, program-fits s plan p k h), omega (arith, program-inside s plan p k h))
-
-  module _ (o : List ℕ) (at k next : ℕ) (out : List ℕ) (r : Rows (fresh-segment plan) (segment-words plan) o at k next out) where
-    pub segment-room : (l l′ : ℕ) → k < s .n → l ≡ segment-length plan k → l′ ≡ l → at + s .words ≤ length o → next + l′ ≤ length out
-    segment-room l l′ h el el′ room =
-        omega (arith, r .place, kept-length o out at _ (r .made), words-upto s plan p (suc k) h)
-
-    pub segment-more : (out′ : List ℕ) (next′ l l′ : ℕ) → k < s .n → l ≡ segment-length plan k → l′ ≡ l → out′ ≡ written out next (fresh-segment plan k)
-        → next′ ≡ next + l′ → Rows (fresh-segment plan) (segment-words plan) o at (k + 1) next′ out′
-    segment-more out′ next′ l l′ h el el′ eo en =
-        let e = segment-size s plan p k h in
-        row-more (fresh-segment plan) (segment-words plan) o at k next out r out′ next′ (rw e) eo (omega arith)
-
-    pub segments-done : s .n ≤ k → k ≤ s .n → (next ≡ at + s .words) × (out ≡ written o at (joined (s .n) (fresh-segment plan)))
-    segments-done h l =
-        let d = rows-done (fresh-segment plan) (segment-words plan) o at k next out r (s .n) h l in
-        (d .0 ∙ ap (λ (x : ℕ). at + x) (sym (plan-words s plan p)), d .1)
-
--- the offsets are the starts of the parts after the header, and small
-offset-is : (s : Shape) (k : ℕ) → k < 9 → getD (offsets s) k 0 ≡ begin s (suc k)
-offset-is s zero h = refl
-offset-is s (suc zero) h = refl
-offset-is s (suc (suc zero)) h = refl
-offset-is s (suc (suc (suc zero))) h = refl
-offset-is s (suc (suc (suc (suc zero)))) h = refl
-offset-is s (suc (suc (suc (suc (suc zero))))) h = refl
-offset-is s (suc (suc (suc (suc (suc (suc zero)))))) h = refl
-offset-is s (suc (suc (suc (suc (suc (suc (suc zero))))))) h = refl
-offset-is s (suc (suc (suc (suc (suc (suc (suc (suc zero)))))))) h = refl
-offset-is s (suc (suc (suc (suc (suc (suc (suc (suc (suc k))))))))) h = absurd (omega arith)
-
-pub offset-small : (s : Shape) → Packed s → (k : ℕ) → k < 9 → getD (s .starts) k 0 ≤ 10646
-offset-small s p k h = rw (p .packed, offset-is s k h) (omega (arith, begins-later s (suc k) 9 h, largest-offset s (p .ranged)))
-
--- the header as it is written
-pub header-made : (s : Shape) (t : ℕ) (o out : List ℕ) → Packed s → t ≡ total s
-    → out ≡ written o 0 (mark ∷ edition ∷ s .n ∷ s .slice ∷ s .ci ∷ s .co ∷ s .cm ∷ getD (s .starts) 0 0 ∷ getD (s .starts) 1 0 ∷
-    getD (s .starts) 2 0 ∷ getD (s .starts) 3 0 ∷ getD (s .starts) 4 0 ∷ getD (s .starts) 5 0 ∷ getD (s .starts) 6 0 ∷ getD (s .starts) 7 0 ∷
-    getD (s .starts) 8 0 ∷ t ∷ s .slice ∷ [])
-    → out ≡ written o 0 (header s ++ (s .slice ∷ []))
-header-made s t o out p et eo = rw (eo, et, p .packed)
+    pub built-target : (out : List ℕ) → length target ≡ t → out ≡ fresh plan → out ≡ built plan target
+    unfolding built check-build
+    built-target out e eo = rw (fine, ← es, ← et, eq-eqb (length target) t e) eo

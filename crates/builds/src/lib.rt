@@ -1,223 +1,112 @@
-// Building an image from a plan: the fresh image's words, part by part, each written once.
+// Building an image from a plan.
 ghost use mathlib.Core.Path.{_≡_};
 ghost use mathlib.Core.List.{[], _∷_, _++_};
-ghost use Prim.Native.Nat.{_+_, _-_, _*_, _≤_, _<_};
-ghost use lib.ListN.{length as list-length, take, drop, replicate};
-ghost use Rattle.paper.specs.Image.{header, start, total};
-ghost use Rattle.paper.specs.Plans.{segment-words, program-start, joined, fresh-queue, fresh-part, fresh, plan-shape};
-ghost use Rattle.paper.specs.Numbers.{verdict-number, check-plan, check-build};
+ghost use Prim.Native.Nat.{_+_, _*_, _≤_};
+ghost use lib.ListN.{length, replicate};
+ghost use Rattle.paper.specs.Image.{lead, begin, size, total};
+ghost use Rattle.paper.specs.Plans.{joined, fresh-part, fresh};
+ghost use Rattle.paper.specs.Numbers.{verdict-number, check-build};
 ghost use Rattle.paper.specs.Calls.{built};
-ghost use Rattle.paper.specs.declared.Part.the-variants.{TaskTable, ReadyQueue, StatusTable, InputBuffers, OutputBuffers, MessageBuffers, Ports, SegmentTable, Segments};
-ghost use Rattle.paper.specs.declared.Verdict.the-variants.{Fine};
+ghost use Rattle.paper.specs.declared.Part.the-variants.{Header, TaskTable, ReadyQueue, StatusTable, InputBuffers, OutputBuffers, MessageBuffers, Ports, SegmentTable, Segments};
 ghost use Rattle.plans.specs.Needs.{Packed};
 ghost use Rattle.writes.specs.Written.{written};
-ghost use Rattle.builds.specs.Needs.{Plan};
+ghost use Rattle.parts.specs.Needs.{Plan};
 use numbers::number_of_verdict;
 use paper::Refusal;
 use paper::Shape;
 use paper::Verdict;
-use places::wide;
-use plans::length_of;
-use plans::program_of;
+use parts::put_header;
+use parts::put_lead;
+use parts::put_numbers;
+use parts::put_queues;
+use parts::put_segments;
+use parts::put_table;
+use parts::put_tasks;
 use plans::shape_of_plan;
 use plans::total_of;
 use plans::verdict;
-use writes::put_word;
-use writes::put_words;
 use writes::put_zeros;
-
-const MARK: u16 = 19284;
-
-const EDITION: u16 = 1;
-
-const HEADER_WORDS: usize = 18;
-
-// The words of a plan before its pairs, and of a pair.
-const LEADING_WORDS: usize = 5;
 
 const PAIR_WORDS: usize = 2;
 
-// The words of a task after R1.
-const LATER_WORDS: usize = 7;
+// The ready queue: all tasks in order.
+fn put_ready(s: Shape, plan: &[u16], out: &mut [u16], at: usize) -> usize
+    requires { ⌜ Plan s (now plan) ⌝ }
+    requires { ⌜ at + (lead + s .n) ≤ length (now out) ⌝ }
+    ensures { λ r. ⌜ r ≡ at + (lead + s .n) ⌝ }
+    ensures { λ _. ⌜ now (out .exit) ≡ written (now (out .entry)) at (fresh-part s (now (plan .entry)) ReadyQueue) ⌝ }
+{
+    let n = s.n;
+    let slots = put_lead(out, at, n as u16, n as u16);
+    put_numbers(out, slots, n)
+}
 
-// The header and the clock.
-fn put_header(s: Shape, out: &mut [u16]) -> usize
+// The header, the task table, the ready queue and the status table.
+fn put_tables(s: Shape, plan: &[u16], out: &mut [u16]) -> usize
+    requires { ⌜ Plan s (now plan) ⌝ }
     requires { ⌜ Packed s ⌝ }
-    requires { ⌜ total s ≤ 32768 ⌝ }
-    requires { ⌜ 18 ≤ list-length (now out) ⌝ }
-    ensures { λ r. ⌜ r ≡ 18 ⌝ }
-    ensures { λ _. ⌜ now (out .exit) ≡ written (now (out .entry)) 0 (header s ++ (s .slice ∷ [])) ⌝ }
+    requires { ⌜ begin s 4 ≤ length (now out) ⌝ }
+    ensures { λ r. ⌜ r ≡ begin s 4 ⌝ }
+    ensures { λ _. ⌜ now (out .exit) ≡ written (now (out .entry)) 0 (((fresh-part s (now (plan .entry)) Header ++ fresh-part s (now (plan .entry)) TaskTable) ++ fresh-part s (now (plan .entry)) ReadyQueue) ++ fresh-part s (now (plan .entry)) StatusTable) ⌝ }
 {
-    let o = s.starts;
-    let t = total_of(s) as u16;
-    let words = [
-        MARK,
-        EDITION,
-        s.n as u16,
-        s.slice,
-        s.ci as u16,
-        s.co as u16,
-        s.cm as u16,
-        o[0] as u16,
-        o[1] as u16,
-        o[2] as u16,
-        o[3] as u16,
-        o[4] as u16,
-        o[5] as u16,
-        o[6] as u16,
-        o[7] as u16,
-        o[8] as u16,
-        t,
-        s.slice,
-    ];
-    put_words(out, 0, &words, 0, HEADER_WORDS)
+    let tasks = put_header(s, out);
+    let ready = put_tasks(s, plan, out, tasks);
+    let status = put_ready(s, plan, out, ready);
+    put_zeros(out, status, s.n * PAIR_WORDS)
 }
 
-// A task: R1 = L, all else 0.
-fn put_task(out: &mut [u16], at: usize, length: u16) -> usize
-    requires { ⌜ at + 9 ≤ list-length (now out) ⌝ }
-    ensures { λ r. ⌜ r ≡ at + 9 ⌝ }
-    ensures { λ _. ⌜ now (out .exit) ≡ written (now (out .entry)) at (0 ∷ length ∷ replicate 7 0) ⌝ }
-{
-    let stack = put_word(out, at, 0);
-    let later = put_word(out, stack, length);
-    put_zeros(out, later, LATER_WORDS)
-}
-
-// The leading words of a queue that starts at slot 0.
-fn put_lead(out: &mut [u16], at: usize, count: u16, capacity: u16) -> usize
-    requires { ⌜ at + 4 ≤ list-length (now out) ⌝ }
-    ensures { λ r. ⌜ r ≡ at + 4 ⌝ }
-    ensures { λ _. ⌜ now (out .exit) ≡ written (now (out .entry)) at (0 ∷ 0 ∷ count ∷ capacity ∷ []) ⌝ }
-{
-    let third = put_zeros(out, at, 2);
-    let last = put_word(out, third, count);
-    put_word(out, last, capacity)
-}
-
-// An empty queue.
-fn put_queue(out: &mut [u16], at: usize, capacity: usize) -> usize
-    requires { ⌜ capacity ≤ 32 ⌝ }
-    requires { ⌜ at + (4 + capacity) ≤ list-length (now out) ⌝ }
-    ensures { λ r. ⌜ r ≡ at + (4 + capacity) ⌝ }
-    ensures { λ _. ⌜ now (out .exit) ≡ written (now (out .entry)) at (fresh-queue capacity) ⌝ }
-{
-    let slots = put_lead(out, at, 0, capacity as u16);
-    put_zeros(out, slots, capacity)
-}
-
-// A segment's entry in the segment table.
-fn put_entry(out: &mut [u16], at: usize, base: u16, length: u16) -> usize
-    requires { ⌜ at + 2 ≤ list-length (now out) ⌝ }
-    ensures { λ r. ⌜ r ≡ at + 2 ⌝ }
-    ensures { λ _. ⌜ now (out .exit) ≡ written (now (out .entry)) at (base ∷ length ∷ []) ⌝ }
-{
-    let second = put_word(out, at, base);
-    put_word(out, second, length)
-}
-
-// A segment: program words followed by zeros.
-fn put_segment(
-    out: &mut [u16],
-    at: usize,
-    plan: &[u16],
-    from: usize,
-    program: usize,
-    length: usize,
-) -> usize
-    requires { ⌜ (program ≤ length) × (from + program ≤ list-length (now plan)) ⌝ }
-    requires { ⌜ at + length ≤ list-length (now out) ⌝ }
-    ensures { λ r. ⌜ r ≡ at + length ⌝ }
-    ensures { λ _. ⌜ now (out .exit) ≡ written (now (out .entry)) at (take program (drop from (now (plan .entry))) ++ replicate (length - program) 0) ⌝ }
-{
-    let zeros = put_words(out, at, plan, from, program);
-    put_zeros(out, zeros, length - program)
-}
-
-// The numbers 0..n-1.
-fn put_numbers(out: &mut [u16], at: usize, n: usize) -> usize
-    requires { ⌜ n ≤ 16 ⌝ }
-    requires { ⌜ at + n ≤ list-length (now out) ⌝ }
-    ensures { λ r. ⌜ r ≡ at + n ⌝ }
-    ensures { λ _. ⌜ now (out .exit) ≡ written (now (out .entry)) at (joined n (λ k. k ∷ [])) ⌝ }
-{
-    let mut next = at;
-    let mut k: usize = 0;
-    while k < n {
-        next = put_word(out, next, k as u16);
-        k += 1;
-    }
-    next
-}
-
-// Rows of empty queues.
-fn put_queues(out: &mut [u16], at: usize, rows: usize, capacity: usize) -> usize
-    requires { ⌜ (rows ≤ 256) × (capacity ≤ 32) ⌝ }
-    requires { ⌜ at + rows * (4 + capacity) ≤ list-length (now out) ⌝ }
-    ensures { λ r. ⌜ r ≡ at + rows * (4 + capacity) ⌝ }
-    ensures { λ _. ⌜ now (out .exit) ≡ written (now (out .entry)) at (joined rows (λ i. fresh-queue capacity)) ⌝ }
-{
-    let mut next = at;
-    let mut k: usize = 0;
-    while k < rows {
-        next = put_queue(out, next, capacity);
-        k += 1;
-    }
-    next
-}
-
-// The task table.
-fn put_tasks(s: Shape, plan: &[u16], out: &mut [u16], at: usize) -> usize
+// The input, output and message buffers.
+fn put_buffers(s: Shape, plan: &[u16], out: &mut [u16], at: usize) -> usize
     requires { ⌜ Plan s (now plan) ⌝ }
-    requires { ⌜ at + s .n * 9 ≤ list-length (now out) ⌝ }
-    ensures { λ r. ⌜ r ≡ at + s .n * 9 ⌝ }
-    ensures { λ _. ⌜ now (out .exit) ≡ written (now (out .entry)) at (fresh-part s (now (plan .entry)) TaskTable) ⌝ }
+    requires { ⌜ (at ≡ begin s 4) × (begin s 7 ≤ length (now out)) ⌝ }
+    ensures { λ r. ⌜ r ≡ begin s 7 ⌝ }
+    ensures { λ _. ⌜ now (out .exit) ≡ written (now (out .entry)) at ((fresh-part s (now (plan .entry)) InputBuffers ++ fresh-part s (now (plan .entry)) OutputBuffers) ++ fresh-part s (now (plan .entry)) MessageBuffers) ⌝ }
 {
-    let mut next = at;
-    let mut k: usize = 0;
-    while k < s.n {
-        next = put_task(out, next, length_of(plan, k));
-        k += 1;
-    }
-    next
+    let n = s.n;
+    let outputs = put_queues(out, at, n, s.ci);
+    let messages = put_queues(out, outputs, n, s.co);
+    put_queues(out, messages, n * n, s.cm)
 }
 
-// The segment table.
-fn put_table(s: Shape, plan: &[u16], out: &mut [u16], at: usize) -> usize
+// The ports, the segment table and the segments.
+fn put_rest(s: Shape, plan: &[u16], out: &mut [u16], at: usize) -> usize
     requires { ⌜ Plan s (now plan) ⌝ }
-    requires { ⌜ at + s .n * 2 ≤ list-length (now out) ⌝ }
-    ensures { λ r. ⌜ r ≡ at + s .n * 2 ⌝ }
-    ensures { λ _. ⌜ now (out .exit) ≡ written (now (out .entry)) at (fresh-part s (now (plan .entry)) SegmentTable) ⌝ }
+    requires { ⌜ (at ≡ begin s 7) × (total s ≤ length (now out)) ⌝ }
+    ensures { λ r. ⌜ r ≡ total s ⌝ }
+    ensures { λ _. ⌜ now (out .exit) ≡ written (now (out .entry)) at ((fresh-part s (now (plan .entry)) Ports ++ fresh-part s (now (plan .entry)) SegmentTable) ++ fresh-part s (now (plan .entry)) Segments) ⌝ }
 {
-    let starts = s.starts;
-    let mut base = starts[8];
-    let mut next = at;
-    let mut k: usize = 0;
-    while k < s.n {
-        let length = length_of(plan, k);
-        next = put_entry(out, next, base as u16, length);
-        base += wide(length);
-        k += 1;
-    }
-    next
+    let table = put_zeros(out, at, s.n * PAIR_WORDS);
+    let segments = put_table(s, plan, out, table);
+    put_segments(s, plan, out, segments)
 }
 
-// The segments.
-fn put_segments(s: Shape, plan: &[u16], out: &mut [u16], at: usize) -> usize
+// The fresh image of an accepted plan.
+fn put_image(s: Shape, plan: &[u16], out: &mut [u16])
     requires { ⌜ Plan s (now plan) ⌝ }
-    requires { ⌜ at + s .words ≤ list-length (now out) ⌝ }
-    ensures { λ r. ⌜ r ≡ at + s .words ⌝ }
-    ensures { λ _. ⌜ now (out .exit) ≡ written (now (out .entry)) at (fresh-part s (now (plan .entry)) Segments) ⌝ }
+    requires { ⌜ Packed s ⌝ }
+    requires { ⌜ length (now out) ≡ total s ⌝ }
+    ensures { λ _. ⌜ now (out .exit) ≡ fresh (now (plan .entry)) ⌝ }
 {
-    let mut from = LEADING_WORDS + PAIR_WORDS * s.n;
-    let mut next = at;
-    let mut k: usize = 0;
-    while k < s.n {
-        let length = wide(length_of(plan, k));
-        let program = wide(program_of(plan, k));
-        next = put_segment(out, next, plan, from, program, length);
-        from += program;
-        k += 1;
+    let inputs = put_tables(s, plan, out);
+    let ports = put_buffers(s, plan, out, inputs);
+    put_rest(s, plan, out, ports);
+}
+
+// Builds the image of a plan in the target: the number of the refusal, or 0.
+pub fn build(plan: &[u16], target: &mut [u16]) -> u16
+    ensures { λ r. ⌜ r ≡ verdict-number (check-build (now (plan .entry)) (now (target .entry))) ⌝ }
+    ensures { λ _. ⌜ now (target .exit) ≡ built (now (plan .entry)) (now (target .entry)) ⌝ }
+{
+    let found = verdict(plan);
+    match found {
+        Verdict::Refused(r) => number_of_verdict(Verdict::Refused(r)),
+        Verdict::Fine => {
+            let s = shape_of_plan(plan);
+            if target.len() != total_of(s) {
+                return number_of_verdict(Verdict::Refused(Refusal::WrongTarget));
+            }
+            put_image(s, plan, target);
+            0
+        }
     }
-    next
 }

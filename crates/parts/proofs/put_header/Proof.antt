@@ -2,10 +2,10 @@
 use mathlib.Core.Path.{_∙_}
 use native.Mathlib.Omega.{arith}
 use lib.Dec.{lit<}
-use Rattle.builds.specs.Needs.{offset-small, header-made}
+use Rattle.parts.specs.Needs.{offset-small, header-made}
 use borrow.Author.Needs.{needs}
-use Rattle.builds.proofs.put_header.Statement.{statement}
-use Rattle.builds.proofs.put_header.Tie as tie
+use Rattle.parts.proofs.put_header.Statement.{statement}
+use Rattle.parts.proofs.put_header.Tie as tie
 
 cast-t13 : tie.Need-cast-t13
 cast-t13 c = omega (arith, offset-small _ (c .before .before .before .before .before .before .before .pre .0) 0 (lit< tt))

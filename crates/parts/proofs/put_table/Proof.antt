@@ -6,10 +6,10 @@ use Rattle.paper.specs.Image.{start}
 use Rattle.paper.specs.Plans.{segment-words, fresh-row}
 use Rattle.paper.specs.declared.Part.{Part}
 use Rattle.writes.specs.Written.{kept-length}
-use Rattle.builds.specs.Needs.{Rows, no-wide-rows, wide-row-more, wide-row-room, rows-done, by-width, plan-few, first-base, base-small, entry-made, next-base}
+use Rattle.parts.specs.Needs.{Rows, no-wide-rows, wide-row-more, wide-row-room, rows-done, by-width, plan-few, first-base, base-small, entry-made, next-base}
 use borrow.Author.Needs.{needs}
-use Rattle.builds.proofs.put_table.Statement.{statement}
-use Rattle.builds.proofs.put_table.Tie as tie
+use Rattle.parts.proofs.put_table.Statement.{statement}
+use Rattle.parts.proofs.put_table.Tie as tie
 
 abbrev Inv-loop : tie.InvT-loop
 Inv-loop s plan out₀ at base₀ next₀ k₀ out base next k =

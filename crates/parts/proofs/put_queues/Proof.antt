@@ -4,11 +4,11 @@ use Prim.Native.Nat.{_+_, _-_, _≤_}
 use native.Mathlib.Omega.{arith}
 use Rattle.paper.specs.Plans.{fresh-queue}
 use Rattle.writes.specs.Written.{kept-length}
-use Rattle.builds.specs.Needs.{Rows, no-wide-rows, wide-row-more, wide-row-room, rows-done, by-width}
+use Rattle.parts.specs.Needs.{Rows, no-wide-rows, wide-row-more, wide-row-room, rows-done, by-width}
 use Rattle.laws.specs.Fresh.{queue-long}
 use borrow.Author.Needs.{needs}
-use Rattle.builds.proofs.put_queues.Statement.{statement}
-use Rattle.builds.proofs.put_queues.Tie as tie
+use Rattle.parts.proofs.put_queues.Statement.{statement}
+use Rattle.parts.proofs.put_queues.Tie as tie
 
 abbrev Inv-loop : tie.InvT-loop
 Inv-loop out₀ at rows capacity next₀ k₀ out next k = Rows (λ i. fresh-queue capacity) (by-width (4 + capacity)) out₀ at k next out × (k ≤ rows)

@@ -2,10 +2,10 @@
 use mathlib.Core.Path.{sym, ap, _∙_}
 use Prim.Native.Nat.{ℕ, _+_}
 use native.Mathlib.Omega.{arith}
-use Rattle.builds.specs.Needs.{then-on, program-size}
+use Rattle.parts.specs.Needs.{then-on, program-size}
 use borrow.Author.Needs.{needs}
-use Rattle.builds.proofs.put_segment.Statement.{statement}
-use Rattle.builds.proofs.put_segment.Tie as tie
+use Rattle.parts.proofs.put_segment.Statement.{statement}
+use Rattle.parts.proofs.put_segment.Tie as tie
 
 returns : tie.Need-returns
 returns c = (omega arith, then-on _ _ _ _ _ _ _ (c .before .before .before .before .before .before .put-words .ensures .1) (program-size _ _ _ _ _ (c .before .before .before .before .before .before .before .before .before .before .pre .0 .1) (c .before .before .before .before .before .before .put-words .ensures .0)) (c .before .before .put-zeros .ensures .1))

@@ -4,10 +4,10 @@ use mathlib.Core.List.{[], _∷_}
 use Prim.Native.Nat.{_-_, _≤_}
 use native.Mathlib.Omega.{arith}
 use Rattle.writes.specs.Written.{kept-length}
-use Rattle.builds.specs.Needs.{Rows, no-wide-rows, wide-row-more, wide-row-room, rows-done, by-width}
+use Rattle.parts.specs.Needs.{Rows, no-wide-rows, wide-row-more, wide-row-room, rows-done, by-width}
 use borrow.Author.Needs.{needs}
-use Rattle.builds.proofs.put_numbers.Statement.{statement}
-use Rattle.builds.proofs.put_numbers.Tie as tie
+use Rattle.parts.proofs.put_numbers.Statement.{statement}
+use Rattle.parts.proofs.put_numbers.Tie as tie
 
 abbrev Inv-loop : tie.InvT-loop
 Inv-loop out₀ at n next₀ k₀ out next k = Rows (λ j. j ∷ []) (by-width 1) out₀ at k next out × (k ≤ n)

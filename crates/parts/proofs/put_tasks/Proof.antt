@@ -7,10 +7,10 @@ use lib.ListN.{replicate}
 use Rattle.paper.specs.Plans.{fresh-row}
 use Rattle.paper.specs.declared.Part.{Part}
 use Rattle.writes.specs.Written.{kept-length}
-use Rattle.builds.specs.Needs.{Rows, no-wide-rows, wide-row-more, wide-row-room, rows-done, by-width, plan-few, task-made}
+use Rattle.parts.specs.Needs.{Rows, no-wide-rows, wide-row-more, wide-row-room, rows-done, by-width, plan-few, task-made}
 use borrow.Author.Needs.{needs}
-use Rattle.builds.proofs.put_tasks.Statement.{statement}
-use Rattle.builds.proofs.put_tasks.Tie as tie
+use Rattle.parts.proofs.put_tasks.Statement.{statement}
+use Rattle.parts.proofs.put_tasks.Tie as tie
 
 abbrev Inv-loop : tie.InvT-loop
 Inv-loop s plan out₀ at next₀ k₀ out next k = Rows (fresh-row s plan Part.TaskTable) (by-width 9) out₀ at k next out × (k ≤ s .n)

@@ -1,9 +1,9 @@
 -- Assumes nothing.
 use native.Mathlib.Omega.{arith}
-use Rattle.builds.specs.Needs.{then-on}
+use Rattle.parts.specs.Needs.{then-on}
 use borrow.Author.Needs.{needs}
-use Rattle.builds.proofs.put_queue.Statement.{statement}
-use Rattle.builds.proofs.put_queue.Tie as tie
+use Rattle.parts.proofs.put_queue.Statement.{statement}
+use Rattle.parts.proofs.put_queue.Tie as tie
 
 returns : tie.Need-returns
 returns c = (omega arith, then-on _ _ _ _ _ _ _ (c .before .before .before .before .before .before .put-lead .ensures .1) (c .before .before .before .before .before .before .put-lead .ensures .0) (c .before .before .put-zeros .ensures .1))

@@ -1,9 +1,9 @@
 -- Assumes nothing.
 use native.Mathlib.Omega.{arith}
-use Rattle.builds.specs.Needs.{then-on}
+use Rattle.parts.specs.Needs.{then-on}
 use borrow.Author.Needs.{needs}
-use Rattle.builds.proofs.put_entry.Statement.{statement}
-use Rattle.builds.proofs.put_entry.Tie as tie
+use Rattle.parts.proofs.put_entry.Statement.{statement}
+use Rattle.parts.proofs.put_entry.Tie as tie
 
 returns : tie.Need-returns
 returns c = (omega arith, then-on _ _ _ _ _ _ _ (c .before .before .before .before .before .before .put-word .ensures .1) (c .before .before .before .before .before .before .put-word .ensures .0) (c .before .before .put-word2 .ensures .1))

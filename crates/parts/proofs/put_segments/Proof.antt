@@ -4,10 +4,10 @@ use Prim.Native.Nat.{ℕ, _+_, _-_, _≤_}
 use native.Mathlib.Omega.{arith}
 use Rattle.paper.specs.Plans.{segment-words, program-start, fresh-segment}
 use Rattle.writes.specs.Written.{kept-length}
-use Rattle.builds.specs.Needs.{Rows, no-rows, plan-few, first-program, program-inside, segment-asks, segment-room, segment-made, segment-more, next-program, segments-done}
+use Rattle.parts.specs.Needs.{Rows, no-rows, plan-few, first-program, program-inside, segment-asks, segment-room, segment-made, segment-more, next-program, segments-done}
 use borrow.Author.Needs.{needs}
-use Rattle.builds.proofs.put_segments.Statement.{statement}
-use Rattle.builds.proofs.put_segments.Tie as tie
+use Rattle.parts.proofs.put_segments.Statement.{statement}
+use Rattle.parts.proofs.put_segments.Tie as tie
 
 abbrev Inv-loop : tie.InvT-loop
 Inv-loop s plan out₀ at from₀ next₀ k₀ out from next k =
