@@ -20,5 +20,6 @@ check-answer-spec =
     (λ c. search needs)
     slice-aggregate-check
     (λ c κs. search needs)
+    (λ c κs. search needs)
     (λ c. search needs)
     (λ c. search needs))

@@ -1,4 +1,4 @@
--- `replay_file` meets its contract: the loop keeps the length of the image, and has a turn less each time. Assumes nothing.
+-- `replay_file` meets its contract: the loop keeps the lengths of the words and the target, and has a turn less each time. Assumes nothing.
 use mathlib.Core.Path.{_≡_}
 use lib.ListN.{length}
 use borrow.Author.Needs.{needs}
@@ -6,10 +6,10 @@ use Rattle.replay.proofs.replay_file.Statement.{statement}
 use Rattle.replay.proofs.replay_file.Tie as tie
 
 abbrev Inv-loop : tie.InvT-loop
-Inv-loop fd im₀ tally₀ turns₀ im tally turns = length im ≡ length im₀
+Inv-loop fd kind words₀ target₀ tally₀ turns₀ words target tally turns = (length words ≡ length words₀) × (length target ≡ length target₀)
 
 abbrev μ-loop : tie.MeasureT-loop
-μ-loop fd im₀ tally₀ turns₀ im tally turns = turns
+μ-loop fd kind words₀ target₀ tally₀ turns₀ words target tally turns = turns
 
 pub replay-file-spec : {M : Type 1} → statement M
 replay-file-spec =
@@ -17,13 +17,9 @@ replay-file-spec =
     (tie.spec
     Inv-loop
     μ-loop
-    (λ c. search needs)
     (λ c κs. search needs)
     (λ c. search needs)
     (λ c κs. search needs)
-    (λ c. search needs)
-    (λ c. search needs)
-    (λ c. search needs)
     (λ c. search needs)
     (λ c κs. search needs)
     (λ c. search needs)
@@ -32,5 +28,13 @@ replay-file-spec =
     (λ c. search needs)
     (λ c. search needs)
     (λ c κs. search needs)
+    (λ c. search needs)
+    (λ c. search needs)
+    (λ c. search needs)
+    (λ c. search needs)
+    (λ c. search needs)
+    (λ c. search needs)
+    (λ c κs. search needs)
+    (λ c. search needs)
     (λ c. search needs)
     (λ c. search needs))

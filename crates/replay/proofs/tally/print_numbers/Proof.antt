@@ -1,14 +1,14 @@
 -- `print_numbers` meets its contract: the loop stops at the last number. Assumes nothing.
 use Prim.Native.Nat.{_≤_, _-_}
 use borrow.Author.Needs.{needs}
-use Rattle.replay.proofs.print_numbers.Statement.{statement}
-use Rattle.replay.proofs.print_numbers.Tie as tie
+use Rattle.replay.proofs.tally.print_numbers.Statement.{statement}
+use Rattle.replay.proofs.tally.print_numbers.Tie as tie
 
 abbrev Inv-loop : tie.InvT-loop
-Inv-loop name numbers i₀ i = i ≤ 7
+Inv-loop name numbers tally i₀ i-end i = i ≤ i-end
 
 abbrev μ-loop : tie.MeasureT-loop
-μ-loop name numbers i₀ i = 7 - i
+μ-loop name numbers tally i₀ i-end i = i-end - i
 
 pub print-numbers-spec : {M : Type 1} → statement M
 print-numbers-spec =
@@ -19,6 +19,7 @@ print-numbers-spec =
     (λ c. search needs)
     (λ c. search needs)
     (λ c. search needs)
+    (λ c κs. search needs)
     (λ c κs. search needs)
     (λ c. search needs)
     (λ c. search needs)

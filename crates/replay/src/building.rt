@@ -1,0 +1,196 @@
+// Replays the record of a build.
+use crate::files::CHUNK_WORDS;
+use crate::files::Found;
+use crate::files::Head;
+use crate::files::WORD_END;
+use crate::files::least;
+use crate::files::read_words;
+use crate::files::wide;
+use crate::tally::Answer;
+use crate::tally::compared;
+use crate::tally::worse;
+use numbers::number_of;
+use paper::Size;
+ghost use Prim.Native.Nat.{_≤_};
+ghost use lib.ListN.{length};
+
+// The words between a record's head and its plan.
+const MORE_WORDS: usize = 6;
+
+// The place of the low word of the target's count, after the head.
+const TARGET_LOW_AT: usize = 0;
+
+// The place of the high word of the target's count.
+const TARGET_HIGH_AT: usize = 1;
+
+// The place of the salt.
+const SALT_AT: usize = 2;
+
+// The place of the expected number of the size.
+const SIZE_NUMBER_AT: usize = 3;
+
+// The place of the low word of the expected size.
+const SIZE_LOW_AT: usize = 4;
+
+// The place of the high word of the expected size.
+const SIZE_HIGH_AT: usize = 5;
+
+// The number of a build that is not refused.
+const BUILT: u16 = 0;
+
+// How much each word of a salted target adds to the one before.
+const SALT_STEP: usize = 31;
+
+// What a record of a build says before its plan: counts of words, and what is expected.
+struct Case {
+    number: u16,
+    plan: usize,
+    target: usize,
+    salt: u16,
+    size_number: u16,
+    size: usize,
+}
+
+// The case of a record, or that its words end too early.
+enum Asked {
+    Replay(Case),
+    Bad,
+}
+
+// Reads what a record of a build says between its head and its plan.
+fn read_case(fd: i32, head: Head) -> Asked {
+    let mut words = [0u16; MORE_WORDS];
+    let found = read_words(fd, &mut words, MORE_WORDS);
+    let Found::All = found else {
+        return Asked::Bad;
+    };
+    Asked::Replay(Case {
+        number: head.number,
+        plan: head.count,
+        target: wide(words[TARGET_LOW_AT], words[TARGET_HIGH_AT]),
+        salt: words[SALT_AT],
+        size_number: words[SIZE_NUMBER_AT],
+        size: wide(words[SIZE_LOW_AT], words[SIZE_HIGH_AT]),
+    })
+}
+
+// The word of a salted target at a place.
+fn salted(place: usize, salt: u16) -> u16 {
+    ((place % WORD_END * SALT_STEP + salt as usize) % WORD_END) as u16
+}
+
+// Salts each word of a target.
+fn salt_words(target: &mut [u16], salt: u16) {
+    for i in 0..target.len() {
+        target[i] = salted(i, salt);
+    }
+}
+
+// Whether each word of a target is as salted.
+fn is_salted(target: &[u16], salt: u16) -> bool {
+    for i in 0..target.len() {
+        if target[i] != salted(i, salt) {
+            return false;
+        }
+    }
+    true
+}
+
+// Whether some words are the first of others.
+fn are_first(words: &[u16], of: &[u16]) -> bool
+    requires { ⌜ length (now words) ≤ length (now of) ⌝ }
+{
+    for i in 0..words.len() {
+        if words[i] != of[i] {
+            return false;
+        }
+    }
+    true
+}
+
+// Compares some words with the next ones of the file.
+fn stored_part(fd: i32, words: &[u16]) -> Answer
+    requires { do ⌜ length (now words) ≤ (← ⟦CHUNK_WORDS⟧) ⌝ }
+{
+    let mut stored = [0u16; CHUNK_WORDS];
+    let found = read_words(fd, &mut stored, words.len());
+    let Found::All = found else {
+        return Answer::Bad;
+    };
+    compared(are_first(words, &stored))
+}
+
+// Compares a target with the next words of the file.
+fn stored_answer(fd: i32, target: &[u16]) -> Answer {
+    let mut answer = Answer::Same;
+    let mut at: usize = 0;
+    while at < target.len() {
+        let end = at + least(target.len() - at, CHUNK_WORDS);
+        let part = stored_part(fd, &target[at..end]);
+        answer = worse(answer, part);
+        at = end;
+    }
+    answer
+}
+
+// Compares a target after the build with what it must hold.
+fn target_answer(fd: i32, target: &[u16], case: Case) -> Answer {
+    if case.number == BUILT {
+        return stored_answer(fd, target);
+    }
+    compared(is_salted(target, case.salt))
+}
+
+// The words that a plan needs, or 0 where it is refused.
+fn size_words(size: Size) -> usize {
+    match size {
+        Size::Words(n) => n,
+        Size::Refused(_) => 0,
+    }
+}
+
+// The number of a plan's refusal, or 0.
+fn size_number(size: Size) -> u16 {
+    match size {
+        Size::Words(_) => 0,
+        Size::Refused(r) => number_of(r),
+    }
+}
+
+// Whether the size of a plan is the one expected.
+fn is_sized(plan: &[u16], case: Case) -> bool {
+    let size = plans::size(plan);
+    size_number(size) == case.size_number && size_words(size) == case.size
+}
+
+// The answer to a plan and a target of the lengths that the record gives.
+fn built_answer(fd: i32, plan: &[u16], target: &mut [u16], case: Case) -> Answer {
+    salt_words(target, case.salt);
+    let number = builds::build(plan, target);
+    let left = target_answer(fd, target, case);
+    let sized = is_sized(plan, case);
+    worse(left, compared(number == case.number && sized))
+}
+
+// The answer to a case, its plan read from the file.
+fn case_answer(fd: i32, plan: &mut [u16], target: &mut [u16], case: Case) -> Answer {
+    let count = case.plan;
+    let room = case.target;
+    if count > plan.len() || room > target.len() {
+        return Answer::Bad;
+    }
+    let found = read_words(fd, plan, count);
+    let Found::All = found else {
+        return Answer::Bad;
+    };
+    built_answer(fd, &plan[..count], &mut target[..room], case)
+}
+
+// The answer to the record of a build.
+pub fn build_answer(fd: i32, plan: &mut [u16], target: &mut [u16], head: Head) -> Answer {
+    let asked = read_case(fd, head);
+    match asked {
+        Asked::Replay(case) => case_answer(fd, plan, target, case),
+        Asked::Bad => Answer::Bad,
+    }
+}

@@ -1,0 +1,130 @@
+// Reads words and the heads of records from a file.
+ghost use mathlib.Core.Path.{_≡_};
+ghost use Prim.Native.Nat.{_+_, _≤_, min};
+ghost use lib.ListN.{length};
+
+// The bytes of a word.
+const WORD_BYTES: usize = 2;
+
+// The most words that are read at a time.
+pub const CHUNK_WORDS: usize = 4096;
+
+// The most bytes that are read at a time.
+const CHUNK_BYTES: usize = WORD_BYTES * CHUNK_WORDS;
+
+// A byte is less than this.
+const BYTE_END: u16 = 256;
+
+// A word is less than this.
+pub const WORD_END: usize = 65536;
+
+// The words of a record's head.
+const HEAD_WORDS: usize = 4;
+
+// The place of a record's kind in its head.
+const KIND_AT: usize = 0;
+
+// The place of the expected number.
+const NUMBER_AT: usize = 1;
+
+// The place of the low word of the count.
+const LOW_AT: usize = 2;
+
+// The place of the high word of the count.
+const HIGH_AT: usize = 3;
+
+// How much of what was asked for a read found.
+pub enum Found {
+    All,
+    Part,
+    Nothing,
+}
+
+// The words that each record starts with: the count is that of the words under test.
+pub struct Head {
+    pub kind: u16,
+    pub number: u16,
+    pub count: usize,
+}
+
+// What comes next in a file.
+pub enum Next {
+    Record(Head),
+    End,
+    Bad,
+}
+
+// A word from its two bytes.
+fn word(low: u8, high: u8) -> u16 {
+    low as u16 + BYTE_END * (high as u16)
+}
+
+// A count from its two words.
+pub fn wide(low: u16, high: u16) -> usize {
+    low as usize + WORD_END * (high as usize)
+}
+
+// The smaller of two numbers.
+pub fn least(a: usize, b: usize) -> usize
+    ensures { λ r. ⌜ r ≡ min a b ⌝ }
+{
+    if a < b { a } else { b }
+}
+
+// Puts the words of the first bytes into words from place at on.
+fn unpack(bytes: &[u8; CHUNK_BYTES], words: &mut [u16], at: usize, count: usize)
+    requires { do ⌜ (count ≤ (← ⟦CHUNK_WORDS⟧)) × (at + count ≤ length (now words)) ⌝ }
+{
+    for i in 0..count {
+        let low = WORD_BYTES * i;
+        words[at + i] = word(bytes[low], bytes[low + 1]);
+    }
+}
+
+// Reads count words into words from place at on, and answers how many bytes were found.
+fn read_part(fd: i32, words: &mut [u16], at: usize, count: usize) -> usize
+    requires { do ⌜ (count ≤ (← ⟦CHUNK_WORDS⟧)) × (at + count ≤ length (now words)) ⌝ }
+{
+    let mut bytes = [0u8; CHUNK_BYTES];
+    let size = WORD_BYTES * count;
+    let got = io::read_full(fd, &mut bytes[..size]);
+    if got == size {
+        unpack(&bytes, words, at, count);
+    }
+    got
+}
+
+// Reads count words.
+pub fn read_words(fd: i32, words: &mut [u16], count: usize) -> Found
+    requires { ⌜ count ≤ length (now words) ⌝ }
+{
+    let mut at: usize = 0;
+    while at < count {
+        let part = least(count - at, CHUNK_WORDS);
+        let got = read_part(fd, words, at, part);
+        if got < WORD_BYTES * part {
+            return if at == 0 && got == 0 {
+                Found::Nothing
+            } else {
+                Found::Part
+            };
+        }
+        at += part;
+    }
+    Found::All
+}
+
+// Reads the head of the next record.
+pub fn read_head(fd: i32) -> Next {
+    let mut words = [0u16; HEAD_WORDS];
+    let found = read_words(fd, &mut words, HEAD_WORDS);
+    match found {
+        Found::All => Next::Record(Head {
+            kind: words[KIND_AT],
+            number: words[NUMBER_AT],
+            count: wide(words[LOW_AT], words[HIGH_AT]),
+        }),
+        Found::Part => Next::Bad,
+        Found::Nothing => Next::End,
+    }
+}

@@ -1,0 +1,137 @@
+// Counts the cases of a file and prints the counts.
+use libc::STDOUT_FILENO;
+
+// An expected number is less than this.
+const NUMBERS: usize = 13;
+
+// How many numbers a check may give.
+pub const CHECK_COUNT: usize = 7;
+
+// The numbers that a check may give.
+pub const CHECK_NUMBERS: [u16; CHECK_COUNT] = [0, 1, 2, 3, 4, 5, 6];
+
+// How many numbers a build may give.
+pub const BUILD_COUNT: usize = 4;
+
+// The numbers that a build may give.
+pub const BUILD_NUMBERS: [u16; BUILD_COUNT] = [0, 3, 11, 12];
+
+// How what the code under test says compares with a record, or that the record is bad.
+pub enum Answer {
+    Same,
+    Differs,
+    Bad,
+}
+
+// The cases replayed so far, by expected number; those that differ; whether a record was bad.
+pub struct Tally {
+    pub cases: [u64; NUMBERS],
+    pub differ: u64,
+    pub bad: bool,
+}
+
+// One more, or the same where there is no room.
+fn more(n: u64) -> u64 {
+    if n < u64::MAX { n + 1 } else { n }
+}
+
+// Whether a number is one of those listed.
+pub fn listed(numbers: &[u16], number: u16) -> bool {
+    for i in 0..numbers.len() {
+        if numbers[i] == number {
+            return true;
+        }
+    }
+    false
+}
+
+// The answer to what is the same or differs.
+pub fn compared(same: bool) -> Answer {
+    if same { Answer::Same } else { Answer::Differs }
+}
+
+// The worse of two answers.
+pub fn worse(a: Answer, b: Answer) -> Answer {
+    match a {
+        Answer::Same => b,
+        Answer::Differs => match b {
+            Answer::Bad => Answer::Bad,
+            _ => Answer::Differs,
+        },
+        Answer::Bad => Answer::Bad,
+    }
+}
+
+// The tally of no cases.
+pub fn empty() -> Tally {
+    Tally {
+        cases: [0; NUMBERS],
+        differ: 0,
+        bad: false,
+    }
+}
+
+// The tally with a bad record.
+pub fn spoiled(mut tally: Tally) -> Tally {
+    tally.bad = true;
+    tally
+}
+
+// The tally with one more case of a number.
+fn counted(mut tally: Tally, number: u16, differs: bool) -> Tally {
+    let place = number as usize;
+    if place >= NUMBERS {
+        return spoiled(tally);
+    }
+    tally.cases[place] = more(tally.cases[place]);
+    if differs {
+        tally.differ = more(tally.differ);
+    }
+    tally
+}
+
+// The tally with one more answer to a record that expects a number.
+pub fn answered(tally: Tally, number: u16, answer: Answer) -> Tally {
+    match answer {
+        Answer::Same => counted(tally, number, false),
+        Answer::Differs => counted(tally, number, true),
+        Answer::Bad => spoiled(tally),
+    }
+}
+
+// How many cases a number has.
+fn cases_of(tally: Tally, number: u16) -> u64 {
+    let place = number as usize;
+    if place < NUMBERS {
+        tally.cases[place]
+    } else {
+        0
+    }
+}
+
+// Prints how many cases a number has.
+fn print_line(name: &[u8], number: u16, cases: u64) {
+    io::write_all(STDOUT_FILENO, name);
+    io::print_decimal(STDOUT_FILENO, number as u64);
+    io::write_all(STDOUT_FILENO, b": ");
+    io::print_decimal(STDOUT_FILENO, cases);
+    io::write_all(STDOUT_FILENO, b" cases\n");
+}
+
+// Prints a line for each number listed.
+fn print_numbers(name: &[u8], numbers: &[u16], tally: Tally) {
+    for i in 0..numbers.len() {
+        let number = numbers[i];
+        print_line(name, number, cases_of(tally, number));
+    }
+}
+
+// Prints a tally, with a line for each number listed.
+pub fn print_tally(name: &[u8], numbers: &[u16], tally: Tally) {
+    if tally.bad {
+        io::write_all(STDOUT_FILENO, b"bad record\n");
+    }
+    print_numbers(name, numbers, tally);
+    io::print_decimal(STDOUT_FILENO, tally.differ);
+    io::write_all(STDOUT_FILENO, b" differ\n");
+}
