@@ -13,6 +13,7 @@ use Rattle.paper.specs.Image.{lead, parts, size, begin, total}
 use Rattle.paper.specs.Plans.{joined, fresh-part, fresh, plan-shape}
 use Rattle.paper.specs.Numbers.{verdict-number, check-plan, check-build}
 use Rattle.paper.specs.Calls.{built}
+use Rattle.paper.specs.Promises.{Builds}
 use Rattle.paper.specs.declared.Shape.{Shape}
 use Rattle.paper.specs.declared.Part.{Part}
 use Rattle.paper.specs.declared.Refusal.{Refusal}
@@ -100,27 +101,19 @@ module _ (s : Shape) (plan : List ℕ) (h : Plan s plan) where
 
 -- the answer and the target
 module _ (plan target : List ℕ) where
-  pub refused-number : (r : Refusal) → check-plan plan ≡ Verdict.Refused r → verdict-number (Verdict.Refused r) ≡ verdict-number (check-build plan target)
-  unfolding check-build
-  refused-number r e = rw e
-
-  pub refused-target : (r : Refusal) → check-plan plan ≡ Verdict.Refused r → target ≡ built plan target
+  pub refused-plan : (r : Refusal) (n : ℕ) → check-plan plan ≡ Verdict.Refused r → n ≡ verdict-number (Verdict.Refused r) → Builds plan target n target
   unfolding built check-build
-  refused-target r e = rw e
+  refused-plan r n e en = record { answered = rw (en, e); left = rw e }
 
   module _ (fine : check-plan plan ≡ Verdict.Fine) (s : Shape) (es : s ≡ plan-shape plan) (t : ℕ) (et : t ≡ total s) where
-    pub wrong-number : length target ≢ t → verdict-number (Verdict.Refused Refusal.WrongTarget) ≡ verdict-number (check-build plan target)
-    unfolding check-build
-    wrong-number ne = rw (fine, ← es, ← et, ne-eqb (length target) t ne)
-
-    pub wrong-target : length target ≢ t → target ≡ built plan target
+    pub refused-target : (n : ℕ) → length target ≢ t → n ≡ verdict-number (Verdict.Refused Refusal.WrongTarget) → Builds plan target n target
     unfolding built check-build
-    wrong-target ne = rw (fine, ← es, ← et, ne-eqb (length target) t ne)
+    refused-target n ne en =
+        let e = ne-eqb (length target) t ne in
+        record { answered = rw (en, fine, ← es, ← et, e); left = rw (fine, ← es, ← et, e) }
 
-    pub built-number : length target ≡ t → 0 ≡ verdict-number (check-build plan target)
-    unfolding check-build
-    built-number e = rw (fine, ← es, ← et, eq-eqb (length target) t e)
-
-    pub built-target : (out : List ℕ) → length target ≡ t → out ≡ fresh plan → out ≡ built plan target
+    pub built-plan : (out : List ℕ) → length target ≡ t → out ≡ fresh plan → Builds plan target 0 out
     unfolding built check-build
-    built-target out e eo = rw (fine, ← es, ← et, eq-eqb (length target) t e) eo
+    built-plan out long eo =
+        let e = eq-eqb (length target) t long in
+        record { answered = rw (fine, ← es, ← et, e); left = rw (fine, ← es, ← et, e) eo }

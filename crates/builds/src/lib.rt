@@ -5,8 +5,7 @@ ghost use Prim.Native.Nat.{_+_, _*_, _≤_};
 ghost use lib.ListN.{length, replicate};
 ghost use Rattle.paper.specs.Image.{lead, begin, size, total};
 ghost use Rattle.paper.specs.Plans.{joined, fresh-part, fresh};
-ghost use Rattle.paper.specs.Numbers.{verdict-number, check-build};
-ghost use Rattle.paper.specs.Calls.{built};
+ghost use Rattle.paper.specs.Promises.{Builds};
 ghost use Rattle.paper.specs.declared.Part.the-variants.{Header, TaskTable, ReadyQueue, StatusTable, InputBuffers, OutputBuffers, MessageBuffers, Ports, SegmentTable, Segments};
 ghost use Rattle.plans.specs.Needs.{Packed};
 ghost use Rattle.writes.specs.Written.{written};
@@ -94,8 +93,7 @@ fn put_image(s: Shape, plan: &[u16], out: &mut [u16])
 
 // Builds the image of a plan in the target: the number of the refusal, or 0.
 pub fn build(plan: &[u16], target: &mut [u16]) -> u16
-    ensures { λ r. ⌜ r ≡ verdict-number (check-build (now (plan .entry)) (now (target .entry))) ⌝ }
-    ensures { λ _. ⌜ now (target .exit) ≡ built (now (plan .entry)) (now (target .entry)) ⌝ }
+    ensures { λ r. ⌜ Builds (now (plan .entry)) (now (target .entry)) r (now (target .exit)) ⌝ }
 {
     let found = verdict(plan);
     match found {

@@ -10,6 +10,7 @@ use Rattle.paper.specs.Image.{header-words, mark, edition, header-word, shape-o
 use Rattle.paper.specs.Queues.{held, empty}
 use Rattle.paper.specs.Tests.{implies, every-task, all-below, queued, buffers-hold, characters, readied-once, port-holds, flags-hold, status-holds, task-holds, clock-holds, readied-tasks, rules-hold}
 use Rattle.paper.specs.Numbers.{verdict-number, out-of-range, not-packed, wrong-segments, check}
+use Rattle.paper.specs.Promises.{Checks}
 use Rattle.paper.specs.declared.Task.{Task}
 use Rattle.paper.specs.declared.Shape.{Shape}
 use Rattle.paper.specs.declared.Queue.{Queue}
@@ -133,5 +134,5 @@ module _ (im : List ℕ) where
                 rw (le-ltb (length im) header-words long, ← ea, ← eb, ← em, f, ← es, ← er, inside, ← ep, packed, ← ew, right, ← eo, e)
 
 -- the number of a verdict
-pub numbered : (im : List ℕ) (v : Verdict) (n : ℕ) → v ≡ check im → n ≡ verdict-number v → n ≡ verdict-number (check im)
-numbered im v n ev en = rw (en, ev)
+pub numbered : (im : List ℕ) (v : Verdict) (n : ℕ) → v ≡ check im → n ≡ verdict-number v → Checks im n
+numbered im v n ev en = record { answered = rw (en, ev) }

@@ -4,7 +4,8 @@ ghost use mathlib.Core.Bool.{true};
 ghost use Prim.Native.Nat.{_<_};
 ghost use Rattle.paper.specs.Image.{shape-of as shape-given};
 ghost use Rattle.paper.specs.Tests.{every-task, queued as is-queued, task-holds as does-task-hold, clock-holds as does-clock-hold, rules-hold as do-rules-hold};
-ghost use Rattle.paper.specs.Numbers.{verdict-number, check as verdict-on};
+ghost use Rattle.paper.specs.Numbers.{check as verdict-on};
+ghost use Rattle.paper.specs.Promises.{Checks};
 ghost use Rattle.paper.specs.declared.Queue.the-variants.{Ready};
 ghost use Rattle.laws.specs.Sound.{Sized};
 use headers::header_word;
@@ -148,7 +149,7 @@ pub fn inspect(im: &[u16]) -> Inspected
 
 // The number of an image's refusal, 1 to 6, or 0 where it is good.
 pub fn check(im: &[u16]) -> u16
-    ensures { λ r. ⌜ r ≡ verdict-number (verdict-on (now (im .entry))) ⌝ }
+    ensures { λ r. ⌜ Checks (now (im .entry)) r ⌝ }
 {
     number_of_verdict(verdict(im))
 }

@@ -9,3 +9,4 @@ pub mod Every
 pub mod Checked
 pub mod Rows
 pub mod Fresh
+pub mod Once

@@ -10,3 +10,4 @@ pub mod Plans
 pub mod Tests
 pub mod Numbers
 pub mod Calls
+pub mod Promises

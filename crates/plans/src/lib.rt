@@ -4,7 +4,7 @@ ghost use Prim.Native.Nat.{_≤_};
 ghost use Rattle.paper.specs.Plans.{plan-tasks, segment-length, program-length, plan-shape as shape-planned};
 ghost use Rattle.paper.specs.Image.{total};
 ghost use Rattle.paper.specs.Numbers.{plan-broken, check-plan as verdict-on-plan};
-ghost use Rattle.paper.specs.Calls.{plan-size};
+ghost use Rattle.paper.specs.Promises.{Measures};
 ghost use Rattle.laws.specs.Layout.{Ranged};
 ghost use Rattle.plans.specs.Needs.{Summed, SizesOf, Packed};
 use headers::header_word;
@@ -149,7 +149,7 @@ pub fn verdict(plan: &[u16]) -> Verdict
 
 // How many words a plan needs.
 pub fn size(plan: &[u16]) -> Size
-    ensures { λ r. ⌜ r ≡ plan-size (now (plan .entry)) ⌝ }
+    ensures { λ r. ⌜ Measures (now (plan .entry)) r ⌝ }
 {
     let found = verdict(plan);
     match found {
