@@ -35,9 +35,9 @@ fn put_ready(s: Shape, plan: &[u16], out: &mut [u16], at: usize) -> usize
     ensures { λ r. ⌜ r ≡ at + (lead + s .n) ⌝ }
     ensures { λ _. ⌜ now (out .exit) ≡ written (now (out .entry)) at (fresh-part s (now (plan .entry)) ReadyQueue) ⌝ }
 {
-    let n = s.n;
-    let slots = put_lead(out, at, n as u16, n as u16);
-    put_numbers(out, slots, n)
+    let n = s.n as u16;
+    let slots = put_lead(out, at, n, n);
+    put_numbers(out, slots, s.n)
 }
 
 // The header, the task table, the ready queue and the status table.

@@ -13,7 +13,7 @@ returns : tie.Need-returns
 returns c = refused-target _ _ (sym (c .before .before .before .before .before .before .verdict .ensures) ∙ c .before .before .before .before .enum-told .given .1) _ (c .before .before .before .shape-of-plan .ensures .0) _ (c .before .before .total-of .ensures) _ (c .before .if1 .taken) (c .number-of-verdict2 .ensures)
 
 put-image-requires : tie.Need-put-image-requires
-put-image-requires c κs = (record { shape = c .before .before .before .shape-of-plan .ensures .0; fine = sym (c .before .before .before .before .before .before .verdict .ensures) ∙ c .before .before .before .before .enum-told .given .1; }, (c .before .before .before .shape-of-plan .ensures .1, c .before .if1 .left ∙ c .before .before .total-of .ensures))
+put-image-requires c κs = (record { shape = c .before .before .before .shape-of-plan .ensures .0; fine = sym (c .before .before .before .before .before .before .verdict .ensures) ∙ c .before .before .before .before .enum-told .given .1 }, (c .before .before .before .shape-of-plan .ensures .1, c .before .if1 .left ∙ c .before .before .total-of .ensures))
 
 returns-2 : tie.Need-returns-2
 returns-2 c = refused-plan _ _ _ _ (sym (c .before .before .before .before .verdict .ensures) ∙ c .before .before .found .given .1) (c .number-of-verdict .ensures)

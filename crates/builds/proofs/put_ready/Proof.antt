@@ -6,14 +6,11 @@ use borrow.Author.Needs.{needs}
 use Rattle.builds.proofs.put_ready.Statement.{statement}
 use Rattle.builds.proofs.put_ready.Tie as tie
 
-cast-put-lead : tie.Need-cast-put-lead
-cast-put-lead c = omega (arith, plan-few _ _ (c .before .before .before .pre .0))
-
-cast-put-lead-2 : tie.Need-cast-put-lead-2
-cast-put-lead-2 c = omega (arith, plan-few _ _ (c .before .before .before .pre .0))
+cast-n : tie.Need-cast-n
+cast-n c = omega (arith, plan-few _ _ (c .before .before .before .pre .0))
 
 put-numbers-requires : tie.Need-put-numbers-requires
-put-numbers-requires c κs = (plan-few _ _ (c .before .before .before .before .before .before .before .pre .0), omega (arith, kept-length _ _ _ _ (c .before .before .before .put-lead .ensures .1)))
+put-numbers-requires c κs = (plan-few _ _ (c .before .before .before .before .before .before .before .before .pre .0), omega (arith, kept-length _ _ _ _ (c .before .before .before .put-lead .ensures .1)))
 
 returns : tie.Need-returns
 returns c = (omega arith, then-on _ _ _ _ _ _ _ (c .before .before .before .before .before .before .put-lead .ensures .1) (c .before .before .before .before .before .before .put-lead .ensures .0) (c .before .before .put-numbers .ensures .1))
@@ -22,8 +19,7 @@ pub put-ready-spec : {M : Type 1} → statement M
 put-ready-spec =
     tie.close
     (tie.spec
-    cast-put-lead
-    cast-put-lead-2
+    cast-n
     (λ c κs. search needs)
     put-numbers-requires
     (λ c. search needs)
