@@ -1,10 +1,10 @@
 // Building an image from a plan.
 ghost use mathlib.Core.Path.{_≡_};
-ghost use mathlib.Core.List.{[], _∷_, _++_};
+ghost use mathlib.Core.List.{_++_};
 ghost use Prim.Native.Nat.{_+_, _*_, _≤_};
-ghost use lib.ListN.{length, replicate};
-ghost use Rattle.paper.specs.Image.{lead, begin, size, total};
-ghost use Rattle.paper.specs.Plans.{joined, fresh-part, fresh};
+ghost use lib.ListN.{length};
+ghost use Rattle.paper.specs.Image.{lead, begin, total};
+ghost use Rattle.paper.specs.Plans.{fresh-part, fresh};
 ghost use Rattle.paper.specs.Promises.{Builds};
 ghost use Rattle.paper.specs.declared.Part.the-variants.{Header, TaskTable, ReadyQueue, StatusTable, InputBuffers, OutputBuffers, MessageBuffers, Ports, SegmentTable, Segments};
 ghost use Rattle.plans.specs.Needs.{Packed};

@@ -2,7 +2,7 @@
 use mathlib.Core.Path.{_≡_, refl, sym, ap, _∙_}
 use mathlib.Core.List.{List, [], _∷_, map}
 use mathlib.Core.Bool.{Bool, true, false, not, _&&_}
-use Prim.Native.Nat.{ℕ, zero, suc, _+_, _-_, _*_, _<_, _≤_}
+use Prim.Native.Nat.{ℕ, _+_, _-_, _*_, _<_, _≤_}
 use native.Mathlib.Nat.{mul-le-mul-left, mul-le-mul-right, le-trans}
 use native.Mathlib.Numerals.{add-one}
 use native.Mathlib.Omega.{arith}
@@ -11,7 +11,6 @@ use borrow.Author.Tests.{eq-eqb, ne-eqb, le-leb, lt-leb, not-true}
 use lib.Dec.{eqb, leb}
 use lib.ListN.{getD, length, List·getD-eq-default}
 use Rattle.paper.specs.Image.{lead, most-tasks, most-slice, most-capacity, most-words, offset-words, offsets, header-word, shape-of, task, total, start, segment-start, at, base, len}
-use Rattle.paper.specs.Rules.{Within}
 use Rattle.paper.specs.Tests.{every, every-task}
 use Rattle.paper.specs.Numbers.{within, out-of-range, not-packed, segment-right, wrong-segments}
 use Rattle.paper.specs.declared.Task.{Task}
@@ -20,7 +19,7 @@ use Rattle.paper.specs.declared.Part.{Part}
 use Rattle.laws.specs.Layout.{Ranged, fit-ranged, largest-offset, total-is}
 use Rattle.laws.specs.Every.{every-fails, every-done}
 use Rattle.laws.specs.Sound.{Sized, make-sized, sized-fit, sized-words}
-use Rattle.laws.specs.Checked.{ranged-is, packed-is}
+use Rattle.laws.specs.Checked.{packed-is}
 
 -- a word past the end
 pub past-end : (l : List ℕ) (k : ℕ) → length l ≤ k → 0 ≡ getD l k 0

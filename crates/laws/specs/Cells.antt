@@ -1,12 +1,12 @@
 -- Reading after writing, of cells by their names. Assumes nothing.
-use mathlib.Core.Path.{_≡_, refl, sym, ap, _∙_}
+use mathlib.Core.Path.{_≡_, sym, ap}
 use mathlib.Core.List.{List}
 use mathlib.Core.Bool.{not}
 use mathlib.Core.Logic.{_≢_}
-use Prim.Native.Nat.{ℕ, zero, suc, _+_, _*_, _<_, _≤_}
+use Prim.Native.Nat.{ℕ, _+_, _<_}
 use native.Mathlib.Nat.{zero-add, zero-mul}
 use native.Mathlib.Omega.{arith}
-use lib.ListN.{getD, set, length, length-set}
+use lib.ListN.{length, length-set}
 use lib.Seq.{getD-set-same, getD-set-other}
 use lib.Dec.{T, T-not, eqb, eqb-refl, lit<, ltb, ltb→lt}
 use Rattle.paper.specs.Image.{ord, rows, width, total, cell, Valid, place, at, put, header-word, lead}

@@ -1,11 +1,10 @@
 -- What the layout of an image fixes: its shape, and the paper's largest offset and smallest T. Assumes nothing.
 use mathlib.Core.Path.{_≡_}
 use mathlib.Core.List.{List, map}
-use Prim.Native.Nat.{ℕ, zero, suc, _+_, _-_, _*_, _<_, _≤_}
+use Prim.Native.Nat.{ℕ, _+_, _-_, _≤_}
 use native.Mathlib.Nat.{mul-le-mul-right}
 use native.Mathlib.Omega.{arith}
 use lib.Dec.{lit<}
-use lib.ListN.{getD}
 use Rattle.paper.specs.Image.{most-tasks, most-slice, most-capacity, task, start, total, offset-words, header-word, shape-of}
 use Rattle.paper.specs.Rules.{Within, Fit, Laid}
 use Rattle.paper.specs.declared.Shape.{Shape}

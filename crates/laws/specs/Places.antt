@@ -1,12 +1,11 @@
 -- Where cells lie: each below T, and two different cells apart. Assumes nothing.
 use mathlib.Core.Path.{_≡_, refl, sym, ap}
-use mathlib.Core.List.{List}
 use mathlib.Core.Logic.{_≢_}
-use Prim.Native.Nat.{ℕ, zero, suc, _+_, _*_, _<_, _≤_}
+use Prim.Native.Nat.{ℕ, suc, _+_, _*_, _<_, _≤_}
 use native.Mathlib.Nat.{mul-le-mul-right}
 use native.Mathlib.Omega.{arith}
 use lib.ListN.{getD}
-use Rattle.paper.specs.Image.{most-words, parts, ord, rows, width, size, begin, start, total, cell, Valid, place}
+use Rattle.paper.specs.Image.{most-words, parts, ord, width, size, begin, start, total, cell, Valid, place}
 use Rattle.paper.specs.Rules.{Fit}
 use Rattle.paper.specs.declared.Shape.{Shape}
 use Rattle.paper.specs.declared.Cell.{Cell}

@@ -3,11 +3,11 @@ use mathlib.Core.Path.{_≡_, refl, sym, ap}
 use mathlib.Core.List.{List}
 use mathlib.Core.Bool.{Bool, true, false, cond}
 use mathlib.Core.Logic.{_≢_}
-use Prim.Native.Nat.{ℕ, zero, suc, _+_, _-_, _*_, _<_, _≤_}
+use Prim.Native.Nat.{ℕ, suc, _+_, _-_, _<_, _≤_}
 use native.Mathlib.Omega.{arith}
 use borrow.Author.Tests.{lt-ltb, le-ltb, ltb-true, ltb-false}
 use lib.Dec.{T, ltb, ltb→lt}
-use lib.ListN.{getD, set}
+use lib.ListN.{set}
 use Rattle.paper.specs.Image.{place-at, word, ord, start, total, cell, Valid, place, at, put, base, len, segment-start, reach}
 use Rattle.paper.specs.Rules.{Laid}
 use Rattle.paper.specs.declared.Task.{Task}

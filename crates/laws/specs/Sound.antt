@@ -1,14 +1,13 @@
 -- A sound image: of its shape, and with all its queues in order. What keeps it so. Assumes nothing.
-use mathlib.Core.Path.{_≡_, refl, sym, ap, _∙_, subst}
+use mathlib.Core.Path.{_≡_, refl, sym, ap, _∙_}
 use mathlib.Core.List.{List}
-use mathlib.Core.Bool.{Bool, true, false, not}
-use mathlib.Core.Logic.{_≢_}
-use Prim.Native.Nat.{ℕ, zero, suc, _+_, _*_, _<_, _≤_}
+use mathlib.Core.Bool.{not}
+use Prim.Native.Nat.{ℕ, zero, suc, _<_, _≤_}
 use native.Mathlib.Decide.{ℕ-discrete}
 use native.Mathlib.Omega.{arith}
-use lib.Dec.{T, T-not, eqb, eqb-refl}
+use lib.Dec.{T, T-not, eqb}
 use lib.ListN.{length}
-use Rattle.paper.specs.Image.{most-tasks, task, lead, ord, rows, width, total, cell, Valid, place, at, put, base, len, header-word, segment-start}
+use Rattle.paper.specs.Image.{most-tasks, task, lead, width, total, cell, Valid, place, at, put, len, segment-start}
 use Rattle.paper.specs.Queues.{part-of, row-of, Has, header-capacity, queue-word, head, count, capacity, appended, taken}
 use Rattle.paper.specs.Rules.{Fit, Laid, Queued}
 use Rattle.paper.specs.declared.Task.{Task}
@@ -18,7 +17,7 @@ use Rattle.paper.specs.declared.Part.{Part}
 use Rattle.paper.specs.declared.Queue.{Queue}
 use Rattle.laws.specs.Places.{one-cell}
 use Rattle.laws.specs.Cells.{at-header, at-other, length-put}
-use Rattle.laws.specs.Queues.{Off, off-part, off-row, queue-row, queue-width, word-valid, appended-off, appended-length, appended-queued, taken-off, taken-length, taken-queued}
+use Rattle.laws.specs.Queues.{Off, queue-width, word-valid, appended-off, appended-length, appended-queued, taken-off, taken-length, taken-queued}
 
 -- an image of the size that its shape gives: what reading a cell needs; shut, as contracts say it
 unfoldable pub Sized : Shape → List ℕ → Type 0

@@ -2,7 +2,7 @@
 -- Every expected word was worked out by hand from the paper. Assumes nothing.
 use mathlib.Core.Path.{_≡_, refl}
 use mathlib.Core.List.{List, [], _∷_, _++_}
-use Prim.Native.Nat.{ℕ, zero, suc, _+_, _-_, _*_}
+use Prim.Native.Nat.{ℕ, _+_, _-_, _*_}
 use lib.ListN.{length, getD, take, drop, replicate}
 use Rattle.paper.specs.Image.{task, total, shape-of, place, at, put, reach, clock}
 use Rattle.paper.specs.Queues.{step, appended, first, taken, held, empty, full}
@@ -14,7 +14,7 @@ use Rattle.paper.specs.Events.{event-of, stopped, turned, spent, turn-of
 use Rattle.paper.specs.Plans.{plan-shape, fresh}
 use Rattle.paper.specs.Tests.{every, queued, buffers-hold, characters, readied-once, readied-tasks, clock-holds, port-holds, flags-hold, status-holds, task-holds, rules-hold}
 use Rattle.paper.specs.Numbers.{number, verdict-number, kind, answer-task, out-of-range, not-packed, segment-right, wrong-segments, check, plan-broken, check-plan, check-build}
-use Rattle.paper.specs.Calls.{built, event, Ran, run}
+use Rattle.paper.specs.Calls.{built, event, run}
 use Rattle.paper.specs.declared.Reply.{Reply}
 use Rattle.paper.specs.declared.Queue.{Queue}
 

@@ -1,6 +1,6 @@
 -- "Events": the three kinds, the tick's five rules, input and output done.
 use mathlib.Core.Bool.{Bool, not, cond, _&&_}
-use mathlib.Core.List.{List, [], _∷_}
+use mathlib.Core.List.{List}
 use Prim.Native.Nat.{ℕ, _-_}
 use lib.Dec.{eqb, leb, ltb}
 use Rattle.paper.specs.Image.{task, most-character, at, put, clock, status, busy, character}

@@ -1,7 +1,7 @@
 -- "Image": the header, the parts and where they lie, and the words by their names.
 use mathlib.Core.Bool.{cond}
 use mathlib.Core.List.{List, [], _∷_, _++_, map}
-use Prim.Native.Nat.{ℕ, zero, suc, _+_, _-_, _*_, _<_, _≤_}
+use Prim.Native.Nat.{ℕ, zero, suc, _+_, _-_, _*_, _<_}
 use lib.Dec.{ltb}
 use lib.ListN.{getD, set}
 use Rattle.paper.specs.declared.Task.{Task}

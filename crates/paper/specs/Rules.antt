@@ -1,9 +1,9 @@
 -- What an image must be and hold: its layout ("Image"), and the rules of "What an image must hold".
 use mathlib.Core.List.{List, [], _∷_}
-use mathlib.Core.Bool.{Bool, cond}
+use mathlib.Core.Bool.{cond}
 use mathlib.Core.Path.{_≡_}
 use mathlib.Core.Logic.{_≢_}
-use Prim.Native.Nat.{ℕ, zero, suc, _+_, _%_, _<_, _≤_}
+use Prim.Native.Nat.{ℕ, _+_, _%_, _<_, _≤_}
 use lib.Dec.{eqb}
 use lib.ListN.{length, getD}
 use Rattle.paper.specs.Image.{task, most-tasks, most-slice, most-capacity, most-words, most-character, offsets, total, header, header-word, segment-start, at, clock, reg, status, peer, busy, character, base, len}

@@ -2,7 +2,7 @@
 use mathlib.Core.Bool.{Bool, cond}
 use mathlib.Core.List.{List}
 use Prim.Native.Nat.{ℕ}
-use Rattle.paper.specs.Image.{at, put, clock, status, peer}
+use Rattle.paper.specs.Image.{put, clock, status, peer}
 use Rattle.paper.specs.Queues.{appended, taken, empty, full}
 use Rattle.paper.specs.Flags.{is-ready}
 use Rattle.paper.specs.declared.Task.{Task}

@@ -1,14 +1,14 @@
 -- What the calls of this crate ask and make, as laws over values. Assumes nothing.
 use mathlib.Core.Path.{_≡_, refl, sym, ap, _∙_}
-use mathlib.Core.List.{List, [], _∷_, _++_, append-assoc}
+use mathlib.Core.List.{List, [], _∷_, _++_}
 use Prim.Native.Nat.{ℕ, zero, suc, _+_, _-_, _*_, _<_, _≤_}
 use native.Mathlib.Nat.{mul-le-mul-right, suc-mul, zero-mul}
 use native.Mathlib.Numerals.{add-one}
 use native.Mathlib.Omega.{arith}
-use lib.ListN.{length, getD, take, drop, replicate, length-append, length-drop, length-replicate, replicate-append-replicate}
+use lib.ListN.{length, getD, take, drop, replicate, length-append, length-drop}
 use lib.Seq.{length-take-le}
 use Rattle.paper.specs.Image.{mark, edition, most-words, begin, start, offsets, total, header}
-use Rattle.paper.specs.Plans.{plan-tasks, segment-length, program-length, segment-words, program-start, joined, fresh-queue, fresh-row, fresh-part, fresh-segment, fresh, plan-shape}
+use Rattle.paper.specs.Plans.{plan-tasks, segment-length, program-length, segment-words, program-start, joined, fresh-row, fresh-segment, plan-shape}
 use Rattle.paper.specs.Numbers.{check-plan}
 use Rattle.paper.specs.declared.Shape.{Shape}
 use Rattle.paper.specs.declared.Part.{Part}

@@ -1,15 +1,15 @@
 -- What the calls of this crate ask and make, as laws over values. Assumes nothing.
-use mathlib.Core.Path.{_≡_, refl, sym, ap, _∙_}
+use mathlib.Core.Path.{_≡_, sym, ap, _∙_}
 use mathlib.Core.List.{List, [], _∷_}
 use mathlib.Core.Bool.{Bool, true, false, not, cond, _&&_, and-false}
-use Prim.Native.Nat.{ℕ, zero, suc, _+_, _-_, _%_, _<_, _≤_}
+use Prim.Native.Nat.{ℕ, suc, _+_, _-_, _%_, _<_, _≤_}
 use native.Mathlib.Omega.{arith}
-use borrow.Author.Tests.{lt-ltb, le-ltb, not-true, not-false}
+use borrow.Author.Tests.{lt-ltb, le-ltb, not-true}
 use lib.Dec.{eqb, leb, ltb}
 use Rattle.paper.specs.Image.{lead, most-character, cell, Valid, at, task}
-use Rattle.paper.specs.Queues.{part-of, row-of, Has, header-capacity, queue-word, head, tail, count, capacity, slot, step, words-from, held}
+use Rattle.paper.specs.Queues.{Has, header-capacity, queue-word, head, tail, count, capacity, slot, step, words-from, held}
 use Rattle.paper.specs.Rules.{Queued, times}
-use Rattle.paper.specs.Tests.{every, every-task, all-below, queued, buffers-hold, characters}
+use Rattle.paper.specs.Tests.{every-task, all-below, queued, buffers-hold, characters}
 use Rattle.paper.specs.declared.Task.{Task}
 use Rattle.paper.specs.declared.Shape.{Shape}
 use Rattle.paper.specs.declared.Cell.{Cell}

@@ -7,7 +7,7 @@ ghost use Rattle.paper.specs.Image.{lead, at as word-at};
 ghost use Rattle.paper.specs.Queues.{Has, header-capacity, queue-word, held};
 ghost use Rattle.paper.specs.Rules.{times};
 ghost use Rattle.paper.specs.Tests.{all-below, every-task, queued as is-queued, buffers-hold as do-buffers-hold, characters as are-characters};
-ghost use Rattle.paper.specs.declared.Queue.the-variants.{Ready, Input, Output, Message};
+ghost use Rattle.paper.specs.declared.Queue.the-variants.{Ready, Message};
 ghost use Rattle.laws.specs.Sound.{Sized};
 use paper::Cell;
 use paper::Queue;

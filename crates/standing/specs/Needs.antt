@@ -1,16 +1,16 @@
 -- What the calls of this crate ask and make, as laws over values. Assumes nothing.
-use mathlib.Core.Path.{_≡_, refl, sym, _∙_}
+use mathlib.Core.Path.{_≡_, sym, _∙_}
 use mathlib.Core.List.{List}
 use mathlib.Core.Bool.{Bool, true, false, not, cond, _&&_, _||_}
-use Prim.Native.Nat.{ℕ, _+_, _/_, _%_, _<_, _≤_}
+use Prim.Native.Nat.{ℕ, _/_, _%_, _<_}
 use native.Mathlib.Omega.{arith}
 use borrow.Author.Tests.{ltb-true, not-true, not-false}
 use lib.Dec.{eqb, leb, ltb}
 use Rattle.paper.specs.Image.{most-character, at, task, reg, flags, status, peer, busy, character}
-use Rattle.paper.specs.Queues.{Has, count, capacity, held, empty, full}
-use Rattle.paper.specs.Flags.{error, pending, waits, is-stopped}
+use Rattle.paper.specs.Queues.{count, capacity, held, empty, full}
+use Rattle.paper.specs.Flags.{error, pending, is-stopped}
 use Rattle.paper.specs.Rules.{times, partner}
-use Rattle.paper.specs.Tests.{implies, readied-once, port-holds, flags-hold, peered, standing, stands-as, status-holds}
+use Rattle.paper.specs.Tests.{implies, readied-once, port-holds, flags-hold, peered, standing, status-holds}
 use Rattle.paper.specs.declared.Task.{Task}
 use Rattle.paper.specs.declared.Shape.{Shape}
 use Rattle.paper.specs.declared.Queue.{Queue}

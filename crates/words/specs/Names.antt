@@ -1,5 +1,5 @@
 -- What the names in code stand for.
-use Prim.Native.Nat.{ℕ, _<_, _≤_}
+use Prim.Native.Nat.{_<_, _≤_}
 use Rattle.paper.specs.Image.{start, total, clock, reg, flags, status, peer, busy, character}
 use Rattle.paper.specs.declared.Place.{Place}
 use Rattle.paper.specs.declared.Shape.{Shape}

@@ -1,29 +1,26 @@
 -- What the calls of this crate ask and make, as laws over values. Assumes nothing.
-use mathlib.Core.Path.{_≡_, refl, sym, ap, _∙_}
+use mathlib.Core.Path.{_≡_, sym, ap, _∙_}
 use mathlib.Core.List.{List}
-use mathlib.Core.Bool.{Bool, true, false}
-use Prim.Native.Nat.{ℕ, _+_, _-_, _*_, _<_, _≤_}
-use native.Mathlib.Nat.{mul-le-mul-right, le-of-lt}
+use mathlib.Core.Bool.{Bool, false}
+use Prim.Native.Nat.{ℕ, _+_, _<_, _≤_}
 use native.Mathlib.Omega.{arith}
-use borrow.Author.Tests.{lt-ltb, le-ltb, eqb-false}
+use borrow.Author.Tests.{eqb-false}
 use lib.Dec.{eqb}
 use lib.ListN.{getD, set, length}
-use Rattle.paper.specs.Image.{place-at, lead, start, total, cell, Valid, word, place, at, put, base, len, reach}
-use Rattle.paper.specs.Queues.{Has, header-capacity, queue-word, head, tail, count, capacity, slot, appended, first, taken, empty, full}
-use Rattle.paper.specs.Rules.{Fit}
+use Rattle.paper.specs.Image.{place-at, lead, Valid, place, at, put, base, len, reach}
+use Rattle.paper.specs.Queues.{Has, header-capacity, queue-word, head, count, capacity, slot, appended, first, taken, empty, full}
 use Rattle.paper.specs.declared.Task.{Task}
 use Rattle.paper.specs.declared.Address.{Address}
 use Rattle.paper.specs.declared.Place.{Place}
 use Rattle.paper.specs.declared.Shape.{Shape}
 use Rattle.paper.specs.declared.Cell.{Cell}
-use Rattle.paper.specs.declared.Part.{Part}
 use Rattle.paper.specs.declared.Queue.{Queue}
 use Rattle.paper.specs.declared.Reach.{Reach}
 use Rattle.laws.specs.Places.{below}
 use Rattle.laws.specs.Layout.{total-is}
-use Rattle.laws.specs.Queues.{queue-width, word-valid}
-use Rattle.laws.specs.Segments.{segment-from, segment-upto, segment-cell, reached, reaches, stays-outside}
-use Rattle.laws.specs.Sound.{Sound, sound, fixed, put-sound, sound-fit, appended-sound, taken-sound}
+use Rattle.laws.specs.Queues.{word-valid}
+use Rattle.laws.specs.Segments.{segment-cell, reaches, stays-outside}
+use Rattle.laws.specs.Sound.{Sound, sound, fixed, put-sound, appended-sound, taken-sound}
 use Rattle.rings.specs.Ring.{Ring, append-at, first-at, take-at}
 use Rattle.words.specs.Names.{spot-cell, Names, Among}
 use Rattle.words.specs.declared.Spot.{Spot}

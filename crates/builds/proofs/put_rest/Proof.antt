@@ -2,7 +2,6 @@
 use native.Mathlib.Omega.{arith}
 use Rattle.laws.specs.Layout.{total-is}
 use Rattle.writes.specs.Written.{kept-length}
-use Rattle.parts.specs.Needs.{plan-few}
 use Rattle.builds.specs.Needs.{rest-made}
 use borrow.Author.Needs.{needs}
 use Rattle.builds.proofs.put_rest.Statement.{statement}

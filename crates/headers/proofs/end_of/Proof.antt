@@ -2,7 +2,6 @@
 use native.Mathlib.Omega.{arith}
 use mathlib.Core.Path.{refl}
 use Rattle.headers.specs.Needs.{part-small}
-use borrow.Author.Needs.{needs}
 use Rattle.headers.proofs.end_of.Statement.{statement}
 use Rattle.headers.proofs.end_of.Tie as tie
 

@@ -1,6 +1,4 @@
 -- Assumes nothing.
-use mathlib.Core.Path.{sym, ap, _∙_}
-use Prim.Native.Nat.{ℕ, _+_}
 use native.Mathlib.Omega.{arith}
 use Rattle.parts.specs.Needs.{then-on, program-size}
 use borrow.Author.Needs.{needs}

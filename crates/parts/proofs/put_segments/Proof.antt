@@ -1,10 +1,10 @@
 -- The segments before k are written, and where the next program starts is known. Assumes nothing.
-use mathlib.Core.Path.{_≡_, refl, sym, ap, _∙_}
-use Prim.Native.Nat.{ℕ, _+_, _-_, _≤_}
+use mathlib.Core.Path.{_≡_, refl}
+use Prim.Native.Nat.{_-_, _≤_}
 use native.Mathlib.Omega.{arith}
 use Rattle.paper.specs.Plans.{segment-words, program-start, fresh-segment}
 use Rattle.writes.specs.Written.{kept-length}
-use Rattle.parts.specs.Needs.{Rows, no-rows, plan-few, first-program, program-inside, segment-asks, segment-room, segment-made, segment-more, next-program, segments-done}
+use Rattle.parts.specs.Needs.{Rows, no-rows, plan-few, first-program, segment-asks, segment-room, segment-made, segment-more, next-program, segments-done}
 use borrow.Author.Needs.{needs}
 use Rattle.parts.proofs.put_segments.Statement.{statement}
 use Rattle.parts.proofs.put_segments.Tie as tie

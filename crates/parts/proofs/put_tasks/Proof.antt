@@ -1,9 +1,7 @@
 -- The tasks before k are written. Assumes nothing.
-use mathlib.Core.Path.{refl, ap, _∙_}
-use mathlib.Core.List.{List, _∷_}
-use Prim.Native.Nat.{ℕ, _+_, _-_, _≤_}
+use mathlib.Core.Path.{refl}
+use Prim.Native.Nat.{_-_, _≤_}
 use native.Mathlib.Omega.{arith}
-use lib.ListN.{replicate}
 use Rattle.paper.specs.Plans.{fresh-row}
 use Rattle.paper.specs.declared.Part.{Part}
 use Rattle.writes.specs.Written.{kept-length}

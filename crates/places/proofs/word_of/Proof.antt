@@ -1,5 +1,4 @@
 -- Assumes nothing.
-use borrow.Author.Needs.{needs}
 use Rattle.laws.specs.Sound.{sized-fit}
 use Rattle.places.specs.Needs.{cell-inside, cell-word}
 use Rattle.places.proofs.word_of.Statement.{statement}

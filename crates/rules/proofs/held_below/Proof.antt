@@ -2,7 +2,6 @@
 use mathlib.Core.Path.{_≡_, refl}
 use mathlib.Core.List.{List}
 use Prim.Native.Nat.{ℕ, _<_}
-use native.Mathlib.Omega.{arith}
 use Rattle.paper.specs.Image.{at as word-at}
 use Rattle.paper.specs.Queues.{capacity as capacity-cell, words-from, held}
 use Rattle.paper.specs.Tests.{all-below}

@@ -1,7 +1,6 @@
 -- Assumes nothing.
 use Rattle.laws.specs.Sound.{sized-fit}
 use Rattle.rules.specs.Needs.{word-found, word-got}
-use borrow.Author.Needs.{needs}
 use Rattle.rules.proofs.queue_word.Statement.{statement}
 use Rattle.rules.proofs.queue_word.Tie as tie
 

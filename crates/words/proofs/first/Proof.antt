@@ -1,7 +1,6 @@
 -- Assumes nothing.
 use Rattle.laws.specs.Sound.{sound-fit}
 use Rattle.words.specs.Needs.{ring-is, first-is}
-use borrow.Author.Needs.{needs}
 use Rattle.words.proofs.first.Statement.{statement}
 use Rattle.words.proofs.first.Tie as tie
 

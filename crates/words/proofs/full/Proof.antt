@@ -1,7 +1,6 @@
 -- Assumes nothing.
 use Rattle.laws.specs.Sound.{sound-fit}
 use Rattle.words.specs.Needs.{ring-is, full-is}
-use borrow.Author.Needs.{needs}
 use Rattle.words.proofs.full.Statement.{statement}
 use Rattle.words.proofs.full.Tie as tie
 

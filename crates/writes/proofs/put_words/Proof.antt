@@ -1,8 +1,8 @@
 -- k words are written. Assumes nothing.
-use mathlib.Core.Path.{_≡_, refl, sym, ap, _∙_}
-use Prim.Native.Nat.{_+_, _-_, _≤_}
+use mathlib.Core.Path.{_≡_, refl, sym}
+use Prim.Native.Nat.{_-_, _≤_}
 use native.Mathlib.Omega.{arith}
-use lib.ListN.{length, take, drop}
+use lib.ListN.{take, drop}
 use Rattle.writes.specs.Written.{written, written-none, kept-length, words-again, words-done}
 use borrow.Author.Needs.{needs}
 use Rattle.writes.proofs.put_words.Statement.{statement}

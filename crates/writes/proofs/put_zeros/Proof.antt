@@ -1,9 +1,9 @@
 -- k zeros are written. Assumes nothing.
-use mathlib.Core.Path.{_≡_, refl, sym, ap, _∙_}
-use Prim.Native.Nat.{_+_, _-_, _≤_}
+use mathlib.Core.Path.{_≡_, refl, sym}
+use Prim.Native.Nat.{_-_, _≤_}
 use native.Mathlib.Omega.{arith}
-use lib.ListN.{length, replicate}
-use Rattle.writes.specs.Written.{written, written-none, kept-length, zero-more, zeros-again, zeros-done}
+use lib.ListN.{replicate}
+use Rattle.writes.specs.Written.{written, written-none, kept-length, zeros-again, zeros-done}
 use borrow.Author.Needs.{needs}
 use Rattle.writes.proofs.put_zeros.Statement.{statement}
 use Rattle.writes.proofs.put_zeros.Tie as tie
