@@ -1,16 +1,16 @@
 // Replays the record of a build.
-use crate::files::CHUNK_WORDS;
-use crate::files::Found;
-use crate::files::Head;
-use crate::files::WORD_END;
-use crate::files::least;
-use crate::files::read_words;
-use crate::files::wide;
-use crate::tally::Answer;
-use crate::tally::compared;
-use crate::tally::worse;
 use numbers::number_of;
 use paper::Size;
+use vectors::files::CHUNK_WORDS;
+use vectors::files::Found;
+use vectors::files::Head;
+use vectors::files::WORD_END;
+use vectors::files::least;
+use vectors::files::read_words;
+use vectors::files::wide;
+use vectors::tally::Answer;
+use vectors::tally::compared;
+use vectors::tally::worse;
 ghost use Prim.Native.Nat.{_≤_};
 ghost use lib.ListN.{length};
 

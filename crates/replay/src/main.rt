@@ -1,24 +1,22 @@
 // Replays the stored test vectors and prints how many cases each number has and how many differ.
 mod building;
-mod files;
-mod tally;
 
 use building::build_answer;
-use files::Found;
-use files::Head;
-use files::Next;
-use files::read_head;
-use files::read_words;
-use tally::Answer;
-use tally::BUILD_NUMBERS;
-use tally::CHECK_NUMBERS;
-use tally::Tally;
-use tally::answered;
-use tally::compared;
-use tally::empty;
-use tally::listed;
-use tally::print_tally;
-use tally::spoiled;
+use vectors::files::Found;
+use vectors::files::Head;
+use vectors::files::Next;
+use vectors::files::read_head;
+use vectors::files::read_words;
+use vectors::tally::Answer;
+use vectors::tally::BUILD_NUMBERS;
+use vectors::tally::CHECK_NUMBERS;
+use vectors::tally::Tally;
+use vectors::tally::answered;
+use vectors::tally::compared;
+use vectors::tally::empty;
+use vectors::tally::listed;
+use vectors::tally::print_tally;
+use vectors::tally::spoiled;
 
 // The most words of an image, a plan or a target.
 const MOST_WORDS: usize = 70000;

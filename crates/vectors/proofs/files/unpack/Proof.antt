@@ -3,8 +3,8 @@ use Prim.Native.Nat.{_≤_, _-_}
 use mathlib.Core.Path.{_≡_}
 use lib.ListN.{length}
 use borrow.Author.Needs.{needs}
-use Rattle.replay.proofs.files.unpack.Statement.{statement}
-use Rattle.replay.proofs.files.unpack.Tie as tie
+use Rattle.vectors.proofs.files.unpack.Statement.{statement}
+use Rattle.vectors.proofs.files.unpack.Tie as tie
 
 abbrev Inv-loop : tie.InvT-loop
 Inv-loop bytes words₀ at count i₀ words i = (i ≤ count) × (length words ≡ length words₀)

@@ -1,8 +1,8 @@
 -- `print_numbers` meets its contract: the loop stops at the last number. Assumes nothing.
 use Prim.Native.Nat.{_≤_, _-_}
 use borrow.Author.Needs.{needs}
-use Rattle.replay.proofs.tally.print_numbers.Statement.{statement}
-use Rattle.replay.proofs.tally.print_numbers.Tie as tie
+use Rattle.vectors.proofs.tally.print_numbers.Statement.{statement}
+use Rattle.vectors.proofs.tally.print_numbers.Tie as tie
 
 abbrev Inv-loop : tie.InvT-loop
 Inv-loop name numbers tally i₀ i-end i = i ≤ i-end

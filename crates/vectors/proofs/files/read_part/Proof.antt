@@ -2,8 +2,8 @@
 use mathlib.Core.Path.{sym}
 use lib.Seq.{length-take-le}
 use borrow.Author.Needs.{needs}
-use Rattle.replay.proofs.files.read_part.Statement.{statement}
-use Rattle.replay.proofs.files.read_part.Tie as tie
+use Rattle.vectors.proofs.files.read_part.Statement.{statement}
+use Rattle.vectors.proofs.files.read_part.Tie as tie
 
 slice-aggregate-read-full : tie.Need-slice-aggregate-read-full
 slice-aggregate-read-full c = sym (length-take-le _ _ (search needs))

@@ -1,8 +1,8 @@
 -- `listed` meets its contract: the loop stops at the last number. Assumes nothing.
 use Prim.Native.Nat.{_≤_, _-_}
 use borrow.Author.Needs.{needs}
-use Rattle.replay.proofs.tally.listed.Statement.{statement}
-use Rattle.replay.proofs.tally.listed.Tie as tie
+use Rattle.vectors.proofs.tally.listed.Statement.{statement}
+use Rattle.vectors.proofs.tally.listed.Tie as tie
 
 abbrev Inv-loop : tie.InvT-loop
 Inv-loop numbers number i₀ i-end i = i ≤ i-end
