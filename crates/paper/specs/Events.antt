@@ -8,13 +8,14 @@ use Rattle.paper.specs.Queues.{appended, first, taken, empty, full}
 use Rattle.paper.specs.Flags.{error, pending, waits, is-stopped}
 use Rattle.paper.specs.Waking.{Outcome, accepted, refused, left, one-if, with-woken, unless-full}
 use Rattle.paper.specs.Services.{asked, printing, service}
-use Rattle.paper.specs.Orders.{Effect, went, faults, order, order-faulted}
+use Rattle.paper.specs.Orders.{order, after-order, order-answer}
 use Rattle.paper.specs.declared.Task.{Task}
 use Rattle.paper.specs.declared.Shape.{Shape}
 use Rattle.paper.specs.declared.Queue.{Queue}
 use Rattle.paper.specs.declared.Service.{Service}
 use Rattle.paper.specs.declared.Asked.{Asked}
 use Rattle.paper.specs.declared.Event.{Event}
+use Rattle.paper.specs.declared.Effect.{Effect}
 use Rattle.paper.specs.declared.Answer.{Answer}
 use Rattle.paper.specs.declared.Refusal.{Refusal}
 
@@ -57,9 +58,8 @@ serving s im i v = service s im i v
 unfoldable pub spent : Shape → List ℕ → List ℕ
 spent s im = put s im clock (at s im clock - 1)
 
-abbrev pub ordered : Shape → List ℕ → Task → Effect → Outcome
-ordered s im i (went m) = accepted (Answer.OrderDone i) (spent s m)
-ordered s im i (faults e) = accepted (Answer.OrderFaulted i) (spent s (order-faulted s im i e))
+unfoldable pub ordered : Shape → List ℕ → Task → Effect → Outcome
+ordered s im i e = accepted (order-answer i e) (spent s (after-order s im i e))
 
 -- rules 4 and 5
 abbrev pub acting : Shape → List ℕ → Task → Asked → Outcome

@@ -4,8 +4,8 @@ use mathlib.Core.List.{List, [], _∷_}
 use Prim.Native.Nat.{ℕ, zero, suc, _+_, _-_, _*_, _/_, _%_, min, max}
 use lib.Dec.{eqb, leb, ltb}
 use lib.ListN.{getD, set}
-use Rattle.paper.specs.Image.{address, word, at, put, reg, reach}
-use Rattle.paper.specs.Flags.{cc, error, pending, put-flags, most-cc}
+use Rattle.paper.specs.Image.{address, word, at, put, reg, flags, reach}
+use Rattle.paper.specs.Flags.{flags-of, cc, error, pending, put-flags, most-cc}
 use Rattle.paper.specs.Services.{known-service}
 use Rattle.paper.specs.declared.Task.{Task}
 use Rattle.paper.specs.declared.Place.{Place}
@@ -15,6 +15,10 @@ use Rattle.paper.specs.declared.Reach.{Reach}
 use Rattle.paper.specs.declared.Op.{Op}
 use Rattle.paper.specs.declared.Field.{Field}
 use Rattle.paper.specs.declared.OrderShape.{OrderShape}
+use Rattle.paper.specs.declared.Found.{Found}
+use Rattle.paper.specs.declared.Change.{Change}
+use Rattle.paper.specs.declared.Effect.{Effect}
+use Rattle.paper.specs.declared.Answer.{Answer}
 
 -- first word: op = word / 256, a = word / 16 mod 16, b = word mod 16
 abbrev pub op-of : ℕ → ℕ
@@ -86,22 +90,6 @@ bad-service = 3
 abbrev pub zero-divisor : ℕ
 zero-divisor = 4
 
--- an order goes through and leaves an image, or faults
-pub data Effect : Type 0 where
-  went : List ℕ → Effect
-  faults : ℕ → Effect
-
--- a word is read at an address of the segment, or stored there
-abbrev pub at-place : Reach → (Place → Effect) → Effect
-at-place (Reach.At p) f = f p
-at-place Reach.Outside f = faults outside
-
-abbrev pub reading : Shape → List ℕ → Task → ℕ → (ℕ → Effect) → Effect
-reading s im i a f = at-place (reach s im i (address a)) (λ p. f (word im p))
-
-abbrev pub storing : Shape → List ℕ → Task → ℕ → ℕ → (List ℕ → Effect) → Effect
-storing s im i a v f = at-place (reach s im i (address a)) (λ p. f (set im (p .0) v))
-
 -- numbers are taken mod 65536
 abbrev pub mod-word : ℕ → ℕ
 mod-word x = x % 65536
@@ -113,21 +101,50 @@ next-order i = reg i 0
 abbrev pub stack : Task → Cell
 stack i = reg i 1
 
--- R0 is moved past the order, of n words
-unfoldable pub moved-past : Shape → List ℕ → Task → ℕ → List ℕ
-moved-past s im i n = put s im (next-order i) (mod-word (at s im (next-order i) + n))
+-- R0 is moved past the order, to next
+abbrev pub past : Shape → List ℕ → Task → ℕ → ℕ
+past s im i n = mod-word (at s im (next-order i) + n)
+
+unfoldable pub moved : Shape → List ℕ → Task → ℕ → List ℕ
+moved s im i next = put s im (next-order i) next
+
+-- before operands are read
+unfoldable pub operand : Shape → List ℕ → Task → ℕ → ℕ → ℕ
+operand s im i next r = at s (moved s im i next) (reg i r)
+
+-- the word at an address of the segment; an address outside faults
+abbrev pub found-at : List ℕ → Reach → Found
+found-at im (Reach.At p) = Found.Word (word im p)
+found-at im Reach.Outside = Found.Outside
+
+unfoldable pub found : Shape → List ℕ → Task → ℕ → Found
+found s im i a = found-at im (reach s im i (address a))
+
+abbrev pub reading : Found → (ℕ → Effect) → Effect
+reading (Found.Word w) f = f w
+reading Found.Outside f = Effect.Faults outside
+
+abbrev pub storing : Reach → (Place → Effect) → Effect
+storing (Reach.At p) f = f p
+storing Reach.Outside f = Effect.Faults outside
 
 -- n, the second word of an order, at the address after the first
 abbrev pub second : Shape → List ℕ → Task → (ℕ → Effect) → Effect
-second s im i f = reading s im i (at s im (next-order i) + 1) f
+second s im i f = reading (found s im i (at s im (next-order i) + 1)) f
 
--- orders 5 to 12: Ra becomes a result of Ra and Rb
-abbrev pub computed : Shape → List ℕ → Task → ℕ → ℕ → (ℕ → ℕ → ℕ) → Effect
-computed s im i a b f = went (put s im (reg i a) (f (at s im (reg i a)) (at s im (reg i b))))
+-- Ra becomes a word; a jump: R0 becomes one; the flags become a word
+abbrev pub sets : ℕ → ℕ → ℕ → Effect
+sets next a w = Effect.Does next (Change.Register a w)
+
+abbrev pub jumps : ℕ → ℕ → Effect
+jumps next n = sets next 0 n
+
+abbrev pub flags-become : ℕ → ℕ → Effect
+flags-become next f = Effect.Does next (Change.Flags f)
 
 -- quotient and remainder: a zero divisor faults
-abbrev pub divided : Shape → List ℕ → Task → ℕ → ℕ → (ℕ → ℕ → ℕ) → Effect
-divided s im i a b f = cond (eqb (at s im (reg i b)) 0) (faults zero-divisor) (computed s im i a b f)
+abbrev pub unless-zero : ℕ → Effect → Effect
+unless-zero y e = cond (eqb y 0) (Effect.Faults zero-divisor) e
 
 -- and, or, exclusive or: bit by bit, over the 16 bits of a word
 abbrev pub bitwise : (ℕ → ℕ → ℕ) → ℕ → ℕ → ℕ → ℕ
@@ -141,51 +158,73 @@ on-bits f x y = bitwise f 16 x y
 abbrev pub compared : ℕ → ℕ → ℕ
 compared x y = cond (eqb x y) 0 (cond (ltb x y) 1 2)
 
--- a jump: R0 becomes n
-abbrev pub jumped : Shape → List ℕ → Task → ℕ → Effect
-jumped s im i n = went (put s im (next-order i) n)
+-- call: R1 falls by 1, the return address is stored there, R0 becomes n
+abbrev pub calls : Shape → List ℕ → Task → ℕ → ℕ → ℕ → Effect
+calls s im i next top n = storing (reach s im i (address top)) (λ p. Effect.Does next (Change.Call p top n))
 
--- what each order does: im is the image before it, m the image with R0 moved
-abbrev pub effect : Op → Shape → List ℕ → List ℕ → Task → ℕ → ℕ → Effect
-effect Op.Unknown s im m i a b = faults bad-order
-effect Op.Load s im m i a b = second s im i (λ n. went (put s m (reg i a) n))
-effect Op.Copy s im m i a b = went (put s m (reg i a) (at s m (reg i b)))
-effect Op.Fetch s im m i a b = reading s m i (at s m (reg i b)) (λ w. went (put s m (reg i a) w))
-effect Op.Store s im m i a b = storing s m i (at s m (reg i b)) (at s m (reg i a)) went
-effect Op.Add s im m i a b = computed s m i a b (λ x y. mod-word (x + y))
-effect Op.Subtract s im m i a b = computed s m i a b (λ x y. mod-word (x + 65536 - y))
-effect Op.Multiply s im m i a b = computed s m i a b (λ x y. mod-word (x * y))
-effect Op.Quotient s im m i a b = divided s m i a b (λ x y. x / y)
-effect Op.Remainder s im m i a b = divided s m i a b (λ x y. x % y)
-effect Op.And s im m i a b = computed s m i a b (on-bits min)
-effect Op.Or s im m i a b = computed s m i a b (on-bits max)
-effect Op.ExclusiveOr s im m i a b = computed s m i a b (on-bits (λ x y. (x + y) % 2))
-effect Op.Compare s im m i a b =
-    went (put-flags s m i (compared (at s m (reg i a)) (at s m (reg i b))) (error s m i) (pending s m i))
-effect Op.Jump s im m i a b = second s im i (jumped s m i)
-effect Op.JumpIf s im m i a b = second s im i (λ n. cond (eqb (cc s m i) a) (jumped s m i n) (went m))
-effect Op.Call s im m i a b =
-    second s im i (λ n.
-    let top = mod-word (at s m (stack i) + 65535) in
-    storing s m i top (at s m (next-order i)) (λ k. jumped s (put s k (stack i) top) i n))
-effect Op.Return s im m i a b =
-    reading s m i (at s m (stack i)) (λ w.
-    jumped s (put s m (stack i) (mod-word (at s m (stack i) + 1))) i w)
-effect Op.Service s im m i a b = went (put-flags s m i (cc s m i) (error s m i) a)
+-- what each order does: next is R0 past it, x is Ra and y is Rb
+abbrev pub effect : Op → Shape → List ℕ → Task → ℕ → ℕ → ℕ → ℕ → Effect
+effect Op.Unknown s im i next a x y = Effect.Faults bad-order
+effect Op.Load s im i next a x y = second s im i (sets next a)
+effect Op.Copy s im i next a x y = sets next a y
+effect Op.Fetch s im i next a x y = reading (found s im i y) (sets next a)
+effect Op.Store s im i next a x y = storing (reach s im i (address y)) (λ p. Effect.Does next (Change.Store p x))
+effect Op.Add s im i next a x y = sets next a (mod-word (x + y))
+effect Op.Subtract s im i next a x y = sets next a (mod-word (x + 65536 - y))
+effect Op.Multiply s im i next a x y = sets next a (mod-word (x * y))
+effect Op.Quotient s im i next a x y = unless-zero y (sets next a (x / y))
+effect Op.Remainder s im i next a x y = unless-zero y (sets next a (x % y))
+effect Op.And s im i next a x y = sets next a (on-bits min x y)
+effect Op.Or s im i next a x y = sets next a (on-bits max x y)
+effect Op.ExclusiveOr s im i next a x y = sets next a (on-bits (λ j k. (j + k) % 2) x y)
+effect Op.Compare s im i next a x y = flags-become next (flags-of (compared x y) (error s im i) (pending s im i))
+effect Op.Jump s im i next a x y = second s im i (jumps next)
+effect Op.JumpIf s im i next a x y = second s im i (λ n. jumps next (cond (eqb (cc s im i) a) n next))
+effect Op.Call s im i next a x y = second s im i (calls s im i next (mod-word (at s im (stack i) + 65535)))
+effect Op.Return s im i next a x y =
+    reading (found s im i (at s im (stack i))) (λ w. Effect.Does next (Change.Return (mod-word (at s im (stack i) + 1)) w))
+effect Op.Service s im i next a x y = flags-become next (flags-of (cc s im i) (error s im i) a)
+
+-- an order of op, a and b, of n words
+unfoldable pub effect-of : Shape → List ℕ → Task → ℕ → ℕ → ℕ → ℕ → Effect
+effect-of s im i op n a b =
+    let next = past s im i n in
+    effect (order-of op) s im i next a (operand s im i next a) (operand s im i next b)
 
 -- op and fields, save the service number; service number; then the order
-abbrev pub checked : OrderShape → Shape → List ℕ → Task → ℕ → Effect
-checked OrderShape.Unknown s im i w = faults bad-order
+unfoldable pub checked : OrderShape → Shape → List ℕ → Task → ℕ → Effect
+checked OrderShape.Unknown s im i w = Effect.Faults bad-order
 checked (OrderShape.Known n fa fb) s im i w =
     cond (holds fa (a-of w) && holds fb (b-of w))
-    (cond (serves fa (a-of w)) (effect (order-of (op-of w)) s im (moved-past s im i n) i (a-of w) (b-of w)) (faults bad-service))
-    (faults bad-order)
+    (cond (serves fa (a-of w)) (effect-of s im i (op-of w) n (a-of w) (b-of w)) (Effect.Faults bad-service))
+    (Effect.Faults bad-order)
 
 -- one order: the first word's address before all
 unfoldable pub order : Shape → List ℕ → Task → Effect
 order s im i =
-    reading s im i (at s im (next-order i)) (λ w. checked (shape-of-order (order-of (op-of w))) s im i w)
+    reading (found s im i (at s im (next-order i))) (λ w. checked (shape-of-order (order-of (op-of w))) s im i w)
+
+-- the image with R1 and R0 written anew
+unfoldable pub with-stack : Shape → List ℕ → Task → ℕ → ℕ → List ℕ
+with-stack s im i top n = put s (put s im (stack i) top) (next-order i) n
+
+-- the image after a change: R0 is moved past the order first
+unfoldable pub changed : Shape → List ℕ → Task → ℕ → Change → List ℕ
+changed s im i next (Change.Register a w) = put s (moved s im i next) (reg i a) w
+changed s im i next (Change.Store p w) = set (moved s im i next) (p .0) w
+changed s im i next (Change.Flags f) = put s (moved s im i next) (flags i) f
+changed s im i next (Change.Call p top n) = with-stack s (set (moved s im i next) (p .0) next) i top n
+changed s im i next (Change.Return top w) = with-stack s (moved s im i next) i top w
 
 -- a faulting order changes only the error in the flags
 unfoldable pub order-faulted : Shape → List ℕ → Task → ℕ → List ℕ
 order-faulted s im i e = put-flags s im i (cc s im i) e (pending s im i)
+
+-- the image after an order, and its answer
+abbrev pub after-order : Shape → List ℕ → Task → Effect → List ℕ
+after-order s im i (Effect.Does next c) = changed s im i next c
+after-order s im i (Effect.Faults e) = order-faulted s im i e
+
+abbrev pub order-answer : Task → Effect → Answer
+order-answer i (Effect.Does next c) = Answer.OrderDone i
+order-answer i (Effect.Faults e) = Answer.OrderFaulted i

@@ -67,6 +67,12 @@ pub enum Asked {
     For(Service),
 }
 
+// What is wrong with a service that is asked for.
+pub enum Fault {
+    Nothing,
+    Error(u16),
+}
+
 // Whom an event wakes.
 pub enum Woken {
     Nobody,
@@ -164,4 +170,30 @@ pub enum Field {
 pub enum OrderShape {
     Unknown,
     Known(u8, Field, Field),
+}
+
+// The word at an address of a task's segment.
+pub enum Found {
+    Word(u16),
+    Outside,
+}
+
+// What an order changes of its task, beside that R0 is moved past it.
+pub enum Change {
+    // a register becomes a word
+    Register(usize, u16),
+    // a word is stored in the segment
+    Store(Place, u16),
+    // the flags become a word
+    Flags(u16),
+    // the return address is stored in the segment, R1 and R0 become words
+    Call(Place, u16, u16),
+    // R1 and R0 become words
+    Return(u16, u16),
+}
+
+// What an order comes to: R0 is moved to a word and something changes, or it faults with an error.
+pub enum Effect {
+    Does(u16, Change),
+    Faults(u16),
 }
