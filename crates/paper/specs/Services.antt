@@ -13,6 +13,7 @@ use Rattle.paper.specs.declared.Shape.{Shape}
 use Rattle.paper.specs.declared.Queue.{Queue}
 use Rattle.paper.specs.declared.Service.{Service}
 use Rattle.paper.specs.declared.Asked.{Asked}
+use Rattle.paper.specs.declared.Fault.{Fault}
 use Rattle.paper.specs.declared.Woken.{Woken}
 use Rattle.paper.specs.declared.Answer.{Answer}
 
@@ -52,22 +53,20 @@ no-character = 6
 unfoldable pub service-faulted : Shape → List ℕ → Task → ℕ → List ℕ
 service-faulted s im i e = put-flags s im i (cc s im i) e 0
 
--- a number in R2 of N or more gives error 5
-abbrev pub unless-no-task : Shape → List ℕ → Task → Outcome → Outcome
-unless-no-task s im i o =
-    cond (leb (s .n) (other s im i .0)) (accepted (Answer.ServiceFaulted i) (service-faulted s im i no-such-task)) o
+-- a number in R2 of N or more gives error 5; output of more than 255 gives error 6
+abbrev pub error-if : Bool → ℕ → Fault
+error-if b e = cond b (Fault.Error e) Fault.Nothing
 
--- output of more than 255 gives error 6
-abbrev pub unless-no-character : Shape → List ℕ → Task → Outcome → Outcome
-unless-no-character s im i o =
-    cond (ltb most-character (given s im i)) (accepted (Answer.ServiceFaulted i) (service-faulted s im i no-character)) o
+abbrev pub fault-of : Shape → List ℕ → Task → Service → Fault
+fault-of s im i Service.Send = error-if (leb (s .n) (other s im i .0)) no-such-task
+fault-of s im i Service.Receive = error-if (leb (s .n) (other s im i .0)) no-such-task
+fault-of s im i Service.Input = Fault.Nothing
+fault-of s im i Service.Output = error-if (ltb most-character (given s im i)) no-character
 
 -- both come before the buffer is looked at
-abbrev pub unless-wrong : Shape → List ℕ → Task → Service → Outcome → Outcome
-unless-wrong s im i Service.Send o = unless-no-task s im i o
-unless-wrong s im i Service.Receive o = unless-no-task s im i o
-unless-wrong s im i Service.Input o = o
-unless-wrong s im i Service.Output o = unless-no-character s im i o
+abbrev pub unless-wrong : Fault → Shape → List ℕ → Task → Outcome → Outcome
+unless-wrong (Fault.Error e) s im i o = accepted (Answer.ServiceFaulted i) (service-faulted s im i e)
+unless-wrong Fault.Nothing s im i o = o
 
 -- the buffer of a service
 abbrev pub buffer : Shape → List ℕ → Task → Service → Queue
@@ -77,11 +76,14 @@ buffer s im i Service.Input = Queue.Input i
 buffer s im i Service.Output = Queue.Output i
 
 -- on a full or an empty buffer the task waits
+abbrev pub blocks : Service → Shape → List ℕ → Queue → Bool
+blocks Service.Send s im q = full s im q
+blocks Service.Receive s im q = empty s im q
+blocks Service.Input s im q = empty s im q
+blocks Service.Output s im q = full s im q
+
 abbrev pub blocked : Shape → List ℕ → Task → Service → Bool
-blocked s im i Service.Send = full s im (buffer s im i Service.Send)
-blocked s im i Service.Receive = empty s im (buffer s im i Service.Receive)
-blocked s im i Service.Input = empty s im (buffer s im i Service.Input)
-blocked s im i Service.Output = full s im (buffer s im i Service.Output)
+blocked s im i v = blocks v s im (buffer s im i v)
 
 -- the peer field of a task that waits
 abbrev pub awaited : Shape → List ℕ → Task → Service → ℕ
@@ -107,12 +109,15 @@ printing s im i =
 unfoldable pub printing-if-idle : Shape → List ℕ → Task → List ℕ
 printing-if-idle s im i = cond (eqb (at s im (busy i)) 0) (printing s im i) im
 
--- otherwise the word moves
+-- otherwise the word moves, to or from the buffer
+abbrev pub moves : Service → Shape → List ℕ → Task → Queue → List ℕ
+moves Service.Send s im i q = appended s im q (given s im i)
+moves Service.Receive s im i q = delivered s im i q
+moves Service.Input s im i q = delivered s im i q
+moves Service.Output s im i q = printing-if-idle s (appended s im q (given s im i)) i
+
 abbrev pub moved : Shape → List ℕ → Task → Service → List ℕ
-moved s im i Service.Send = appended s im (buffer s im i Service.Send) (given s im i)
-moved s im i Service.Receive = delivered s im i (buffer s im i Service.Receive)
-moved s im i Service.Input = delivered s im i (buffer s im i Service.Input)
-moved s im i Service.Output = printing-if-idle s (appended s im (buffer s im i Service.Output) (given s im i)) i
+moved s im i v = moves v s im i (buffer s im i v)
 
 -- and pending becomes 0
 unfoldable pub served : Shape → List ℕ → Task → Service → List ℕ
@@ -129,9 +134,13 @@ wakes s im i Service.Receive = one-if (waits-for s im (other s im i) Service.Sen
 wakes s im i Service.Input = Woken.Nobody
 wakes s im i Service.Output = Woken.Nobody
 
+-- a word that may move does, unless a wake finds the ready queue full
+unfoldable pub finished : Shape → List ℕ → Task → Service → Outcome
+finished s im i v =
+    unless-full s im (wakes s im i v) (accepted (Answer.ServiceDone i) (with-woken s (served s im i v) (wakes s im i v)))
+
 -- a service: the wrong number first, then the buffer, then the word moves
 unfoldable pub service : Shape → List ℕ → Task → Service → Outcome
 service s im i v =
-    unless-wrong s im i v
-    (cond (blocked s im i v) (accepted (Answer.ServiceWaits i) (waiting s im i v))
-    (unless-full s im (wakes s im i v) (accepted (Answer.ServiceDone i) (with-woken s (served s im i v) (wakes s im i v)))))
+    unless-wrong (fault-of s im i v) s im i
+    (cond (blocked s im i v) (accepted (Answer.ServiceWaits i) (waiting s im i v)) (finished s im i v))
