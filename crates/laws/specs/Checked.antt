@@ -21,6 +21,7 @@ use Rattle.paper.specs.declared.Queue.{Queue}
 use Rattle.paper.specs.declared.Refusal.{Refusal}
 use Rattle.paper.specs.declared.Verdict.{Verdict}
 use Rattle.laws.specs.Layout.{shape-is, smallest-total}
+use Rattle.laws.specs.Sound.{Sound, shut}
 
 -- two numbers are equal
 pub equal : (a b : ℕ) → So (eqb a b) ↔ (a ≡ b)
@@ -51,7 +52,7 @@ one-of-three true b c = (λ _ n. absurd (n refl), λ _. refl)
 one-of-three false b c = (λ e _. either b c .0 e, λ f. either b c .1 (f false≢true))
 
 -- a, b and c, as the rules put three statements side by side
-all-three : (a b c : Bool) → So (a && b && c) ↔ (So a × So b × So c)
+pub all-three : (a b c : Bool) → So (a && b && c) ↔ (So a × So b × So c)
 all-three true b c = (λ e. let h = and-eq-true-iff b c .0 e in (refl, h .0, h .1), λ h. and-eq-true-iff b c .1 (h .1, h .2))
 all-three false b c = (λ e. absurd (false≢true e), λ h. absurd (false≢true (h .0)))
 
@@ -322,3 +323,10 @@ zero-is (Verdict.Refused r) =
 -- the number that the check returns is 0 exactly when the image is good
 pub check-zero : (im : List ℕ) → (verdict-number (check im) ≡ 0) ↔ Good (shape-of im) im
 check-zero im = (λ e. checked-good im (zero-is (check im) .0 e), λ g. zero-is (check im) .1 (good-checked (shape-of im) im g))
+
+-- a good image is sound, and so is one that was inspected and found fine
+pub good-sound : (s : Shape) (im : List ℕ) → Good s im → Sound s im
+good-sound s im g = shut record { laid = g .laid; queues = g .queues }
+
+pub inspected-sound : (s : Shape) (im : List ℕ) (v : Verdict) → v ≡ check im → s ≡ shape-of im → v ≡ Verdict.Fine → Sound s im
+inspected-sound s im v ev es f = rw es (good-sound (shape-of im) im (checked-good im (sym ev ∙ f)))

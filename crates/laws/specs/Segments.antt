@@ -51,6 +51,10 @@ module _ (s : Shape) (im : List ℕ) (i : Task) (a : Address) where
   unfolding reach
   stays-outside h = rw (le-ltb _ _ h)
 
+-- a place of the segment of task i
+abbrev pub InSegment : Shape → List ℕ → Task → Place → Type 0
+InSegment s im i p = (at s im (base i) ≤ p .0) × (p .0 < at s im (base i) + at s im (len i))
+
 -- the cell of a place among the segments
 abbrev pub segment-cell : Shape → Place → Cell
 segment-cell s p = cell Part.Segments 0 (p .0 - start s Part.Segments)
@@ -71,24 +75,21 @@ module _ (s : Shape) (im : List ℕ) (laid : Laid s im) where
   segment-before i j h hj =
       omega (arith, laid .bases i (omega arith), laid .bases j hj, starts-later s im (suc (i .0)) (j .0) h)
 
-  module _ (i : Task) (hi : i .0 < s .n) (a : Address) (p : Place) (e : reach s im i a ≡ Reach.At p) where
-    -- a reached place lies in that task's segment
-    pub in-segment : (at s im (base i) ≤ p .0) × (p .0 < at s im (base i) + at s im (len i))
-    in-segment =
-        let r = reached s im i a p e in
-        (omega arith, omega arith)
+  -- a reached place lies in that task's segment
+  pub in-segment : (i : Task) (a : Address) (p : Place) → reach s im i a ≡ Reach.At p → InSegment s im i p
+  in-segment i a p e =
+      let r = reached s im i a p e in
+      (omega arith, omega arith)
 
-    pub reached-below : p .0 < total s
-    reached-below = omega (arith, in-segment, segment-upto i hi)
-
+  module _ (i : Task) (hi : i .0 < s .n) (p : Place) (inside : InSegment s im i p) where
     -- it is a cell of the segments
     pub segment-valid : Valid s (segment-cell s p)
     unfolding total
-    segment-valid = (omega arith, omega (arith, in-segment, segment-from i hi, reached-below))
+    segment-valid = (omega arith, omega (arith, inside, segment-from i hi, segment-upto i hi))
 
     pub segment-place : place s (segment-cell s p) .0 ≡ p .0
     unfolding place
-    segment-place = omega (arith, in-segment, segment-from i hi)
+    segment-place = omega (arith, inside, segment-from i hi)
 
     -- a store there is a put, and a word read there is that cell's
     pub stored : (m : List ℕ) (v : ℕ) → set m (p .0) v ≡ put s m (segment-cell s p) v
@@ -104,10 +105,8 @@ module _ (s : Shape) (im : List ℕ) (laid : Laid s im) where
     past-tables c hc t = omega (arith, before-part s c (segment-cell s p) hc (ltb→lt (ord (c .part)) 9 t), segment-place)
 
     -- and from every other task's segment
-    pub segments-apart : (j : Task) → j .0 < s .n → j .0 ≢ i .0 → (b : Address) (q : Place) → reach s im j b ≡ Reach.At q → p .0 ≢ q .0
-    segments-apart j hj ne b q f z =
-        let r = reached s im i a p e in
-        let t = reached s im j b q f in
-        let before : ¬ (i .0 < j .0) = λ h. omega (arith, segment-before i j h hj) in
-        let after : ¬ (j .0 < i .0) = λ h. omega (arith, segment-before j i h hi) in
+    pub segments-apart : (j : Task) → j .0 < s .n → j .0 ≢ i .0 → (q : Place) → InSegment s im j q → p .0 ≢ q .0
+    segments-apart j hj ne q there z =
+        let before : ¬ (i .0 < j .0) = λ h. omega (arith, inside, there, segment-before i j h hj) in
+        let after : ¬ (j .0 < i .0) = λ h. omega (arith, inside, there, segment-before j i h hi) in
         omega arith

@@ -1,14 +1,15 @@
 -- A sound image: of its shape, and with all its queues in order. What keeps it so. Assumes nothing.
 use mathlib.Core.Path.{_≡_, refl, sym, ap, _∙_}
 use mathlib.Core.List.{List}
-use mathlib.Core.Bool.{not}
+use mathlib.Core.Bool.{false, not}
 use Prim.Native.Nat.{ℕ, zero, suc, _<_, _≤_}
 use native.Mathlib.Decide.{ℕ-discrete}
 use native.Mathlib.Omega.{arith}
+use borrow.Author.Tests.{eqb-false}
 use lib.Dec.{T, T-not, eqb}
 use lib.ListN.{length}
 use Rattle.paper.specs.Image.{most-tasks, task, lead, width, total, cell, Valid, place, at, put, len, segment-start}
-use Rattle.paper.specs.Queues.{part-of, row-of, Has, header-capacity, queue-word, head, count, capacity, appended, taken}
+use Rattle.paper.specs.Queues.{part-of, row-of, Has, header-capacity, queue-word, head, count, capacity, appended, taken, empty, full}
 use Rattle.paper.specs.Rules.{Fit, Laid, Queued}
 use Rattle.paper.specs.declared.Task.{Task}
 use Rattle.paper.specs.declared.Shape.{Shape}
@@ -86,7 +87,7 @@ module _ (s : Shape) (im im′ : List ℕ) where
   starts-frame zero f = refl
   starts-frame (suc n) f = omega (arith, starts-frame n (λ i h. f i (omega arith)), f (task n) (omega arith))
 
-  laid-frame : Laid s im → length im′ ≡ length im
+  pub laid-frame : Laid s im → length im′ ≡ length im
       → ((k : ℕ) → k < 17 → at s im′ (cell Part.Header 0 k) ≡ at s im (cell Part.Header 0 k))
       → ((i : Task) (k : ℕ) → i .0 < s .n → k < 2 → at s im′ (cell Part.SegmentTable (i .0) k) ≡ at s im (cell Part.SegmentTable (i .0) k))
       → Laid s im′
@@ -133,12 +134,13 @@ module _ (s : Shape) (im : List ℕ) (c : Cell) (v : ℕ) (hc : Valid s c) (free
         queues = λ q hq. queued-frame s im (put s im c v) q (o .queues q hq) (λ k hk. free-other (queue-word s q k) (word-valid s q k hq (omega arith)) (omega (arith, fixed-queue q)));
       }
 
+-- a part that has no queues is off every queue's row
+pub off-table : (s : Shape) (q : Queue) (p : Part) (i k : ℕ) → T (not (eqb (fixed p) lead)) → Off s q (cell p i k)
+off-table s q p i k ne e = absurd (T-not (eqb (fixed p) lead) ne (rw (ap fixed e ∙ fixed-queue q) tt))
+
 -- so does a change of one queue's row that leaves it a queue
 module _ (s : Shape) (im im′ : List ℕ) (q : Queue) (hq : Has s q) (long : length im′ ≡ length im)
     (off : (c : Cell) → Valid s c → Off s q c → at s im′ c ≡ at s im c) (r : Queued s im′ q) where
-  not-queue : (p : Part) (i k : ℕ) → T (not (eqb (fixed p) lead)) → Off s q (cell p i k)
-  not-queue p i k ne e = absurd (T-not (eqb (fixed p) lead) ne (rw (ap fixed e ∙ fixed-queue q) tt))
-
   other-queue : Sound s im → (p : Queue) → Has s p → Dec (place s (head s p) .0 ≡ place s (head s q) .0) → Queued s im′ p
   other-queue h p hp (yes e) =
       let same = one-cell s (head s p) (head s q) (word-valid s p 0 hp (omega arith)) (word-valid s q 0 hq (omega arith)) e in
@@ -159,8 +161,8 @@ module _ (s : Shape) (im im′ : List ℕ) (q : Queue) (hq : Has s q) (long : le
   pub row-sound : Sound s im → Sound s im′
   row-sound h =
       shut record {
-        laid = laid-frame s im im′ (sound h .laid) long (λ k hk. off (cell Part.Header 0 k) (omega arith, omega arith) (not-queue Part.Header 0 k tt))
-            (λ i k hi hk. off (cell Part.SegmentTable (i .0) k) (hi, hk) (not-queue Part.SegmentTable (i .0) k tt));
+        laid = laid-frame s im im′ (sound h .laid) long (λ k hk. off (cell Part.Header 0 k) (omega arith, omega arith) (off-table s q Part.Header 0 k tt))
+            (λ i k hi hk. off (cell Part.SegmentTable (i .0) k) (hi, hk) (off-table s q Part.SegmentTable (i .0) k tt));
         queues = λ p hp. other-queue h p hp (ℕ-discrete (place s (head s p) .0) (place s (head s q) .0));
       }
 
@@ -180,3 +182,18 @@ module _ (s : Shape) (im : List ℕ) (q : Queue) (hq : Has s q) (h : Sound s im)
   taken-sound some =
       row-sound s im (taken s im q) q hq (taken-length s im q hq long queued) (taken-off s im q hq long queued)
       (taken-queued s im q hq long queued some) h
+
+-- room, and a word to take
+module _ (s : Shape) (im : List ℕ) (h : Sound s im) (q : Queue) (hq : Has s q) where
+  pub has-room : full s im q ≡ false → at s im (count s q) < at s im (capacity s q)
+  unfolding full
+  has-room f =
+      let ne = eqb-false (at s im (count s q)) (at s im (capacity s q)) f in
+      let c = sound h .queues q hq .counted in
+      omega arith
+
+  pub has-word : empty s im q ≡ false → 0 < at s im (count s q)
+  unfolding empty
+  has-word f =
+      let ne = eqb-false (at s im (count s q)) 0 f in
+      omega arith
