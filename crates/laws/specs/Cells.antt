@@ -7,7 +7,7 @@ use Prim.Native.Nat.{ℕ, _+_, _<_}
 use native.Mathlib.Nat.{zero-add, zero-mul}
 use native.Mathlib.Omega.{arith}
 use lib.ListN.{length, length-set}
-use lib.Seq.{getD-set-same, getD-set-other}
+use lib.Seq.{getD-set-same, getD-set-other, set-getD}
 use lib.Dec.{T, T-not, eqb, eqb-refl, lit<, ltb, ltb→lt}
 use Rattle.paper.specs.Image.{ord, rows, width, total, cell, Valid, place, at, put, header-word, lead}
 use Rattle.paper.specs.declared.Shape.{Shape}
@@ -28,6 +28,11 @@ at-same s im c v hc hn = getD-set-same im (place s c .0) v 0 (omega (arith, belo
 pub at-other : (s : Shape) (im : List ℕ) (c d : Cell) (v : ℕ) → Valid s c → Valid s d → d ≢ c → at s (put s im c v) d ≡ at s im d
 unfolding at put
 at-other s im c d v hc hd ne = getD-set-other im (place s c .0) (place s d .0) v 0 (apart s d c hd hc ne)
+
+-- a write of what a cell holds changes nothing
+pub put-held : (s : Shape) (im : List ℕ) (c : Cell) (v : ℕ) → at s im c ≡ v → put s im c v ≡ im
+unfolding at put
+put-held s im c v e = rw (← e) (set-getD im (place s c .0) 0)
 
 pub length-put : (s : Shape) (im : List ℕ) (c : Cell) (v : ℕ) → length (put s im c v) ≡ length im
 unfolding put

@@ -53,6 +53,16 @@ words-length : (s : Shape) (im : List ℕ) (q : Queue) (h n : ℕ) → length (w
 words-length s im q h zero = refl
 words-length s im q h (suc n) = ap suc (words-length s im q (step h (at s im (capacity s q))) n)
 
+-- a queue whose words are as they were holds what it held
+pub held-frame : (s : Shape) (im im′ : List ℕ) (q : Queue) → Queued s im q
+    → ((k : ℕ) → k < lead + header-capacity s q → at s im′ (queue-word s q k) ≡ at s im (queue-word s q k)) → held s im′ q ≡ held s im q
+unfolding held
+held-frame s im im′ q r f =
+    let c = at s im (capacity s q) in
+    let h = at s im (head s q) in
+    rw (f 0 (omega arith), f 2 (omega arith))
+    (words-same s im im′ q h (at s im (count s q)) (f 3 (omega arith)) (λ k hk. f (lead + steps h k c) (omega (arith, steps-below h k c (r .headed), r .sized))))
+
 -- length counts the words held
 pub held-length : (s : Shape) (im : List ℕ) (q : Queue) → length (held s im q) ≡ at s im (count s q)
 unfolding held
