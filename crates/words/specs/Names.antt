@@ -27,6 +27,6 @@ Names s (Spot.Peer i) = i .0 < s .n
 Names s (Spot.Busy i) = i .0 < s .n
 Names s (Spot.Character i) = i .0 < s .n
 
--- the place is one of the segments
-abbrev pub Among : Shape → Place → Type 0
+-- the place is one of the segments; shut, as contracts say it
+unfoldable pub Among : Shape → Place → Type 0
 Among s p = (start s Part.Segments ≤ p .0) × (p .0 < total s)

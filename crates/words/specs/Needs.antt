@@ -4,11 +4,10 @@ use mathlib.Core.List.{List}
 use mathlib.Core.Bool.{Bool, false}
 use Prim.Native.Nat.{ℕ, _+_, _<_, _≤_}
 use native.Mathlib.Omega.{arith}
-use borrow.Author.Tests.{eqb-false}
 use lib.Dec.{eqb}
 use lib.ListN.{getD, set, length}
 use Rattle.paper.specs.Image.{place-at, lead, Valid, place, at, put, base, len, reach}
-use Rattle.paper.specs.Queues.{Has, header-capacity, queue-word, head, count, capacity, slot, appended, first, taken, empty, full}
+use Rattle.paper.specs.Queues.{Has, header-capacity, queue-word, head, count, slot, appended, first, taken, empty, full}
 use Rattle.paper.specs.declared.Task.{Task}
 use Rattle.paper.specs.declared.Address.{Address}
 use Rattle.paper.specs.declared.Place.{Place}
@@ -19,8 +18,8 @@ use Rattle.paper.specs.declared.Reach.{Reach}
 use Rattle.laws.specs.Places.{below}
 use Rattle.laws.specs.Layout.{total-is}
 use Rattle.laws.specs.Queues.{word-valid}
-use Rattle.laws.specs.Segments.{segment-cell, reaches, stays-outside}
-use Rattle.laws.specs.Sound.{Sound, sound, fixed, put-sound, appended-sound, taken-sound}
+use Rattle.laws.specs.Segments.{segment-cell, InSegment, segment-from, segment-upto, reaches, stays-outside}
+use Rattle.laws.specs.Sound.{Sound, sound, has-room, has-word, fixed, put-sound, appended-sound, taken-sound}
 use Rattle.rings.specs.Ring.{Ring, append-at, first-at, take-at}
 use Rattle.words.specs.Names.{spot-cell, Names, Among}
 use Rattle.words.specs.declared.Spot.{Spot}
@@ -116,37 +115,24 @@ module _ (s : Shape) (im : List ℕ) (q : Queue) (p : Place) (e : p ≡ place s 
           counted = rw (word-is 2, word-is 3) (r .counted);
         }
 
-    room : full s im q ≡ false → at s im (count s q) < at s im (capacity s q)
-    unfolding full
-    room f =
-        let ne = eqb-false (at s im (count s q)) (at s im (capacity s q)) f in
-        let r = sound h .queues q hq .counted in
-        omega arith
-
-    some : empty s im q ≡ false → 0 < at s im (count s q)
-    unfolding empty
-    some f =
-        let ne = eqb-false (at s im (count s q)) 0 f in
-        omega arith
-
     pub room-is : full s im q ≡ false → getD im (p .0 + 2) 0 < getD im (p .0 + 3) 0
-    room-is f = rw (word-is 2, word-is 3) (room f)
+    room-is f = rw (word-is 2, word-is 3) (has-room s im h q hq f)
 
     pub some-is : empty s im q ≡ false → 0 < getD im (p .0 + 2) 0
-    some-is f = rw (word-is 2) (some f)
+    some-is f = rw (word-is 2) (has-word s im h q hq f)
 
     module _ (out : List ℕ) where
       pub appended-is : (v : ℕ) → out ≡ append-at im (p .0) v → out ≡ appended s im q v
       appended-is v eo = eo ∙ append-is v
 
       pub appended-keeps : (v : ℕ) → out ≡ append-at im (p .0) v → full s im q ≡ false → Sound s out
-      appended-keeps v eo f = rw (appended-is v eo) (appended-sound s im q hq h v (room f))
+      appended-keeps v eo f = rw (appended-is v eo) (appended-sound s im q hq h v (has-room s im h q hq f))
 
       pub taken-is : out ≡ take-at im (p .0) → out ≡ taken s im q
       taken-is eo = eo ∙ take-is
 
       pub taken-keeps : out ≡ take-at im (p .0) → empty s im q ≡ false → Sound s out
-      taken-keeps eo f = rw (taken-is eo) (taken-sound s im q hq h (some f))
+      taken-keeps eo f = rw (taken-is eo) (taken-sound s im q hq h (has-word s im h q hq f))
 
 -- an empty queue holds no word
 pub empty-is : (s : Shape) (im : List ℕ) (q : Queue) (n : ℕ) → n ≡ at s im (count s q) → eqb n 0 ≡ empty s im q
@@ -161,17 +147,24 @@ module _ (s : Shape) (im : List ℕ) (i : Task) (a : Address) (n : ℕ) (en : n 
   pub reach-outside : n ≤ a .0 → Reach.Outside ≡ reach s im i a
   reach-outside h = sym (stays-outside s im i a (omega arith))
 
+-- a place of a task's segment is one among the segments
+pub inside-among : (s : Shape) (im : List ℕ) (i : Task) → i .0 < s .n → Sound s im → (p : Place) → InSegment s im i p → Among s p
+unfolding Among
+inside-among s im i hi h p inside =
+    (omega (arith, inside, segment-from s im (sound h .laid) i hi), omega (arith, inside, segment-upto s im (sound h .laid) i hi))
+
 -- a place among the segments
 module _ (s : Shape) (im : List ℕ) (p : Place) (h : Sound s im) (among : Among s p) where
   pub among-inside : p .0 < length im
+  unfolding Among
   among-inside = omega (arith, sound h .laid .words)
 
   among-place : place s (segment-cell s p) .0 ≡ p .0
-  unfolding place
+  unfolding place Among
   among-place = omega arith
 
   pub written-sound : (out : List ℕ) (v : ℕ) → out ≡ set im (p .0) v → Sound s out
-  unfolding put
+  unfolding put Among
   written-sound out v eo =
       let e : out ≡ put s im (segment-cell s p) v = eo ∙ ap (λ (x : ℕ). set im x v) (sym among-place) in
       rw e (put-sound s im (segment-cell s p) v (omega arith, omega (arith, total-is s)) (omega arith) h)

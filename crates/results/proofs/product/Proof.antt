@@ -1,0 +1,11 @@
+-- Assumes nothing.
+use borrow.Author.Needs.{needs}
+use Rattle.results.specs.Words.{product-fits}
+use Rattle.results.proofs.product.Statement.{statement}
+use Rattle.results.proofs.product.Tie as tie
+
+mul-mod-word : tie.Need-mul-mod-word
+mul-mod-word c = record { fits = product-fits _ _ (search needs) (search needs) }
+
+pub product-spec : {M : Type 1} → statement M
+product-spec = tie.close (tie.spec mul-mod-word (λ c κs. search needs) (λ c. search needs))
