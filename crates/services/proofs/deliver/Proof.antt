@@ -1,0 +1,17 @@
+-- Assumes nothing.
+use Rattle.services.specs.Needs.{delivers}
+use borrow.Author.Needs.{needs}
+use Rattle.services.proofs.deliver.Statement.{statement}
+use Rattle.services.proofs.deliver.Tie as tie
+
+returns : tie.Need-returns
+returns c = search delivers
+
+pub deliver-spec : {M : Type 1} → statement M
+deliver-spec =
+    tie.close
+    (tie.spec
+    (λ c κs. search needs)
+    (λ c κs. search needs)
+    (λ c. search needs)
+    returns)

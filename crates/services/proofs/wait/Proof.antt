@@ -1,0 +1,22 @@
+-- Assumes nothing.
+use Rattle.services.specs.Needs.{still-some, waited}
+use borrow.Author.Needs.{needs}
+use Rattle.services.proofs.wait.Statement.{statement}
+use Rattle.services.proofs.wait.Tie as tie
+
+leave-requires : tie.Need-leave-requires
+leave-requires c κs = search still-some
+
+returns : tie.Need-returns
+returns c = search waited
+
+pub wait-spec : {M : Type 1} → statement M
+wait-spec =
+    tie.close
+    (tie.spec
+    (λ c κs. search needs)
+    (λ c κs. search needs)
+    (λ c κs. search needs)
+    leave-requires
+    (λ c. search needs)
+    returns)
