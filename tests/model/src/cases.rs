@@ -9,10 +9,10 @@ use crate::layout::{Frame, LARGEST_TOTAL};
 use crate::numbers;
 use crate::rng::Rng;
 
-const SMALLEST: Frame = Frame { tasks: 1, slice: 1, input: 1, output: 1, message: 1 };
-const PAIR: Frame = Frame { tasks: 2, slice: 3, input: 1, output: 2, message: 3 };
-const CROWD: Frame = Frame { tasks: 16, slice: 5, input: 1, output: 2, message: 1 };
-const LARGEST: Frame = Frame { tasks: 16, slice: 65535, input: 32, output: 32, message: 32 };
+pub const SMALLEST: Frame = Frame { tasks: 1, slice: 1, input: 1, output: 1, message: 1 };
+pub const PAIR: Frame = Frame { tasks: 2, slice: 3, input: 1, output: 2, message: 3 };
+pub const CROWD: Frame = Frame { tasks: 16, slice: 5, input: 1, output: 2, message: 1 };
+pub const LARGEST: Frame = Frame { tasks: 16, slice: 65535, input: 32, output: 32, message: 32 };
 
 /// A list of words and the number that the check must give for it.
 pub struct Case {

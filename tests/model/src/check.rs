@@ -2,7 +2,7 @@
 
 use crate::image::Kernel;
 use crate::layout::{Frame, Layout, EDITION, HEADER_WORDS, LARGEST_TOTAL, MARK, TOTAL};
-use crate::numbers;
+use crate::numbers::{self, require};
 use crate::rules;
 
 /// The number that any list of words gets, 0 for a good image.
@@ -21,14 +21,6 @@ pub fn accept(words: &[u16]) -> Result<Kernel, u16> {
     let kernel = Kernel::decode(words, &layout).ok_or(numbers::OTHER_RULE)?;
     require(rules::hold(&kernel), numbers::OTHER_RULE)?;
     Ok(kernel)
-}
-
-fn require(holds: bool, number: u16) -> Result<(), u16> {
-    if holds {
-        Ok(())
-    } else {
-        Err(number)
-    }
 }
 
 /// Whether the segments stand packed from the first one's offset to T, and

@@ -106,7 +106,7 @@ fn assert_good(kernel: &Kernel) {
 /// status of its own.
 fn task(rng: &mut Rng, frame: &Frame, length: usize) -> Task {
     let idle = rng.percent(40);
-    let port = if idle { Port::default() } else { Port { busy: 1, character: rng.character() } };
+    let port = if idle { Port::default() } else { Port::printing(rng.character()) };
     let output = if idle {
         queue(rng, frame.output, 0, Rng::character)
     } else {

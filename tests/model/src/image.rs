@@ -3,6 +3,9 @@
 use crate::layout::{word, Frame, Layout, CLOCK, EDITION, MARK, TASK_WORDS};
 use crate::queue::Queue;
 
+/// The largest character of a device.
+pub const LARGEST_CHARACTER: u16 = 255;
+
 /// A whole kernel. The buffer from task i to task j is `messages[i][j]`.
 #[derive(Clone, Debug, PartialEq, Eq)]
 pub struct Kernel {
@@ -65,6 +68,17 @@ impl Flags {
 
     pub fn encode(&self) -> u16 {
         self.cc + 4 * self.error + 32 * self.pending
+    }
+}
+
+impl Port {
+    /// A busy port with this character.
+    pub fn printing(character: u16) -> Port {
+        Port { busy: 1, character }
+    }
+
+    pub fn is_idle(&self) -> bool {
+        self.busy == 0
     }
 }
 
@@ -136,13 +150,8 @@ impl Kernel {
     }
 
     fn segment_table(&self) -> Vec<u16> {
-        let mut base = self.layout().first_segment;
-        let mut entries = Vec::new();
-        for task in &self.tasks {
-            entries.extend([base, task.segment.len()].map(word));
-            base += task.segment.len();
-        }
-        entries
+        let entry = |(i, task): (usize, &Task)| [self.base(i), task.segment.len()].map(word);
+        self.tasks.iter().enumerate().flat_map(entry).collect()
     }
 
     pub fn layout(&self) -> Layout {
@@ -155,10 +164,16 @@ impl Kernel {
         })
     }
 
+    /// The place of the first word of task `i`'s segment; of the count of
+    /// tasks, the image's end.
+    pub fn base(&self, i: usize) -> usize {
+        let before: usize = self.tasks[..i].iter().map(|t| t.segment.len()).sum();
+        self.layout().first_segment + before
+    }
+
     /// T, the image's count of words.
     pub fn total(&self) -> usize {
-        let segments: usize = self.tasks.iter().map(|t| t.segment.len()).sum();
-        self.layout().first_segment + segments
+        self.base(self.tasks.len())
     }
 }
 

@@ -8,13 +8,18 @@
 
 pub mod building;
 pub mod cases;
+pub mod changes;
 pub mod check;
 pub mod damage;
+pub mod events;
 pub mod good;
+pub mod happening;
 pub mod image;
 pub mod junk;
 pub mod layout;
 pub mod numbers;
+pub mod ordering;
+pub mod orders;
 pub mod plan;
 pub mod queue;
 pub mod rng;

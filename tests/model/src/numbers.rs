@@ -1,6 +1,6 @@
 //! The numbers that come back, by the paper's table.
 
-/// A check or a build that succeeds.
+/// A check or a build that succeeds, or an event that is accepted.
 pub const GOOD: u16 = 0;
 /// The image has under 18 words.
 pub const UNDER_HEADER: u16 = 1;
@@ -14,7 +14,24 @@ pub const OFFSET: u16 = 4;
 pub const SEGMENT_OR_TOTAL: u16 = 5;
 /// Another rule of the image is broken.
 pub const OTHER_RULE: u16 = 6;
+/// The event is malformed.
+pub const EVENT: u16 = 7;
+/// An input finds its input buffer full.
+pub const INPUT_FULL: u16 = 8;
+/// An output is done on a port that is idle.
+pub const PORT_IDLE: u16 = 9;
+/// A wake finds the ready queue full.
+pub const READY_FULL: u16 = 10;
 /// The plan is too short, too long, or one of its lengths is wrong.
 pub const PLAN: u16 = 11;
 /// The target of a build is not T words.
 pub const TARGET: u16 = 12;
+
+/// Gives the number where the condition does not hold.
+pub fn require(holds: bool, number: u16) -> Result<(), u16> {
+    if holds {
+        Ok(())
+    } else {
+        Err(number)
+    }
+}

@@ -1,9 +1,7 @@
 //! What an image must hold beyond its header, segments and queues: the rest
 //! of number 6, one function for each rule.
 
-use crate::image::{service, status, Flags, Kernel, Task};
-
-const LARGEST_CHARACTER: u16 = 255;
+use crate::image::{service, status, Flags, Kernel, Task, LARGEST_CHARACTER};
 
 /// Whether a kernel keeps every rule that a struct of sound queues can break.
 pub fn hold(kernel: &Kernel) -> bool {

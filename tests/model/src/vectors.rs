@@ -25,13 +25,58 @@
 //! | then | where word 1 is 0, the target's words after the build |
 //!
 //! A refused build leaves the target as it was, so nothing more is stored.
+//!
+//! A record of kind 3, an image to go by until the next record of kind 3:
+//!
+//! | word of a record | holds |
+//! |---|---|
+//! | 0 | kind of the record, 3 |
+//! | 1 | 0 |
+//! | 2, 3 | count of image words |
+//! | 4.. | the image's words |
+//!
+//! A record of kind 4, one order of that image's first ready task, with each
+//! of some neighbouring words at one place:
+//!
+//! | word of a record | holds |
+//! |---|---|
+//! | 0 | kind of the record, 4 |
+//! | 1 | expected outcome: 0 done, 1 to 4 the error |
+//! | 2, 3 | span, how many words: 1 to 65536 |
+//! | 4 | the place in the image |
+//! | 5 | the first of the words |
+//! | 6 | k, how many words the order changes |
+//! | 7.. | k pairs: a place, ascending, and its new word |
+//!
+//! A record of kind 5, an event on the image that stands, which is then the
+//! image with the changed words:
+//!
+//! | word of a record | holds |
+//! |---|---|
+//! | 0 | kind of the record, 5 |
+//! | 1 | expected number: 0 accepted, or 7 to 10 |
+//! | 2, 3 | k, how many words the event changes |
+//! | 4, 5, 6 | the event: kind, device and character |
+//! | 7, 8 | the answer's kind and task; 65535 twice where it is refused |
+//! | 9.. | k pairs: a place, ascending, and its new word |
 
-use crate::{building, cases, numbers};
+use crate::changes::Change;
+use crate::layout::word;
+use crate::{building, cases, happening, numbers, ordering};
 
 /// The kind of record that holds a list of words and the check's number.
 pub const CHECK: u16 = 1;
 /// The kind of record that holds a plan, its size and its build.
 pub const BUILD: u16 = 2;
+/// The kind of record that holds an image for the records after it.
+pub const IMAGE: u16 = 3;
+/// The kind of record that holds an order's outcome and changes.
+pub const ORDER: u16 = 4;
+/// The kind of record that holds an event's outcome and changes.
+pub const EVENT: u16 = 5;
+
+/// What stands for both words of the answer that a refused event has not.
+const NO_ANSWER: u16 = 65535;
 
 /// The bytes of a file that holds these cases, each as its record.
 pub fn encode<C>(cases: &[C], record: fn(&C) -> Vec<u16>) -> Vec<u8> {
@@ -60,6 +105,52 @@ pub fn build_record(case: &building::Case) -> Vec<u16> {
     words
 }
 
+/// The words of a record of kind 3 and of its records of kind 4.
+pub fn order_records(group: &ordering::Group) -> Vec<u16> {
+    let mut words = image_record(&group.image);
+    words.extend(group.cases.iter().flat_map(order_record));
+    words
+}
+
+/// The words of a record of kind 3 and of its records of kind 5.
+pub fn event_records(sequence: &happening::Sequence) -> Vec<u16> {
+    let mut words = image_record(&sequence.image);
+    words.extend(sequence.steps.iter().flat_map(event_record));
+    words
+}
+
+/// The words of a record of kind 3.
+fn image_record(image: &[u16]) -> Vec<u16> {
+    let mut words = vec![IMAGE, 0];
+    words.extend(count(image.len()));
+    words.extend(image);
+    words
+}
+
+/// The words of a record of kind 4.
+fn order_record(case: &ordering::Case) -> Vec<u16> {
+    let mut words = vec![ORDER, case.expected];
+    words.extend(count(case.span));
+    words.extend([word(case.place), case.first, word(case.changes.len())]);
+    words.extend(pairs(&case.changes));
+    words
+}
+
+/// The words of a record of kind 5.
+fn event_record(step: &happening::Step) -> Vec<u16> {
+    let mut words = vec![EVENT, step.outcome.err().unwrap_or(numbers::GOOD)];
+    words.extend(count(step.changes.len()));
+    words.extend(step.event);
+    words.extend(step.outcome.map_or([NO_ANSWER; 2], |answer| [answer.kind, answer.task]));
+    words.extend(pairs(&step.changes));
+    words
+}
+
+/// Each place and its new word.
+fn pairs(changes: &[Change]) -> impl Iterator<Item = u16> + '_ {
+    changes.iter().flat_map(|&(place, new)| [place, new])
+}
+
 /// A count as two words, low and high 16 bits.
 fn count(number: usize) -> [u16; 2] {
     let number = u32::try_from(number).expect("a count is under 2^32");
@@ -69,6 +160,7 @@ fn count(number: usize) -> [u16; 2] {
 #[cfg(test)]
 mod tests {
     use super::*;
+    use crate::events::Answer;
 
     fn check_bytes(words: Vec<u16>) -> Vec<u8> {
         encode(&[cases::Case::judged(words)], check_record)
@@ -106,5 +198,48 @@ mod tests {
         let out_of_range = build_words(&[1, 0, 1, 1, 1], 54);
         assert_eq!(out_of_range, [2, 3, 5, 0, 54, 0, 500, 3, 0, 0, 1, 0, 1, 1, 1]);
         assert_eq!(build_words(&[], 0), [2, 11, 0, 0, 0, 0, 500, 11, 0, 0]);
+    }
+
+    #[test]
+    fn the_cases_of_an_image_follow_it() {
+        let stored = |place, first, changes: &[(u16, u16)]| ordering::Case {
+            expected: 0,
+            span: 1,
+            place,
+            first,
+            changes: changes.to_vec(),
+        };
+        let unknown = ordering::Case { expected: 2, span: 65536, ..stored(8, 0, &[(1, 9)]) };
+        let cases = vec![unknown, stored(32767, 65535, &[]), stored(8, 7, &[(0, 4), (2, 5)])];
+        let words = order_records(&ordering::Group { image: vec![50, 60, 70], cases });
+        let by_hand: [&[u16]; 4] = [
+            &[3, 0, 3, 0, 50, 60, 70],
+            &[4, 2, 0, 1, 8, 0, 1, 1, 9],
+            &[4, 0, 1, 0, 32767, 65535, 0],
+            &[4, 0, 1, 0, 8, 7, 2, 0, 4, 2, 5],
+        ];
+        assert_eq!(words, by_hand.concat());
+    }
+
+    #[test]
+    fn the_events_of_an_image_follow_it() {
+        let step = |event, outcome, changes: &[Change]| happening::Step {
+            event,
+            outcome,
+            changes: changes.to_vec(),
+        };
+        let steps = vec![
+            step([0, 0, 0], Ok(Answer { kind: 6, task: 15 }), &[(17, 4), (18, 300)]),
+            step([1, 3, 256], Err(7), &[]),
+            step([0, 0, 0], Ok(Answer { kind: 0, task: 0 }), &[]),
+        ];
+        let words = event_records(&happening::Sequence { image: vec![50, 60], steps });
+        let by_hand: [&[u16]; 4] = [
+            &[3, 0, 2, 0, 50, 60],
+            &[5, 0, 2, 0, 0, 0, 0, 6, 15, 17, 4, 18, 300],
+            &[5, 7, 0, 0, 1, 3, 256, 65535, 65535],
+            &[5, 0, 0, 0, 0, 0, 0, 0, 0],
+        ];
+        assert_eq!(words, by_hand.concat());
     }
 }

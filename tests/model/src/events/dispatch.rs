@@ -1,0 +1,87 @@
+//! Who runs: dispatch, leaving the ready queue, and waking.
+
+use crate::image::{status, Kernel};
+use crate::layout::word;
+use crate::numbers::{self, require};
+
+/// Gives the first ready task a whole slice.
+fn dispatch(kernel: &mut Kernel) {
+    kernel.clock = if kernel.ready.is_empty() { 0 } else { kernel.slice };
+}
+
+/// Takes the first task out of the ready queue, with the status that it has
+/// from then on, and dispatches.
+pub fn leave(kernel: &mut Kernel, status: u16) {
+    let first = usize::from(kernel.ready.take());
+    kernel.tasks[first].status = status;
+    dispatch(kernel);
+}
+
+/// Passes the turn of the first task, which becomes the last.
+pub fn pass_turn(kernel: &mut Kernel) {
+    let first = kernel.ready.take();
+    kernel.ready.append(first);
+    dispatch(kernel);
+}
+
+/// Makes a waiting task ready, or refuses where the ready queue is full.
+pub fn wake(kernel: &mut Kernel, task: usize) -> Result<(), u16> {
+    require(!kernel.ready.is_full(), numbers::READY_FULL)?;
+    let nobody_was_ready = kernel.ready.is_empty();
+    kernel.tasks[task].status = status::READY;
+    kernel.tasks[task].peer = 0;
+    kernel.ready.append(word(task));
+    if nobody_was_ready {
+        dispatch(kernel);
+    }
+    Ok(())
+}
+
+#[cfg(test)]
+mod tests {
+    use super::*;
+    use crate::happening::scene::{queue, Scene};
+
+    #[test]
+    fn dispatch_sets_the_slice_or_0() {
+        let mut kernel = Scene::of(2).clock(3).kernel();
+        leave(&mut kernel, 3);
+        assert_eq!((kernel.clock, kernel.tasks[0].status), (5, 3));
+        assert_eq!(kernel.ready, queue(&[1, 0, 1, 2, 0, 1]));
+        leave(&mut kernel, 5);
+        assert_eq!((kernel.clock, kernel.tasks[1].status), (0, 5));
+        assert_eq!(kernel.ready, queue(&[0, 0, 0, 2, 0, 1]));
+    }
+
+    #[test]
+    fn a_woken_task_is_the_last_and_has_no_peer() {
+        let before = Scene::of(3).waits_to_receive(0, 2).clock(3).kernel();
+        let mut after = before.clone();
+        assert_eq!(wake(&mut after, 0), Ok(()));
+        let mut expected = before;
+        expected.tasks[0].status = 0;
+        expected.tasks[0].peer = 0;
+        expected.ready = queue(&[0, 0, 3, 3, 1, 2, 0]);
+        assert_eq!(after, expected);
+    }
+
+    #[test]
+    fn a_wake_dispatches_where_nobody_was_ready() {
+        let mut kernel = Scene::of(2).waits_for_input(0).waits_for_input(1).kernel();
+        assert_eq!(kernel.clock, 0);
+        assert_eq!(wake(&mut kernel, 1), Ok(()));
+        assert_eq!(kernel.clock, 5);
+        kernel.clock = 2;
+        assert_eq!(wake(&mut kernel, 0), Ok(()));
+        assert_eq!(kernel.clock, 2);
+        assert_eq!(kernel.ready, queue(&[0, 0, 2, 2, 1, 0]));
+    }
+
+    #[test]
+    fn a_full_ready_queue_takes_no_other() {
+        let before = Scene::of(2).kernel();
+        let mut after = before.clone();
+        assert_eq!(wake(&mut after, 0), Err(10));
+        assert_eq!(after, before);
+    }
+}

@@ -1,0 +1,149 @@
+//! Ticks by the rule that applies, and what they make of the clock.
+
+use super::cell::Cell::{Clock, Flags, Input, Message, Ready, Status, R};
+use super::cell::{HEAD, LENGTH, SLOT, TAIL};
+use super::Special;
+use crate::events::answer::{
+    ERROR_STOP, IDLE, ORDER_DONE, ORDER_FAULTED, SERVICE_DONE, TURN_PASSED,
+};
+use crate::happening::scene::Scene;
+use crate::image::service::{INPUT, OUTPUT, SEND};
+
+/// Ticks by their rules.
+pub fn all() -> Vec<Special> {
+    [idle(), stops(), turns(), turns_before_services(), orders(), clocks()].concat()
+}
+
+/// Nobody is ready.
+fn idle() -> Vec<Special> {
+    let scenes = [
+        Scene::of(1).stopped(0, 3),
+        Scene::of(1).waits_to_receive(0, 0),
+        Scene::of(2).waits_for_input(0).stopped(1, 6),
+        Scene::of(3).waits_to_receive(0, 1).waits_to_receive(1, 2).waits_for_input(2),
+    ];
+    scenes.map(|scene| Special::on(scene).tick(IDLE, 0, &[]).tick(IDLE, 0, &[])).to_vec()
+}
+
+/// A task with each error, alone, with others, at clock 0 and S, and at the
+/// ready queue's last slot.
+fn stops() -> Vec<Special> {
+    let mut list = Vec::new();
+    for error in 1..=6 {
+        let of_three = Scene::of(3).flags(0, 2, error, 0).clock(2);
+        let left = [(Clock, 5), (Ready(HEAD), 1), (Ready(LENGTH), 2), (Status(0), 5)];
+        let next = [(Clock, 4), (R(1, 0), 1)];
+        list.push(Special::on(of_three).tick(ERROR_STOP, 0, &left).tick(ORDER_DONE, 1, &next));
+        let alone = Scene::of(1).flags(0, 1, error, 0).clock(2);
+        let emptied = [(Clock, 0), (Ready(LENGTH), 0), (Status(0), 5)];
+        list.push(Special::on(alone).tick(ERROR_STOP, 0, &emptied).tick(IDLE, 0, &[]));
+        let out_of_time = Scene::of(2).flags(0, 0, error, 0).clock(0);
+        let left = [(Clock, 5), (Ready(HEAD), 1), (Ready(LENGTH), 1), (Status(0), 5)];
+        list.push(Special::on(out_of_time).tick(ERROR_STOP, 0, &left));
+    }
+    let last_slot = Scene::of(3).ready(&[2, 2, 3, 3, 1, 2, 0]).flags(0, 0, 1, 0);
+    let wrapped = [(Ready(HEAD), 0), (Ready(LENGTH), 2), (Status(0), 5)];
+    list.push(Special::on(last_slot).tick(ERROR_STOP, 0, &wrapped));
+    let both = Scene::of(2).flags(0, 0, 1, 0).flags(1, 0, 2, 0).clock(1);
+    let first = [(Clock, 5), (Ready(HEAD), 1), (Ready(LENGTH), 1), (Status(0), 5)];
+    let second = [(Clock, 0), (Ready(HEAD), 0), (Ready(LENGTH), 0), (Status(1), 5)];
+    list.push(Special::on(both).tick(ERROR_STOP, 0, &first).tick(ERROR_STOP, 1, &second));
+    list
+}
+
+/// Turns passed with one task and with several, in full queues and in others,
+/// with head and tail at each slot.
+fn turns() -> Vec<Special> {
+    let alone = Special::on(Scene::of(1).clock(0)).tick(TURN_PASSED, 0, &[(Clock, 5)]);
+    let last_of_three = Scene::of(3).waits_for_input(0).waits_for_input(2);
+    let last_of_three = Special::on(last_of_three.ready(&[2, 0, 1, 3, 777, 778, 1]).clock(0)).tick(
+        TURN_PASSED,
+        1,
+        &[(Clock, 5), (Ready(HEAD), 0), (Ready(TAIL), 1), (Ready(SLOT), 1)],
+    );
+    let two_of_three = Special::on(Scene::of(3).waits_for_input(1).clock(0))
+        .tick(
+            TURN_PASSED,
+            0,
+            &[(Clock, 5), (Ready(HEAD), 1), (Ready(TAIL), 0), (Ready(SLOT + 2), 0)],
+        )
+        .tick(ORDER_DONE, 2, &[(Clock, 4), (R(2, 0), 1)]);
+    let full = Special::on(Scene::of(3).clock(0))
+        .tick(TURN_PASSED, 0, &[(Clock, 5), (Ready(HEAD), 1), (Ready(TAIL), 1)])
+        .tick(ORDER_DONE, 1, &[(Clock, 4), (R(1, 0), 1)]);
+    let wrapping = Special::on(Scene::of(2).ready(&[1, 1, 2, 2, 1, 0]).clock(0)).tick(
+        TURN_PASSED,
+        0,
+        &[(Clock, 5), (Ready(HEAD), 0), (Ready(TAIL), 0)],
+    );
+    vec![alone, last_of_three, two_of_three, full, wrapping]
+}
+
+/// At clock 0 no pending service is served, with room or without.
+fn turns_before_services() -> Vec<Special> {
+    let mut list = Vec::new();
+    for service in SEND..=OUTPUT {
+        for wrong in [1, 65535] {
+            let scene = Scene::of(2).asks(0, service, wrong, wrong).clock(0);
+            let passed = [(Clock, 5), (Ready(HEAD), 1), (Ready(TAIL), 1)];
+            let other = [(Clock, 4), (R(1, 0), 1)];
+            list.push(Special::on(scene).tick(TURN_PASSED, 0, &passed).tick(ORDER_DONE, 1, &other));
+        }
+    }
+    let alone = Scene::of(1).asks(0, INPUT, 0, 9).input(0, &[0, 1, 1, 2, 65, 0]).clock(0);
+    let served = [(Input(0, HEAD), 1), (Input(0, LENGTH), 0), (Flags(0), 0), (R(0, 3), 65)];
+    list.push(Special::on(alone).tick(TURN_PASSED, 0, &[(Clock, 5)]).tick(
+        SERVICE_DONE,
+        0,
+        &served,
+    ));
+    list
+}
+
+/// Orders done and faulting, each of which uses the clock. A fault leaves R0
+/// and is followed by the stop.
+fn orders() -> Vec<Special> {
+    let loads = Special::on(Scene::running(1, &[0x0120, 9]).flags(0, 2, 0, 0).clock(3))
+        .tick(ORDER_DONE, 0, &[(Clock, 2), (R(0, 0), 2), (R(0, 2), 9)])
+        .tick(ORDER_FAULTED, 0, &[(Clock, 1), (Flags(0), 2 + 4)])
+        .tick(ERROR_STOP, 0, &[(Clock, 0), (Ready(LENGTH), 0), (Status(0), 5)]);
+    let asks = Special::on(Scene::running(1, &[0x1210]).flags(0, 1, 0, 0).clock(2)).tick(
+        ORDER_DONE,
+        0,
+        &[(Clock, 1), (R(0, 0), 1), (Flags(0), 1 + 32)],
+    );
+    let faults = [(0x0000, 2), (0x1200, 3), (0x0845, 4), (0x0E00, 1)];
+    let fault = |(first_word, error): (u16, u16)| {
+        let scene = Scene::running(2, &[first_word]).clock(1);
+        Special::on(scene)
+            .tick(ORDER_FAULTED, 0, &[(Clock, 0), (Flags(0), 4 * error)])
+            .tick(
+                ERROR_STOP,
+                0,
+                &[(Clock, 5), (Ready(HEAD), 1), (Ready(LENGTH), 1), (Status(0), 5)],
+            )
+            .tick(ORDER_FAULTED, 1, &[(Clock, 4), (Flags(1), 4 * error)])
+    };
+    [vec![loads, asks], faults.map(fault).to_vec()].concat()
+}
+
+/// A service leaves the clock, an order uses it, and at 0 the turn passes:
+/// from S 1 and clock 1 that is the third tick, and so it is from larger S.
+fn clocks() -> Vec<Special> {
+    let sent = [
+        (Flags(0), 0),
+        (Message(0, 1, TAIL), 1),
+        (Message(0, 1, LENGTH), 1),
+        (Message(0, 1, SLOT), 7),
+    ];
+    let turned = |slice| [(Clock, slice), (Ready(HEAD), 1), (Ready(TAIL), 1)];
+    let of_slice = |slice: u16| {
+        let scene = Scene::of(2).slice(slice).asks(0, SEND, 1, 7).clock(1);
+        Special::on(scene)
+            .tick(SERVICE_DONE, 0, &sent)
+            .tick(ORDER_DONE, 0, &[(Clock, 0), (R(0, 0), 1)])
+            .tick(TURN_PASSED, 0, &turned(slice))
+            .tick(ORDER_DONE, 1, &[(Clock, slice - 1), (R(1, 0), 1)])
+    };
+    [1, 2, 32768, 65535].map(of_slice).to_vec()
+}
