@@ -5,6 +5,7 @@ use building::build_answer;
 use vectors::files::Found;
 use vectors::files::Head;
 use vectors::files::Next;
+use vectors::files::RECORDS_END;
 use vectors::files::read_head;
 use vectors::files::read_words;
 use vectors::tally::Answer;
@@ -26,9 +27,6 @@ const KIND_CHECK: u16 = 1;
 
 // The kind of a record that builds an image.
 const KIND_BUILD: u16 = 2;
-
-// A file with this many records or more is bad.
-const RECORDS_END: u64 = 4294967296;
 
 // What the records of a file test.
 enum Kind {

@@ -33,6 +33,9 @@ const LOW_AT: usize = 2;
 // The place of the high word of the count.
 const HIGH_AT: usize = 3;
 
+// A file with this many records or more is bad.
+pub const RECORDS_END: u64 = 4294967296;
+
 // How much of what was asked for a read found.
 pub enum Found {
     All,

@@ -16,6 +16,18 @@ pub const BUILD_COUNT: usize = 4;
 // The numbers that a build may give.
 pub const BUILD_NUMBERS: [u16; BUILD_COUNT] = [0, 3, 11, 12];
 
+// How many outcomes an order may have.
+pub const ORDER_COUNT: usize = 5;
+
+// The outcomes that an order may have.
+pub const ORDER_NUMBERS: [u16; ORDER_COUNT] = [0, 1, 2, 3, 4];
+
+// How many numbers an event may give.
+pub const EVENT_COUNT: usize = 5;
+
+// The numbers that an event may give.
+pub const EVENT_NUMBERS: [u16; EVENT_COUNT] = [0, 7, 8, 9, 10];
+
 // How what the code under test says compares with a record, or that the record is bad.
 pub enum Answer {
     Same,

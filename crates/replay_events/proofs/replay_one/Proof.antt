@@ -1,0 +1,34 @@
+-- `replay_one` meets its contract: the parts of the trial and of the image that are lent are as long as the image to go by. Assumes nothing.
+use mathlib.Core.Path.{sym}
+use lib.ListN.{length-take}
+use lib.Seq.{length-take-le}
+use borrow.Author.Needs.{needs}
+use Rattle.replay_events.proofs.replay_one.Statement.{statement}
+use Rattle.replay_events.proofs.replay_one.Tie as tie
+
+slice-aggregate-event-tally : tie.Need-slice-aggregate-event-tally
+slice-aggregate-event-tally c = sym (length-take-le _ _ (search needs))
+
+slice-aggregate-event-tally-2 : tie.Need-slice-aggregate-event-tally-2
+slice-aggregate-event-tally-2 c = sym (length-take-le _ _ (search needs))
+
+event-tally-requires : tie.Need-event-tally-requires
+event-tally-requires c κs = (search needs, simp (length-take, c .before .before .before .before .before .before .before .before .before .pre .1 .0))
+
+pub replay-one-spec : {M : Type 1} → statement M
+replay-one-spec =
+    tie.close
+    (tie.spec
+    (λ c κs. search needs)
+    (λ c. search needs)
+    (λ c. search needs)
+    (λ c κs. search needs)
+    (λ c. search needs)
+    (λ c. search needs)
+    slice-aggregate-event-tally
+    (λ c. search needs)
+    slice-aggregate-event-tally-2
+    event-tally-requires
+    (λ c. search needs)
+    (λ c. search needs)
+    (λ c. search needs))
