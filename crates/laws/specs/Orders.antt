@@ -10,7 +10,7 @@ use lib.ListN.{length, set}
 use Rattle.paper.specs.Image.{ord, lead, cell, shape-of, Valid, place, at, put, reg, flags}
 use Rattle.paper.specs.Queues.{Has, queue-word}
 use Rattle.paper.specs.Flags.{flags-of, cc as condition, error, pending}
-use Rattle.paper.specs.Orders.{stack, moved, order, with-stack, changed, order-faulted, after-order}
+use Rattle.paper.specs.Orders.{stack, moved-past, order, with-stack, changed, order-faulted, after-order}
 use Rattle.paper.specs.Rules.{Laid, Flagged}
 use Rattle.paper.specs.declared.Task.{Task}
 use Rattle.paper.specs.declared.Place.{Place}
@@ -53,8 +53,8 @@ module _ (s : Shape) (im : List ℕ) (i : Task) where
     pub keeps-word : (m : List ℕ) (r v : ℕ) → r < 9 → Keeps s im i m → Keeps s im i (put s m (reg i r) v)
     keeps-word m r v hr k = keeps-put m (reg i r) v k (hi, hr) (inl (refl, refl))
 
-    keeps-moved : (next : ℕ) → Keeps s im i (moved s im i next)
-    unfolding moved
+    keeps-moved : (next : ℕ) → Keeps s im i (moved-past s im i next)
+    unfolding moved-past
     keeps-moved next = keeps-word im 0 next (omega arith) keeps-all
 
     keeps-stack : (m : List ℕ) (top n : ℕ) → Keeps s im i m → Keeps s im i (with-stack s m i top n)
@@ -72,12 +72,12 @@ module _ (s : Shape) (im : List ℕ) (i : Task) where
     module _ (laid : Laid s im) where
       keeps-change : (next : ℕ) (c : Change) → Own s im i (Effect.Does next c) → Keeps s im i (changed s im i next c)
       unfolding changed Own
-      keeps-change next (Change.Register a w) h = keeps-word (moved s im i next) a w (omega arith) (keeps-moved next)
-      keeps-change next (Change.Store p w) h = keeps-store laid p h (moved s im i next) w (keeps-moved next)
-      keeps-change next (Change.Flags f) h = keeps-word (moved s im i next) 8 f (omega arith) (keeps-moved next)
+      keeps-change next (Change.Register a w) h = keeps-word (moved-past s im i next) a w (omega arith) (keeps-moved next)
+      keeps-change next (Change.Store p w) h = keeps-store laid p h (moved-past s im i next) w (keeps-moved next)
+      keeps-change next (Change.Flags f) h = keeps-word (moved-past s im i next) 8 f (omega arith) (keeps-moved next)
       keeps-change next (Change.Call p top n) h =
-          keeps-stack (set (moved s im i next) (p .0) next) top n (keeps-store laid p h (moved s im i next) next (keeps-moved next))
-      keeps-change next (Change.Return top w) h = keeps-stack (moved s im i next) top w (keeps-moved next)
+          keeps-stack (set (moved-past s im i next) (p .0) next) top n (keeps-store laid p h (moved-past s im i next) next (keeps-moved next))
+      keeps-change next (Change.Return top w) h = keeps-stack (moved-past s im i next) top w (keeps-moved next)
 
       keeps-fault : (e : ℕ) → Keeps s im i (order-faulted s im i e)
       unfolding order-faulted
@@ -137,8 +137,8 @@ module _ (s : Shape) (im : List ℕ) (i : Task) (hi : i .0 < s .n) (h : Sound s 
       let c = segment-valid s im (sound h .laid) i hi p inside in
       rw (stored s im (sound h .laid) i hi p inside m v) (other-part s m Part.Segments Part.TaskTable _ (i .0) _ 8 v tt (c .0) (c .1) hi (omega arith))
 
-  moved-apart : (next : ℕ) → at s (moved s im i next) (flags i) ≡ at s im (flags i)
-  unfolding moved
+  moved-apart : (next : ℕ) → at s (moved-past s im i next) (flags i) ≡ at s im (flags i)
+  unfolding moved-past
   moved-apart next = register-apart im 0 next (omega arith)
 
   stack-apart : (m : List ℕ) (top n : ℕ) → at s (with-stack s m i top n) (flags i) ≡ at s m (flags i)
@@ -154,10 +154,10 @@ module _ (s : Shape) (im : List ℕ) (i : Task) (hi : i .0 < s .n) (h : Sound s 
     flagged-change : (next : ℕ) (c : Change) → Own s im i (Effect.Does next c) → Flagged s (changed s im i next c) i
     unfolding changed Own
     flagged-change next (Change.Register a w) own =
-        flagged-frame s im _ i (register-apart (moved s im i next) a w own ∙ moved-apart next) f
-    flagged-change next (Change.Store p w) own = flagged-frame s im _ i (store-apart p own (moved s im i next) w ∙ moved-apart next) f
+        flagged-frame s im _ i (register-apart (moved-past s im i next) a w own ∙ moved-apart next) f
+    flagged-change next (Change.Store p w) own = flagged-frame s im _ i (store-apart p own (moved-past s im i next) w ∙ moved-apart next) f
     flagged-change next (Change.Flags x) own =
-        let e = written (moved s im i next) x (keeps-moved s im i hi next .long) in
+        let e = written (moved-past s im i next) x (keeps-moved s im i hi next .long) in
         let r = own f calm in
         record {
           cc-range = rw e (r .0);
@@ -166,8 +166,8 @@ module _ (s : Shape) (im : List ℕ) (i : Task) (hi : i .0 < s .n) (h : Sound s 
           never-both = rw e (λ ne. absurd (ne (r .1)));
         }
     flagged-change next (Change.Call p top n) own =
-        flagged-frame s im _ i (stack-apart _ top n ∙ store-apart p own (moved s im i next) next ∙ moved-apart next) f
-    flagged-change next (Change.Return top w) own = flagged-frame s im _ i (stack-apart (moved s im i next) top w ∙ moved-apart next) f
+        flagged-frame s im _ i (stack-apart _ top n ∙ store-apart p own (moved-past s im i next) next ∙ moved-apart next) f
+    flagged-change next (Change.Return top w) own = flagged-frame s im _ i (stack-apart (moved-past s im i next) top w ∙ moved-apart next) f
 
     flagged-fault : (e : ℕ) → e ≤ 4 → Flagged s (order-faulted s im i e) i
     unfolding order-faulted

@@ -5,7 +5,7 @@ use mathlib.Core.Bool.{false, not}
 use Prim.Native.Nat.{ℕ, zero, suc, _<_, _≤_}
 use native.Mathlib.Decide.{ℕ-discrete}
 use native.Mathlib.Omega.{arith}
-use borrow.Author.Tests.{eqb-false}
+use borrow.Author.Tests.{eqb-false, ne-eqb}
 use lib.Dec.{T, T-not, eqb}
 use lib.ListN.{length}
 use Rattle.paper.specs.Image.{most-tasks, task, lead, width, total, cell, Valid, place, at, put, len, segment-start}
@@ -18,7 +18,7 @@ use Rattle.paper.specs.declared.Part.{Part}
 use Rattle.paper.specs.declared.Queue.{Queue}
 use Rattle.laws.specs.Places.{one-cell}
 use Rattle.laws.specs.Cells.{at-header, at-other, length-put}
-use Rattle.laws.specs.Queues.{Off, queue-width, word-valid, appended-off, appended-length, appended-queued, taken-off, taken-length, taken-queued}
+use Rattle.laws.specs.Queues.{Off, queue-width, word-valid, appended-off, appended-count, appended-length, appended-queued, taken-off, taken-length, taken-queued}
 
 -- an image of the size that its shape gives: what reading a cell needs; shut, as contracts say it
 unfoldable pub Sized : Shape → List ℕ → Type 0
@@ -197,3 +197,10 @@ module _ (s : Shape) (im : List ℕ) (h : Sound s im) (q : Queue) (hq : Has s q)
   has-word f =
       let ne = eqb-false (at s im (count s q)) 0 f in
       omega arith
+
+  -- after a word is appended there is one
+  pub appended-some : (v : ℕ) → empty s (appended s im q v) q ≡ false
+  unfolding empty
+  appended-some v =
+      let c = appended-count s im q hq (sound h .laid .words) (sound h .queues q hq) v in
+      ne-eqb (at s (appended s im q v) (count s q)) 0 (λ e. omega (arith, c, e))

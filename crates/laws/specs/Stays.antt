@@ -33,8 +33,8 @@ use Rattle.paper.specs.declared.Answer.{Answer}
 use Rattle.paper.specs.declared.Refusal.{Refusal}
 use Rattle.laws.specs.Places.{part-at}
 use Rattle.laws.specs.Cells.{at-other, put-held, cells}
-use Rattle.laws.specs.Queues.{Off, off-part, off-row, appended-off, appended-count}
-use Rattle.laws.specs.Sound.{Sound, sound, off-table, put-sound}
+use Rattle.laws.specs.Queues.{Off, off-part, off-row, appended-off}
+use Rattle.laws.specs.Sound.{Sound, sound, off-table, put-sound, appended-some}
 use Rattle.laws.specs.Checked.{all-three, checked-good, good-sound}
 use Rattle.laws.specs.Orders.{order-keeps, order-flagged}
 use Rattle.laws.specs.Standing.{waits-not, waits-on, ported-frame, make-stands}
@@ -93,12 +93,6 @@ module _ (s : Shape) (im : List ℕ) (g : Good s im) (i : Task) (hi : i .0 < s .
     out-chars : Characters (held s (appended s im (Queue.Output i) v) (Queue.Output i))
     out-chars = appended-chars s im lies (Queue.Output i) hi v clear (g .outputs-held i hi) low
 
-    out-some : empty s (appended s im (Queue.Output i) v) (Queue.Output i) ≡ false
-    unfolding empty
-    out-some =
-        let c = appended-count s im (Queue.Output i) hi (sound lies .laid .words) (sound lies .queues (Queue.Output i) hi) v in
-        ne-eqb (at s (appended s im (Queue.Output i) v) (count s (Queue.Output i))) 0 (λ e. omega (arith, c, e))
-
     out-busy : (j : Task) → j .0 < s .n → (k : ℕ) → k < 2 → at s (appended s im (Queue.Output i) v) (cell Part.Ports (j .0) k) ≡ at s im (cell Part.Ports (j .0) k)
     out-busy j hj k hk = out-off _ (hj, hk) (off-table s (Queue.Output i) Part.Ports (j .0) k tt)
 
@@ -119,7 +113,7 @@ module _ (s : Shape) (im : List ℕ) (g : Good s im) (i : Task) (hi : i .0 < s .
 
     printed-if : (b : Bool) → eqb (at s (appended s im (Queue.Output i) v) (busy i)) 0 ≡ b
         → Nearly s (cond b (printing s (appended s im (Queue.Output i) v) i) (appended s im (Queue.Output i) v)) Woken.Nobody
-    printed-if true e = printing-nearly s im _ Woken.Nobody Woken.Nobody nobody i hi out-off (out-sound s im lies i hi v clear) out-some out-chars (λ _ x. x) not-waiting
+    printed-if true e = printing-nearly s im _ Woken.Nobody Woken.Nobody nobody i hi out-off (out-sound s im lies i hi v clear) (appended-some s im lies (Queue.Output i) hi v) out-chars (λ _ x. x) not-waiting
     printed-if false e =
         buffer-nearly s im _ Woken.Nobody Woken.Nobody nobody (Queue.Output i) hi (λ c hc o _. out-off c hc o) out-chars (out-sound s im lies i hi v clear)
         (λ j hj. out-ports (λ z. eqb-false _ 0 e (out-busy i hi 0 (omega arith) ∙ z)) j hj (ℕ-discrete (j .0) (i .0))) (λ _ x. x) not-waiting

@@ -5,7 +5,7 @@ use mathlib.Core.Logic.{_≢_}
 use Prim.Native.Nat.{ℕ, _+_, _<_}
 use native.Mathlib.Omega.{arith}
 use Rattle.paper.specs.Image.{word, at, reg, len, reach}
-use Rattle.paper.specs.Orders.{next-order, moved, operand, found}
+use Rattle.paper.specs.Orders.{next-order, moved-past, operand, found}
 use Rattle.paper.specs.declared.Task.{Task}
 use Rattle.paper.specs.declared.Address.{Address}
 use Rattle.paper.specs.declared.Place.{Place}
@@ -35,11 +35,11 @@ module _ (s : Shape) (im : List ℕ) (i : Task) where
 
   -- an operand: R0 counts as moved
   pub operand-next : (next r : ℕ) → Sound s im → i .0 < s .n → r ≡ 0 → next ≡ operand s im i next r
-  unfolding operand moved
+  unfolding operand moved-past
   operand-next next r h hi e = rw e (sym (at-same s im (reg i 0) next (hi, omega arith) (sound h .laid .words)))
 
   pub operand-other : (next r v : ℕ) → Sound s im → i .0 < s .n → r < 8 → r ≢ 0 → v ≡ at s im (reg i r) → v ≡ operand s im i next r
-  unfolding operand moved
+  unfolding operand moved-past
   operand-other next r v h hi hr ne e = e ∙ sym (at-other s im (reg i 0) (reg i r) next (hi, omega arith) (hi, omega arith) (λ c. ne (ap (λ (x : Cell). x .column) c)))
 
   -- the second word stands at the address after the first, which is a word

@@ -8,7 +8,7 @@ use borrow.Author.Tests.{not-true, not-false}
 use lib.ListN.{set}
 use Rattle.paper.specs.Image.{at, put, reg, flags, len}
 use Rattle.paper.specs.Flags.{flags-of, cc-of, pending-of}
-use Rattle.paper.specs.Orders.{outside, bad-order, bad-service, op-of, a-of, b-of, order-of, shape-of-order, holds, serves, mod-word, next-order, moved, operand, found, effect, effect-of, checked, order, with-stack, changed, order-faulted, after-order, order-answer}
+use Rattle.paper.specs.Orders.{outside, bad-order, bad-service, op-of, a-of, b-of, order-of, shape-of-order, holds, serves, mod-word, next-order, moved-past, operand, found, effect, effect-of, checked, order, with-stack, changed, order-faulted, after-order, order-answer}
 use Rattle.paper.specs.declared.Task.{Task}
 use Rattle.paper.specs.declared.Place.{Place}
 use Rattle.paper.specs.declared.Shape.{Shape}
@@ -103,23 +103,23 @@ module _ (s : Shape) (im m out : List ℕ) (i : Task) where
 
   module _ (next : ℕ) (c : Change) (em : m ≡ put s im (reg i 0) next) where
     pub register-made : (a w : ℕ) → c ≡ Change.Register a w → out ≡ put s m (reg i a) w → out ≡ changed s im i next c
-    unfolding changed moved
+    unfolding changed moved-past
     register-made a w ec eo = rw (ec, ← em) eo
 
     pub store-made : (p : Place) (w : ℕ) → c ≡ Change.Store p w → out ≡ set m (p .0) w → out ≡ changed s im i next c
-    unfolding changed moved
+    unfolding changed moved-past
     store-made p w ec eo = rw (ec, ← em) eo
 
     pub flags-made : (f : ℕ) → c ≡ Change.Flags f → out ≡ put s m (flags i) f → out ≡ changed s im i next c
-    unfolding changed moved
+    unfolding changed moved-past
     flags-made f ec eo = rw (ec, ← em) eo
 
     pub call-made : (p : Place) (top n : ℕ) → c ≡ Change.Call p top n → out ≡ with-stack s (set m (p .0) next) i top n → out ≡ changed s im i next c
-    unfolding changed moved
+    unfolding changed moved-past
     call-made p top n ec eo = rw (ec, ← em) eo
 
     pub return-made : (top w : ℕ) → c ≡ Change.Return top w → out ≡ with-stack s m i top w → out ≡ changed s im i next c
-    unfolding changed moved
+    unfolding changed moved-past
     return-made top w ec eo = rw (ec, ← em) eo
 
 -- a place of the task's segment is one of the segments

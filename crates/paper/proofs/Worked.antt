@@ -9,7 +9,7 @@ use Rattle.paper.specs.Queues.{step, appended, first, taken, held, empty
 use Rattle.paper.specs.Flags.{pending}
 use Rattle.paper.specs.Waking.{Outcome, dispatched, with-status, readied, woken, left, with-woken, unless-full}
 use Rattle.paper.specs.Services.{service-faulted, waiting, delivered, printing, printing-if-idle, served, waits-for, finished, service}
-use Rattle.paper.specs.Orders.{moved, operand, found, effect-of, checked, order, with-stack, changed, order-faulted}
+use Rattle.paper.specs.Orders.{moved-past, operand, found, effect-of, checked, order, with-stack, changed, order-faulted}
 use Rattle.paper.specs.Events.{event-of, ordered, stopped, turned, spent, turn-of, tick, input, port-next, output-done, happening}
 use Rattle.paper.specs.Plans.{plan-shape, fresh}
 use Rattle.paper.specs.Tests.{every, queued, buffers-hold, characters, readied-once, readied-tasks, clock-holds, port-holds, flags-hold, status-holds, task-holds, rules-hold}
@@ -154,7 +154,7 @@ pub record Worked : Type 0 where
   pub bound-is : bound 1 1 1 ≡ 3
 
 pub worked : Worked
-unfolding total shape-of place at put reach step appended first taken held empty full dispatched with-status readied woken left with-woken unless-full service-faulted waiting delivered printing printing-if-idle served waits-for finished service moved operand found effect-of checked order with-stack changed order-faulted ordered event-of stopped turned spent turn-of tick input port-next output-done happening plan-shape fresh every queued buffers-hold characters readied-once readied-tasks clock-holds port-holds flags-hold status-holds task-holds rules-hold out-of-range not-packed segment-right wrong-segments check plan-broken check-plan check-build built event run
+unfolding total shape-of place at put reach step appended first taken held empty full dispatched with-status readied woken left with-woken unless-full service-faulted waiting delivered printing printing-if-idle served waits-for finished service moved-past operand found effect-of checked order with-stack changed order-faulted ordered event-of stopped turned spent turn-of tick input port-next output-done happening plan-shape fresh every queued buffers-hold characters readied-once readied-tasks clock-holds port-holds flags-hold status-holds task-holds rules-hold out-of-range not-packed segment-right wrong-segments check plan-broken check-plan check-build built event run
 worked =
     record {
       event-2 = refl;

@@ -105,12 +105,12 @@ stack i = reg i 1
 abbrev pub past : Shape → List ℕ → Task → ℕ → ℕ
 past s im i n = mod-word (at s im (next-order i) + n)
 
-unfoldable pub moved : Shape → List ℕ → Task → ℕ → List ℕ
-moved s im i next = put s im (next-order i) next
+unfoldable pub moved-past : Shape → List ℕ → Task → ℕ → List ℕ
+moved-past s im i next = put s im (next-order i) next
 
 -- before operands are read
 unfoldable pub operand : Shape → List ℕ → Task → ℕ → ℕ → ℕ
-operand s im i next r = at s (moved s im i next) (reg i r)
+operand s im i next r = at s (moved-past s im i next) (reg i r)
 
 -- the word at an address of the segment; an address outside faults
 abbrev pub found-at : List ℕ → Reach → Found
@@ -210,11 +210,11 @@ with-stack s im i top n = put s (put s im (stack i) top) (next-order i) n
 
 -- the image after a change: R0 is moved past the order first
 unfoldable pub changed : Shape → List ℕ → Task → ℕ → Change → List ℕ
-changed s im i next (Change.Register a w) = put s (moved s im i next) (reg i a) w
-changed s im i next (Change.Store p w) = set (moved s im i next) (p .0) w
-changed s im i next (Change.Flags f) = put s (moved s im i next) (flags i) f
-changed s im i next (Change.Call p top n) = with-stack s (set (moved s im i next) (p .0) next) i top n
-changed s im i next (Change.Return top w) = with-stack s (moved s im i next) i top w
+changed s im i next (Change.Register a w) = put s (moved-past s im i next) (reg i a) w
+changed s im i next (Change.Store p w) = set (moved-past s im i next) (p .0) w
+changed s im i next (Change.Flags f) = put s (moved-past s im i next) (flags i) f
+changed s im i next (Change.Call p top n) = with-stack s (set (moved-past s im i next) (p .0) next) i top n
+changed s im i next (Change.Return top w) = with-stack s (moved-past s im i next) i top w
 
 -- a faulting order changes only the error in the flags
 unfoldable pub order-faulted : Shape → List ℕ → Task → ℕ → List ℕ

@@ -53,10 +53,10 @@ no-character = 6
 unfoldable pub service-faulted : Shape → List ℕ → Task → ℕ → List ℕ
 service-faulted s im i e = put-flags s im i (cc s im i) e 0
 
--- a number in R2 of N or more gives error 5; output of more than 255 gives error 6
 abbrev pub error-if : Bool → ℕ → Fault
 error-if b e = cond b (Fault.Error e) Fault.Nothing
 
+-- a number in R2 of N or more gives error 5; output of more than 255 gives error 6
 abbrev pub fault-of : Shape → List ℕ → Task → Service → Fault
 fault-of s im i Service.Send = error-if (leb (s .n) (other s im i .0)) no-such-task
 fault-of s im i Service.Receive = error-if (leb (s .n) (other s im i .0)) no-such-task

@@ -3,7 +3,7 @@ use mathlib.Core.Path.{_≡_, refl, sym, _∙_}
 use mathlib.Core.List.{List}
 use mathlib.Core.Bool.{Bool, true, false, not}
 use mathlib.Core.Logic.{_≢_}
-use Prim.Native.Nat.{ℕ, _+_, _<_}
+use Prim.Native.Nat.{ℕ, _<_}
 use native.Mathlib.Omega.{arith}
 use borrow.Author.Tests.{leb-false, eq-eqb, ne-eqb, not-true, not-false}
 use lib.Dec.{leb}
@@ -22,8 +22,7 @@ use Rattle.paper.specs.declared.Answer.{Answer}
 use Rattle.paper.specs.declared.Refusal.{Refusal}
 use Rattle.paper.specs.declared.Reply.{Reply}
 use Rattle.laws.specs.Cells.{cells}
-use Rattle.laws.specs.Queues.{appended-count}
-use Rattle.laws.specs.Sound.{Sound, sound}
+use Rattle.laws.specs.Sound.{Sound, appended-some}
 use Rattle.laws.specs.Serving.{error-none}
 use Rattle.laws.specs.Moved.{apart-full, small-error, buffer-has, served-apart}
 use Rattle.waking.specs.Room.{Room, has-room}
@@ -70,11 +69,7 @@ module _ (s : Shape) (im : List ℕ) (i : Task) (b : ℕ) (eb : b ≡ at s im (b
 -- after a word is appended a queue is not empty
 module _ (s : Shape) (im m : List ℕ) (i : Task) (w : ℕ) (h : Sound s im) (hi : i .0 < s .n) where
   pub then-some : m ≡ appended s im (Queue.Output i) w → empty s m (Queue.Output i) ≡ false
-  unfolding empty
-  then-some em =
-      let c : at s m (count s (Queue.Output i)) ≡ at s im (count s (Queue.Output i)) + 1 =
-      rw em (appended-count s im (Queue.Output i) hi (sound h .laid .words) (sound h .queues (Queue.Output i) hi) w) in
-      ne-eqb (at s m (count s (Queue.Output i))) 0 (omega arith)
+  then-some em = rw em (appended-some s im h (Queue.Output i) hi w)
 
 pub put-out : (s : Shape) (im m out : List ℕ) (i : Task) (w : ℕ) → m ≡ appended s im (Queue.Output i) w → out ≡ printing-if-idle s m i
     → out ≡ printing-if-idle s (appended s im (Queue.Output i) w) i

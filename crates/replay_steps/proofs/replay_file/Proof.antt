@@ -3,8 +3,8 @@ use Prim.Native.Nat.{_≤_}
 use mathlib.Core.Path.{_≡_}
 use lib.ListN.{length}
 use borrow.Author.Needs.{needs}
-use Rattle.replay_orders.proofs.replay_file.Statement.{statement}
-use Rattle.replay_orders.proofs.replay_file.Tie as tie
+use Rattle.replay_steps.proofs.replay_file.Statement.{statement}
+use Rattle.replay_steps.proofs.replay_file.Tie as tie
 
 abbrev Inv-loop : tie.InvT-loop
 Inv-loop fd shapes trial₀ image₀ done₀ turns₀ trial image done turns = (length trial ≡ length trial₀) × (length image ≡ length image₀) × (done .held ≤ length image)

@@ -1,7 +1,7 @@
 -- `checked_tally` meets its contract: the place lies in the image, and the span ends where the words end. Assumes nothing.
 use borrow.Author.Needs.{needs}
-use Rattle.replay_orders.proofs.cases.checked_tally.Statement.{statement}
-use Rattle.replay_orders.proofs.cases.checked_tally.Tie as tie
+use Rattle.order_cases.proofs.cases.checked_tally.Statement.{statement}
+use Rattle.order_cases.proofs.cases.checked_tally.Tie as tie
 
 span-tally-requires : tie.Need-span-tally-requires
 span-tally-requires c κs = (search needs, (search needs, (search needs, (search needs, search needs))))

@@ -3,8 +3,8 @@ use Prim.Native.Nat.{_≤_, _-_}
 use mathlib.Core.Path.{_≡_}
 use lib.ListN.{length}
 use borrow.Author.Needs.{needs}
-use Rattle.replay_orders.proofs.cases.span_tally.Statement.{statement}
-use Rattle.replay_orders.proofs.cases.span_tally.Tie as tie
+use Rattle.order_cases.proofs.cases.span_tally.Statement.{statement}
+use Rattle.order_cases.proofs.cases.span_tally.Tie as tie
 
 abbrev Inv-loop : tie.InvT-loop
 Inv-loop shapes trial₀ image₀ changes case tally₀ place stood i₀ i-end trial image tally i = (i ≤ i-end) × (length trial ≡ length trial₀) × (length image ≡ length image₀)

@@ -1,8 +1,8 @@
 -- `outcome_of` meets its contract: an image that passes the check is lawful. Assumes nothing.
 use Rattle.laws.specs.Stays.{inspected-lawful}
 use borrow.Author.Needs.{needs}
-use Rattle.replay_events.proofs.replies.outcome_of.Statement.{statement}
-use Rattle.replay_events.proofs.replies.outcome_of.Tie as tie
+use Rattle.event_cases.proofs.replies.outcome_of.Statement.{statement}
+use Rattle.event_cases.proofs.replies.outcome_of.Tie as tie
 
 step-requires : tie.Need-step-requires
 step-requires c κs = search inspected-lawful

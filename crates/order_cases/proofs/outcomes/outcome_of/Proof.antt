@@ -1,8 +1,8 @@
 -- `outcome_of` meets its contract: an image that passes the check is sound. Assumes nothing.
 use Rattle.laws.specs.Checked.{inspected-sound}
 use borrow.Author.Needs.{needs}
-use Rattle.replay_orders.proofs.outcomes.outcome_of.Statement.{statement}
-use Rattle.replay_orders.proofs.outcomes.outcome_of.Tie as tie
+use Rattle.order_cases.proofs.outcomes.outcome_of.Statement.{statement}
+use Rattle.order_cases.proofs.outcomes.outcome_of.Tie as tie
 
 first-outcome-requires : tie.Need-first-outcome-requires
 first-outcome-requires c κs = search inspected-sound

@@ -1,8 +1,6 @@
-// Replays the stored events and prints how many cases each number has and how many differ.
-mod cases;
-mod replies;
-
-use cases::event_tally;
+// Replays the stored orders and events and prints how many cases each number has and how many differ.
+use event_cases::cases::event_tally;
+use order_cases::cases::orders_tally;
 use shapes::order_shapes;
 use vectors::files::Head;
 use vectors::files::Next;
@@ -14,6 +12,7 @@ use vectors::images::Replayed;
 use vectors::images::nothing_replayed;
 use vectors::images::replay_image;
 use vectors::tally::EVENT_NUMBERS;
+use vectors::tally::ORDER_NUMBERS;
 use vectors::tally::Tally;
 use vectors::tally::print_tally;
 use vectors::tally::spoiled;
@@ -22,8 +21,32 @@ ghost use Prim.Native.Nat.{_≤_};
 ghost use lib.ListN.{length};
 ghost use Rattle.shapes.specs.Entries.{Shapes};
 
+// The kind of a record that carries out orders on the image to go by.
+const KIND_ORDERS: u16 = 4;
+
 // The kind of a record that has an event happen on the image to go by.
 const KIND_EVENT: u16 = 5;
+
+// The tally with a record on the image to go by.
+fn record_tally(
+    fd: i32,
+    shapes: &[u8; 256],
+    trial: &mut [u16],
+    image: &mut [u16],
+    head: Head,
+    tally: Tally,
+) -> Tally
+    requires { ⌜ Shapes (now shapes) ⌝ }
+    requires { ⌜ length (now trial) ≡ length (now image) ⌝ }
+{
+    if head.kind == KIND_ORDERS {
+        return orders_tally(fd, shapes, trial, image, head, tally);
+    }
+    if head.kind == KIND_EVENT {
+        return event_tally(fd, shapes, trial, image, head, tally);
+    }
+    spoiled(tally)
+}
 
 // One more record replayed.
 fn replay_one(
@@ -44,13 +67,7 @@ fn replay_one(
     if head.kind == KIND_IMAGE {
         return replay_image(fd, image, head, tally);
     }
-    if head.kind != KIND_EVENT {
-        return Replayed {
-            held: held,
-            tally: spoiled(tally),
-        };
-    }
-    let more = event_tally(
+    let more = record_tally(
         fd,
         shapes,
         &mut trial[..held],
@@ -83,25 +100,25 @@ fn replay_file(fd: i32, shapes: &[u8; 256], trial: &mut [u16], image: &mut [u16]
     spoiled(done.tally)
 }
 
-// Replays the file of a path and prints its tally, or why there is none.
-fn replay_path(path: &[u8], shapes: &[u8; 256], trial: &mut [u16], image: &mut [u16])
+// Replays the file of a path and prints its tally under a name, or why there is none.
+fn replay_path(path: &[u8], name: &[u8], numbers: &[u16], shapes: &[u8; 256])
     requires { ⌜ Shapes (now shapes) ⌝ }
-    requires { ⌜ length (now trial) ≡ length (now image) ⌝ }
 {
     let fd = os::open_read(path);
     if fd < 0 {
         os::fail(path);
         return;
     }
-    let tally = replay_file(fd, shapes, trial, image);
-    libc::close(fd);
-    print_tally(b"event ", &EVENT_NUMBERS, tally);
-}
-
-// Replays the file of events.
-fn main() {
-    let shapes = order_shapes();
     let mut trial = [0u16; MOST_WORDS];
     let mut image = [0u16; MOST_WORDS];
-    replay_path(b"event.bin", &shapes, &mut trial, &mut image);
+    let tally = replay_file(fd, shapes, &mut trial, &mut image);
+    libc::close(fd);
+    print_tally(name, numbers, tally);
+}
+
+// Replays the file of orders and the file of events.
+fn main() {
+    let shapes = order_shapes();
+    replay_path(b"order.bin", b"order ", &ORDER_NUMBERS, &shapes);
+    replay_path(b"event.bin", b"event ", &EVENT_NUMBERS, &shapes);
 }

@@ -1,0 +1,3 @@
+// The model's events, made to happen and compared.
+pub mod cases;
+mod replies;

@@ -1,0 +1,3 @@
+// The model's orders, carried out and compared.
+pub mod cases;
+mod outcomes;

@@ -1,0 +1,32 @@
+-- `replay_one` meets its contract: the parts of the trial and of the image that are lent are as long as the image to go by. Assumes nothing.
+use mathlib.Core.Path.{sym}
+use lib.ListN.{length-take}
+use lib.Seq.{length-take-le}
+use borrow.Author.Needs.{needs}
+use Rattle.replay_steps.proofs.replay_one.Statement.{statement}
+use Rattle.replay_steps.proofs.replay_one.Tie as tie
+
+slice-aggregate-record-tally : tie.Need-slice-aggregate-record-tally
+slice-aggregate-record-tally c = sym (length-take-le _ _ (search needs))
+
+slice-aggregate-record-tally-2 : tie.Need-slice-aggregate-record-tally-2
+slice-aggregate-record-tally-2 c = sym (length-take-le _ _ (search needs))
+
+record-tally-requires : tie.Need-record-tally-requires
+record-tally-requires c κs = (search needs, simp (length-take, c .before .before .before .before .before .before .before .pre .1 .0))
+
+pub replay-one-spec : {M : Type 1} → statement M
+replay-one-spec =
+    tie.close
+    (tie.spec
+    (λ c κs. search needs)
+    (λ c. search needs)
+    (λ c. search needs)
+    (λ c. search needs)
+    slice-aggregate-record-tally
+    (λ c. search needs)
+    slice-aggregate-record-tally-2
+    record-tally-requires
+    (λ c. search needs)
+    (λ c. search needs)
+    (λ c. search needs))
