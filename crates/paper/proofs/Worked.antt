@@ -2,7 +2,7 @@
 -- Every expected word was worked out by hand from the paper. Assumes nothing.
 use mathlib.Core.Path.{_≡_, refl}
 use mathlib.Core.List.{List, [], _∷_, _++_}
-use Prim.Native.Nat.{ℕ, _+_, _-_, _*_}
+use Prim.Native.Nat.{ℕ, _+_, _-_, _*_, _/_, _%_}
 use lib.ListN.{length, getD, take, drop, replicate}
 use Rattle.paper.specs.Image.{task, total, shape-of, place, at, put, reach, clock}
 use Rattle.paper.specs.Queues.{step, appended, first, taken, held, empty, full}
@@ -15,6 +15,7 @@ use Rattle.paper.specs.Plans.{plan-shape, fresh}
 use Rattle.paper.specs.Tests.{every, queued, buffers-hold, characters, readied-once, readied-tasks, clock-holds, port-holds, flags-hold, status-holds, task-holds, rules-hold}
 use Rattle.paper.specs.Numbers.{number, verdict-number, kind, answer-task, out-of-range, not-packed, segment-right, wrong-segments, check, plan-broken, check-plan, check-build}
 use Rattle.paper.specs.Calls.{built, event, run}
+use Rattle.paper.specs.Runner.{words-of, check-file, decimal, line, printed-from, runner}
 use Rattle.paper.specs.declared.Reply.{Reply}
 use Rattle.paper.specs.declared.Queue.{Queue}
 
@@ -78,6 +79,25 @@ empty-queue w = 0 ∷ 0 ∷ 0 ∷ 1 ∷ w ∷ []
 abbrev full-queue : ℕ → List ℕ
 full-queue w = 0 ∷ 0 ∷ 1 ∷ 1 ∷ w ∷ []
 
+-- the same as files, and the text of its eleven lines
+abbrev bytes-of : List ℕ → List ℕ
+bytes-of [] = []
+bytes-of (w ∷ words) = (w % 256) ∷ (w / 256) ∷ bytes-of words
+
+abbrev full-text : List ℕ
+full-text =
+    (49 ∷ 32 ∷ 54 ∷ 32 ∷ 48 ∷ 10 ∷ []) ++
+    (50 ∷ 32 ∷ 52 ∷ 32 ∷ 48 ∷ 10 ∷ []) ++
+    (51 ∷ 32 ∷ 48 ∷ 32 ∷ 48 ∷ 10 ∷ []) ++
+    (52 ∷ 32 ∷ 56 ∷ 32 ∷ 48 ∷ 10 ∷ []) ++
+    (53 ∷ 32 ∷ 51 ∷ 32 ∷ 48 ∷ 10 ∷ []) ++
+    (54 ∷ 32 ∷ 54 ∷ 32 ∷ 48 ∷ 10 ∷ []) ++
+    (55 ∷ 32 ∷ 51 ∷ 32 ∷ 48 ∷ 10 ∷ []) ++
+    (56 ∷ 32 ∷ 55 ∷ 32 ∷ 48 ∷ 10 ∷ []) ++
+    (57 ∷ 32 ∷ 49 ∷ 32 ∷ 48 ∷ 10 ∷ []) ++
+    (49 ∷ 48 ∷ 32 ∷ 57 ∷ 32 ∷ 48 ∷ 10 ∷ []) ++
+    (49 ∷ 49 ∷ 32 ∷ 114 ∷ 101 ∷ 102 ∷ 117 ∷ 115 ∷ 101 ∷ 100 ∷ 32 ∷ 57 ∷ 10 ∷ [])
+
 -- the smallest plan
 abbrev small-plan : List ℕ
 small-plan = 1 ∷ 1 ∷ 1 ∷ 1 ∷ 1 ∷ 1 ∷ 0 ∷ []
@@ -132,6 +152,7 @@ pub record Worked : Type 0 where
   pub event-9 :
       full-event 9 ≡ shows (1 ∷ 0 ∷ [])
       (full-image 0 (2 ∷ 4 ∷ 0 ∷ 65 ∷ 0 ∷ 0 ∷ 0 ∷ 0 ∷ 8 ∷ []) (empty-queue 0) (5 ∷ 0 ∷ []) (empty-queue 65) (empty-queue 65) (1 ∷ 65 ∷ []))
+  pub full-run : runner (bytes-of full-plan) (bytes-of full-events) ≡ full-text
   pub smallest-length : length (built small-plan (replicate 54 9)) ≡ 54
   pub smallest-built : verdict-number (check-build small-plan (replicate 54 9)) ≡ 0
   pub smallest-taken : verdict-number (check (built small-plan (replicate 54 9))) ≡ 0
@@ -154,7 +175,7 @@ pub record Worked : Type 0 where
   pub bound-is : bound 1 1 1 ≡ 3
 
 pub worked : Worked
-unfolding total shape-of place at put reach step appended first taken held empty full dispatched with-status readied woken left with-woken unless-full service-faulted waiting delivered printing printing-if-idle served waits-for finished service moved-past operand found effect-of checked order with-stack changed order-faulted ordered event-of stopped turned spent turn-of tick input port-next output-done happening plan-shape fresh every queued buffers-hold characters readied-once readied-tasks clock-holds port-holds flags-hold status-holds task-holds rules-hold out-of-range not-packed segment-right wrong-segments check plan-broken check-plan check-build built event run
+unfolding total shape-of place at put reach step appended first taken held empty full dispatched with-status readied woken left with-woken unless-full service-faulted waiting delivered printing printing-if-idle served waits-for finished service moved-past operand found effect-of checked order with-stack changed order-faulted ordered event-of stopped turned spent turn-of tick input port-next output-done happening plan-shape fresh every queued buffers-hold characters readied-once readied-tasks clock-holds port-holds flags-hold status-holds task-holds rules-hold out-of-range not-packed segment-right wrong-segments check plan-broken check-plan check-build built event run words-of check-file decimal line printed-from runner
 worked =
     record {
       event-2 = refl;
@@ -162,6 +183,7 @@ worked =
       event-5 = refl;
       event-8 = refl;
       event-9 = refl;
+      full-run = refl;
       smallest-length = refl;
       smallest-built = refl;
       smallest-taken = refl;

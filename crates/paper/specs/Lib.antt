@@ -10,4 +10,5 @@ pub mod Plans
 pub mod Tests
 pub mod Numbers
 pub mod Calls
+pub mod Runner
 pub mod Promises

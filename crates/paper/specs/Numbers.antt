@@ -1,5 +1,5 @@
 -- "Numbers that come back": the refusals, their order of tests, and the answers.
-use mathlib.Core.List.{List}
+use mathlib.Core.List.{List, [], _∷_}
 use mathlib.Core.Bool.{Bool, not, cond, _&&_, _||_}
 use Prim.Native.Nat.{ℕ, _+_, _*_}
 use lib.Dec.{eqb, leb, ltb}
@@ -12,6 +12,7 @@ use Rattle.paper.specs.declared.Shape.{Shape}
 use Rattle.paper.specs.declared.Refusal.{Refusal}
 use Rattle.paper.specs.declared.Verdict.{Verdict}
 use Rattle.paper.specs.declared.Answer.{Answer}
+use Rattle.paper.specs.declared.Reply.{Reply}
 
 -- the number of each refusal
 abbrev pub number : Refusal → ℕ
@@ -132,3 +133,12 @@ answer-task (Answer.OrderDone i) = i .0
 answer-task (Answer.OrderFaulted i) = i .0
 answer-task (Answer.Input i) = i .0
 answer-task (Answer.OutputDone i) = i .0
+
+-- an event returns 0 and these two values, or the number of its refusal alone
+abbrev pub reply-number : Reply → ℕ
+reply-number (Reply.Accepted a) = 0
+reply-number (Reply.Refused r) = number r
+
+abbrev pub reply-values : Reply → List ℕ
+reply-values (Reply.Accepted a) = kind a ∷ answer-task a ∷ []
+reply-values (Reply.Refused r) = []

@@ -1,9 +1,11 @@
--- What each public call promises: its answer, and every word of each buffer that it is lent to write.
+-- What each public call promises: its answer, what that is in the paper's numbers, and every word of each buffer that it is lent to write.
 use mathlib.Core.Path.{_≡_}
 use mathlib.Core.List.{List}
 use Prim.Native.Nat.{ℕ}
-use Rattle.paper.specs.Numbers.{verdict-number, check, check-build}
-use Rattle.paper.specs.Calls.{plan-size, built}
+use Rattle.paper.specs.Numbers.{verdict-number, reply-number, reply-values, check, check-build}
+use Rattle.paper.specs.Calls.{plan-size, size-number, size-value, built, event, run}
+use Rattle.paper.specs.declared.Ended.{Ended}
+use Rattle.paper.specs.declared.Reply.{Reply}
 use Rattle.paper.specs.declared.Size.{Size}
 
 -- checking an image
@@ -13,8 +15,24 @@ pub record Checks (image : List ℕ) (answer : ℕ) : Type 0 where
 -- the size of a plan
 pub record Measures (plan : List ℕ) (answer : Size) : Type 0 where
   pub answered : answer ≡ plan-size plan
+  pub numbered : size-number answer ≡ size-number (plan-size plan)
+  pub valued : size-value answer ≡ size-value (plan-size plan)
 
 -- building an image from a plan
 pub record Builds (plan target : List ℕ) (answer : ℕ) (after : List ℕ) : Type 0 where
   pub answered : answer ≡ verdict-number (check-build plan target)
   pub left : after ≡ built plan target
+
+-- one event
+pub record Happens (image : List ℕ) (k d c : ℕ) (answer : Reply) (after : List ℕ) : Type 0 where
+  pub answered : answer ≡ event image k d c .reply
+  pub numbered : reply-number answer ≡ reply-number (event image k d c .reply)
+  pub valued : reply-values answer ≡ reply-values (event image k d c .reply)
+  pub left : after ≡ event image k d c .image
+
+-- a run over a list of events
+pub record Runs (image events : List ℕ) (answer : Ended) (after : List ℕ) : Type 0 where
+  pub counted : answer .taken ≡ run image events .taken
+  pub stopped : answer .stop ≡ run image events .stop
+  pub numbered : verdict-number (answer .stop) ≡ verdict-number (run image events .stop)
+  pub left : after ≡ run image events .image

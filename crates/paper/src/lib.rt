@@ -135,6 +135,12 @@ pub enum Reply {
     Refused(Refusal),
 }
 
+// How a run ended: how many events were taken, and whether one was refused.
+pub struct Ended {
+    pub taken: usize,
+    pub stop: Verdict,
+}
+
 // The orders of the order code, and any other op.
 pub enum Op {
     Unknown,

@@ -1,5 +1,5 @@
 -- What the calls of this crate ask and make, as laws over values. Assumes nothing.
-use mathlib.Core.Path.{_≡_, refl, sym, _∙_}
+use mathlib.Core.Path.{_≡_, refl, sym, _∙_, ap}
 use mathlib.Core.List.{List}
 use mathlib.Core.Bool.{Bool, true, false, not, _&&_, _||_}
 use Prim.Native.Nat.{ℕ, _+_, _*_, _<_, _≤_}
@@ -12,7 +12,7 @@ use Rattle.paper.specs.Image.{most-words, offsets, start, total}
 use Rattle.paper.specs.Tests.{every}
 use Rattle.paper.specs.Plans.{plan-tasks, segment-length, program-length, program-start, segment-words, plan-shape}
 use Rattle.paper.specs.Numbers.{out-of-range, pair-right, plan-broken, check-plan}
-use Rattle.paper.specs.Calls.{plan-size}
+use Rattle.paper.specs.Calls.{plan-size, size-number, size-value}
 use Rattle.paper.specs.Promises.{Measures}
 use Rattle.paper.specs.declared.Shape.{Shape}
 use Rattle.paper.specs.declared.Part.{Part}
@@ -150,13 +150,16 @@ module _ (plan : List ℕ) where
   fine-ranged e = fit-ranged (plan-shape plan) (planned plan e .fit)
 
   -- the size
+  measured : (answer : Size) → answer ≡ plan-size plan → Measures plan answer
+  measured answer e = record { answered = e; numbered = ap size-number e; valued = ap size-value e }
+
   pub size-words : (t : ℕ) (s : Shape) → check-plan plan ≡ Verdict.Fine → s ≡ plan-shape plan → t ≡ total s → Measures plan (Size.Words t)
   unfolding plan-size
-  size-words t s e es et = record { answered = rw (e, et, es) }
+  size-words t s e es et = measured (Size.Words t) (rw (e, et, es))
 
   pub size-refused : (v : Verdict) (r : Refusal) → v ≡ check-plan plan → v ≡ Verdict.Refused r → Measures plan (Size.Refused r)
   unfolding plan-size
-  size-refused v r ev er = record { answered = rw (← ev, er) }
+  size-refused v r ev er = measured (Size.Refused r) (rw (← ev, er))
 
 pub all-pairs : (plan : List ℕ) (n k : ℕ) (right : Bool) (words end : ℕ) → Summed plan k right words end → n ≤ k → k ≤ n → Summed plan n right words end
 all-pairs plan n k right words end sum h l = let z : n ≡ k = omega arith in rw z sum
