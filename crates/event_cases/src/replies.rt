@@ -1,11 +1,10 @@
 // What one event on an image comes to, in the paper's numbers.
-ghost use mathlib.Core.Path.{_≡_};
-ghost use Rattle.paper.specs.Numbers.{kind, answer-task};
 ghost use Rattle.shapes.specs.Entries.{Shapes};
 use happening::step;
 use inspect::inspect;
+use numbers::kind_of;
 use numbers::number_of;
-use paper::Answer;
+use numbers::task_of;
 use paper::Reply;
 use paper::Verdict;
 
@@ -33,42 +32,6 @@ pub struct Said {
 pub enum Outcome {
     Of(Said),
     Bad,
-}
-
-// The paper's number of an answer's kind.
-fn kind_of(a: Answer) -> u16
-    ensures { λ n. ⌜ n ≡ kind a ⌝ }
-{
-    match a {
-        Answer::Idle => 0,
-        Answer::ErrorStop(_) => 1,
-        Answer::TurnPassed(_) => 2,
-        Answer::ServiceDone(_) => 3,
-        Answer::ServiceWaits(_) => 4,
-        Answer::ServiceFaulted(_) => 5,
-        Answer::OrderDone(_) => 6,
-        Answer::OrderFaulted(_) => 7,
-        Answer::Input(_) => 8,
-        Answer::OutputDone(_) => 9,
-    }
-}
-
-// The number of an answer's task: 0 where the answer is idle.
-fn task_of(a: Answer) -> u16
-    ensures { λ n. ⌜ n ≡ answer-task a ⌝ }
-{
-    match a {
-        Answer::Idle => 0,
-        Answer::ErrorStop(t) => t.0,
-        Answer::TurnPassed(t) => t.0,
-        Answer::ServiceDone(t) => t.0,
-        Answer::ServiceWaits(t) => t.0,
-        Answer::ServiceFaulted(t) => t.0,
-        Answer::OrderDone(t) => t.0,
-        Answer::OrderFaulted(t) => t.0,
-        Answer::Input(t) => t.0,
-        Answer::OutputDone(t) => t.0,
-    }
 }
 
 // A reply in the paper's numbers.
