@@ -1,0 +1,30 @@
+-- Assumes nothing.
+use Rattle.kernel.specs.Needs.{run-lawful, run-whole, run-fine, run-refused}
+use borrow.Author.Needs.{needs}
+use Rattle.kernel.proofs.run.Statement.{statement}
+use Rattle.kernel.proofs.run.Tie as tie
+
+take-events-requires : tie.Need-take-events-requires
+take-events-requires c κs = (search run-lawful, (search needs, search run-whole))
+
+returns : tie.Need-returns
+returns c = search run-fine
+
+returns-2 : tie.Need-returns-2
+returns-2 c = search run-refused
+
+pub run-spec : {M : Type 1} → statement M
+run-spec =
+    tie.close
+    (tie.spec
+    (λ c κs. search needs)
+    (λ c κs. search needs)
+    (λ c κs. search needs)
+    (λ c. search needs)
+    (λ c κs. search needs)
+    take-events-requires
+    (λ c. search needs)
+    (λ c. search needs)
+    returns
+    (λ c. search needs)
+    returns-2)
