@@ -26,3 +26,4 @@ pub mod Stays
 pub mod Touches
 pub mod Delivery
 pub mod Replies
+pub mod Folded

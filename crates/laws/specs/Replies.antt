@@ -4,6 +4,7 @@ use mathlib.Core.List.{List}
 use mathlib.Core.Bool.{Bool, true, false, not, cond}
 use mathlib.Core.Logic.{_⊎_, inl, inr}
 use Prim.Native.Nat.{ℕ}
+use native.Mathlib.Omega.{arith}
 use borrow.Author.Tests.{eqb-true}
 use lib.Dec.{eqb}
 use Rattle.paper.specs.Image.{at, clock, status, busy}
@@ -122,3 +123,26 @@ module _ (s : Shape) (im : List ℕ) where
   pub malformed-refused : RefusedFor im (happening s im Event.Malformed) Refusal.MalformedEvent
   unfolding happening
   malformed-refused = record { told = refl; unchanged = refl }
+
+-- a refusal alters nothing, whatever the event
+module _ (im : List ℕ) (o : Outcome) (r : Refusal) (told : o .reply ≡ Reply.Refused r) where
+  not-accepted : Accepted o → o .image ≡ im
+  not-accepted a = absurd (clash (o .reply) (a .told) told)
+    where
+      clash : (x : Reply) → x ≡ Reply.Accepted (a .answer) → x ≡ Reply.Refused r → ⊥
+      clash x e f = let z : _≡_ {A = ℕ} 0 1 = cc in omega arith
+
+  perhaps : {B : Type 0} {q : Refusal} → Accepted o ⊎ (RefusedFor im o q × B) → o .image ≡ im
+  perhaps (inl a) = not-accepted a
+  perhaps (inr x) = x .0 .unchanged
+
+  perhaps-two : {A B : Type 0} {p q : Refusal} → (RefusedFor im o p × A) ⊎ (Accepted o ⊎ (RefusedFor im o q × B)) → o .image ≡ im
+  perhaps-two (inl x) = x .0 .unchanged
+  perhaps-two (inr x) = perhaps x
+
+pub happening-unchanged : (s : Shape) (im : List ℕ) (e : Event) (r : Refusal) → happening s im e .reply ≡ Reply.Refused r → happening s im e .image ≡ im
+unfolding happening
+happening-unchanged s im Event.Tick r told = perhaps im (tick s im) r told (tick-accepted s im)
+happening-unchanged s im (Event.Input i c) r told = perhaps-two im (input s im i c) r told (input-accepted s im i c)
+happening-unchanged s im (Event.OutputDone i) r told = perhaps-two im (output-done s im i) r told (output-done-accepted s im i)
+happening-unchanged s im Event.Malformed r told = refl
