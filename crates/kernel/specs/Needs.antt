@@ -131,8 +131,8 @@ module _ (s : Shape) (im events : List ℕ) (k count : ℕ) (m : List ℕ) (whol
   ends : run-from s im events ≡ onward k (stopped-at Verdict.Fine m)
   ends = taken-all s im events k m whole (omega arith) h
 
-  pub ended-count : k ≡ run-from s im events .taken
-  ended-count = rw ends (sym (add-zero k))
+  pub ended-count : count ≡ run-from s im events .taken
+  ended-count = rw ends (omega arith)
 
   pub ended-stop : Verdict.Fine ≡ run-from s im events .stop
   ended-stop = rw ends

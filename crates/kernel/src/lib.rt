@@ -81,7 +81,7 @@ fn take_events(s: Shape, im: &mut [u16], shapes: &[u8; 256], events: &[u16]) -> 
         }
     }
     Ended {
-        taken: taken,
+        taken: count,
         stop: Verdict::Fine,
     }
 }
