@@ -24,4 +24,6 @@ pub mod plan;
 pub mod queue;
 pub mod rng;
 pub mod rules;
+pub mod runner;
+pub mod runs;
 pub mod vectors;
