@@ -19,7 +19,7 @@ pub fn runner(plan: Option<&[u8]>, events: Option<&[u8]>) -> String {
 /// The kernel that a plan's bytes start, or the number that refuses them. An
 /// odd count of bytes comes before all else.
 fn start(bytes: &[u8]) -> Result<Kernel, u16> {
-    require(bytes.len() % 2 == 0, numbers::PLAN)?;
+    require(bytes.len().is_multiple_of(2), numbers::PLAN)?;
     plan::accept(&words(bytes))
 }
 

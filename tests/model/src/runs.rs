@@ -32,7 +32,7 @@ pub fn run(image: &[u16], list: &[u16]) -> Ran {
 /// image is tested before the list's length.
 fn accept(image: &[u16], list: &[u16]) -> Result<Kernel, u16> {
     let kernel = check::accept(image)?;
-    require(list.len() % EVENT_WORDS == 0, numbers::EVENT)?;
+    require(list.len().is_multiple_of(EVENT_WORDS), numbers::EVENT)?;
     Ok(kernel)
 }
 

@@ -2,6 +2,9 @@
 
 use super::{bytes, Case, DONE, LETTER, PAPERS, TICK};
 
+/// A name, events, and the lines by hand.
+type Row<'a> = (&'a str, &'a [[u16; 3]], &'a [&'a str]);
+
 /// The paper's run, no events, short events and refused ones.
 pub fn all() -> Vec<Case> {
     let mut cases = vec![papers_run(), no_events(), events_missing()];
@@ -67,7 +70,7 @@ fn short_after_refusal() -> Case {
 /// A refused event in the midst, one at the start, and one that is refused
 /// for a high byte alone.
 fn refused() -> Vec<Case> {
-    let rows: [(&str, &[[u16; 3]], &[&str]); 10] = [
+    let rows: [Row; 10] = [
         ("refused_7", &[TICK, TICK, [0, 1, 0], TICK, LETTER], &["1 6 0", "2 4 0", "3 refused 7"]),
         ("refused_8", &[TICK, LETTER, LETTER, TICK, TICK], &["1 6 0", "2 8 0", "3 refused 8"]),
         ("refused_9", &[TICK, TICK, DONE, TICK, LETTER], &["1 6 0", "2 4 0", "3 refused 9"]),

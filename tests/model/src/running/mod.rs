@@ -61,6 +61,7 @@ pub fn collect(seed: u64, count: usize) -> Vec<Course> {
 #[cfg(test)]
 mod tests {
     use super::*;
+    use crate::runs::EVENT_WORDS;
     use std::collections::BTreeMap;
 
     /// The seed and count of the stored set.
@@ -87,15 +88,13 @@ mod tests {
     #[test]
     fn a_case_ends_where_its_number_says() {
         for case in collect(6, 20).iter().flat_map(|course| &course.cases) {
-            let events = case.list.len() / 3;
-            match case.number {
-                0 => assert_eq!(3 * case.taken, case.list.len()),
-                1..=6 => assert_eq!((case.taken, case.changes.len()), (0, 0)),
-                7 if case.list.len() % 3 != 0 => {
-                    assert_eq!((case.taken, &*case.changes), (0, &[][..]))
-                }
-                7..=9 => assert!(case.taken < events),
-                number => panic!("a run with number {number}"),
+            let whole = case.list.len().is_multiple_of(EVENT_WORDS);
+            let events = case.list.len() / EVENT_WORDS;
+            match (case.number, whole) {
+                (0, true) => assert_eq!(case.taken, events),
+                (7..=9, true) => assert!(case.taken < events),
+                (1..=6, _) | (7, false) => assert_eq!((case.taken, &case.changes), (0, &vec![])),
+                other => panic!("a run with {other:?}"),
             }
         }
     }
