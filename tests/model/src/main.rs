@@ -2,23 +2,36 @@
 
 #![forbid(unsafe_code)]
 
-use model::{building, cases, happening, ordering, vectors};
+use model::events::Answer;
+use model::happening::many::{self, Sights};
+use model::rng::Rng;
+use model::{building, cases, happening, ordering, runner_files, running, vectors};
+use std::fs::{self, File};
+use std::io::{BufWriter, Write};
+use std::path::Path;
 use std::process::ExitCode;
 
-const USAGE: &str =
-    "usage: model check-vectors|build-vectors|order-vectors|event-vectors SEED COUNT FILE";
+const USAGE: &str = "usage: model check-vectors|build-vectors|order-vectors|event-vectors|\
+                     run-vectors|many-events SEED COUNT FILE\n       model runner-cases FOLDER";
 
-/// The numbers that an event in the file can have. 10 is not among them: on a
+/// The numbers that an event in a file can have. 10 is not among them: on a
 /// good image no wake finds the ready queue full.
 const EVENT_NUMBERS: [u16; 4] = [0, 7, 8, 9];
+/// The numbers that a run in a file can have.
+const RUN_NUMBERS: [u16; 10] = [0, 1, 2, 3, 4, 5, 6, 7, 8, 9];
 /// The kinds of answer.
 const ANSWER_KINDS: [u16; 10] = [0, 1, 2, 3, 4, 5, 6, 7, 8, 9];
+
+/// Of so many events each answer and each number must be often among them.
+const A_GREAT_MANY: usize = 1_000_000;
+const OFTEN: usize = 1000;
 
 /// Values, each with how many cases there are of it.
 type Tally = Vec<(u16, usize)>;
 
 fn main() -> ExitCode {
     let arguments: Vec<String> = std::env::args().skip(1).collect();
+    let arguments: Vec<&str> = arguments.iter().map(String::as_str).collect();
     match run(&arguments) {
         Ok(()) => ExitCode::SUCCESS,
         Err(message) => {
@@ -28,15 +41,27 @@ fn main() -> ExitCode {
     }
 }
 
-fn run(arguments: &[String]) -> Result<(), String> {
-    let [command, seed, count, file] = arguments else { return Err(USAGE.into()) };
-    let seed = seed.parse().map_err(|_| USAGE)?;
-    let count = count.parse().map_err(|_| USAGE)?;
-    match command.as_str() {
+fn run(arguments: &[&str]) -> Result<(), String> {
+    match *arguments {
+        ["runner-cases", folder] => runner_cases(Path::new(folder)),
+        [command, seed, count, file] => {
+            let seed = seed.parse().map_err(|_| USAGE)?;
+            let count = count.parse().map_err(|_| USAGE)?;
+            make_file(command, seed, count, file)
+        }
+        _ => Err(USAGE.into()),
+    }
+}
+
+/// Makes the file of a command.
+fn make_file(command: &str, seed: u64, count: usize, file: &str) -> Result<(), String> {
+    match command {
         "check-vectors" => check_vectors(seed, count, file),
         "build-vectors" => build_vectors(seed, count, file),
         "order-vectors" => order_vectors(seed, count, file),
         "event-vectors" => event_vectors(seed, count, file),
+        "run-vectors" => run_vectors(seed, count, file),
+        "many-events" => many_events(seed, count, file),
         _ => Err(USAGE.into()),
     }
 }
@@ -75,24 +100,97 @@ fn order_vectors(seed: u64, count: usize, file: &str) -> Result<(), String> {
 /// and of each number; fails where there is none of one.
 fn event_vectors(seed: u64, count: usize, file: &str) -> Result<(), String> {
     let sequences = happening::collect(seed, count);
+    write(file, &vectors::encode(&sequences, vectors::event_records))?;
     let steps = sequences.iter().flat_map(|sequence| &sequence.steps);
-    let answers = steps.clone().filter_map(|step| step.outcome.ok());
-    let kinds = tally(&ANSWER_KINDS, answers.map(|answer| (answer.kind, 1)));
-    let outcomes = steps.clone().map(|step| (step.outcome.err().unwrap_or(0), 1));
-    let numbers = tally(&EVENT_NUMBERS, outcomes);
-    for (name, tally) in [("kind", &kinds), ("number", &numbers)] {
-        require_each(name, tally)?;
-        report(name, tally);
+    let outcomes: Vec<_> = steps.map(|step| step.outcome).collect();
+    report_outcomes(&outcomes, 1)
+}
+
+/// Writes the vectors of runs and prints how many there are of each number and
+/// how many events they take; fails where there is none of a number.
+fn run_vectors(seed: u64, count: usize, file: &str) -> Result<(), String> {
+    let courses = running::collect(seed, count);
+    write(file, &vectors::encode(&courses, vectors::run_records))?;
+    let cases = courses.iter().flat_map(|course| &course.cases);
+    let numbers = tally(&RUN_NUMBERS, cases.clone().map(|case| (case.number, 1)));
+    report("number", &numbers);
+    total(cases.clone().count());
+    println!("{} events taken", cases.map(|case| case.taken).sum::<usize>());
+    require_each("number", &numbers, 1)
+}
+
+/// Writes at least `count` random events and prints how many there are of each
+/// answer and of each number, and before how many of them some things stood.
+/// Fails where one of these is rare among a great many.
+fn many_events(seed: u64, count: usize, file: &str) -> Result<(), String> {
+    let mut sights = Sights::default();
+    let outcomes =
+        write_events(seed, count, file, &mut sights).map_err(|error| format!("{file}: {error}"))?;
+    let least = if count < A_GREAT_MANY { 0 } else { OFTEN };
+    for (name, events) in sights.rows() {
+        println!("{name}: {events} cases");
+        require(events >= least, &format!("{name}: too few cases"))?;
     }
-    total(steps.count());
-    write(file, &vectors::encode(&sequences, vectors::event_records))
+    println!("{} words of an image, on the average", sights.words / outcomes.len().max(1));
+    report_outcomes(&outcomes, least)
+}
+
+/// Writes sequences until there are so many events, and gives their outcomes.
+fn write_events(
+    seed: u64,
+    count: usize,
+    file: &str,
+    sights: &mut Sights,
+) -> std::io::Result<Vec<Result<Answer, u16>>> {
+    let mut rng = Rng::new(seed);
+    let mut out = BufWriter::new(File::create(file)?);
+    let mut outcomes = Vec::new();
+    while outcomes.len() < count {
+        let sequence = many::sequence(&mut rng, sights);
+        outcomes.extend(sequence.steps.iter().map(|step| step.outcome));
+        out.write_all(&vectors::encode(&[sequence], vectors::event_records))?;
+    }
+    out.flush()?;
+    Ok(outcomes)
+}
+
+/// Writes the runner's files, a folder for each case, and prints each case's
+/// name and then the lines that the runner prints. The folder must be new.
+fn runner_cases(folder: &Path) -> Result<(), String> {
+    let said = |error| format!("{}: {error}", folder.display());
+    fs::create_dir(folder).map_err(said)?;
+    for case in runner_files::all() {
+        let own = folder.join(&case.name);
+        fs::create_dir(&own).map_err(said)?;
+        for (file, bytes) in [("plan.bin", &case.plan), ("events.bin", &case.events)] {
+            if let Some(bytes) = bytes {
+                fs::write(own.join(file), bytes).map_err(said)?;
+            }
+        }
+        print!("{}\n{}", case.name, case.lines);
+    }
+    Ok(())
 }
 
 /// Writes a file and prints its size.
 fn write(file: &str, bytes: &[u8]) -> Result<(), String> {
-    std::fs::write(file, bytes).map_err(|error| format!("{file}: {error}"))?;
+    fs::write(file, bytes).map_err(|error| format!("{file}: {error}"))?;
     println!("{} bytes", bytes.len());
     Ok(())
+}
+
+/// Prints how many events there are of each answer and of each number; fails
+/// where there are too few of one.
+fn report_outcomes(outcomes: &[Result<Answer, u16>], least: usize) -> Result<(), String> {
+    let answers = outcomes.iter().filter_map(|outcome| outcome.ok());
+    let kinds = tally(&ANSWER_KINDS, answers.map(|answer| (answer.kind, 1)));
+    let rows = outcomes.iter().map(|outcome| (outcome.err().unwrap_or(0), 1));
+    let numbers = tally(&EVENT_NUMBERS, rows);
+    report("kind", &kinds);
+    report("number", &numbers);
+    total(outcomes.len());
+    require_each("kind", &kinds, least)?;
+    require_each("number", &numbers, least)
 }
 
 /// How many cases there are of each value. A row is a value and how many cases
@@ -106,11 +204,19 @@ fn tally(values: &[u16], rows: impl Iterator<Item = (u16, usize)>) -> Tally {
     values.iter().map(|&value| (value, cases_of(value))).collect()
 }
 
-/// Fails where there is no case of some value.
-fn require_each(name: &str, tally: &Tally) -> Result<(), String> {
-    match tally.iter().find(|(_, cases)| *cases == 0) {
-        Some((value, _)) => Err(format!("no case has {name} {value}")),
-        None => Ok(()),
+/// Fails where there are too few cases of some value.
+fn require_each(name: &str, tally: &Tally, least: usize) -> Result<(), String> {
+    tally.iter().try_for_each(|&(value, cases)| {
+        require(cases >= least, &format!("{name} {value}: too few cases"))
+    })
+}
+
+/// Fails with a message where a condition does not hold.
+fn require(holds: bool, message: &str) -> Result<(), String> {
+    if holds {
+        Ok(())
+    } else {
+        Err(message.into())
     }
 }
 

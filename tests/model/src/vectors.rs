@@ -59,10 +59,23 @@
 //! | 4, 5, 6 | the event: kind, device and character |
 //! | 7, 8 | the answer's kind and task; 65535 twice where it is refused |
 //! | 9.. | k pairs: a place, ascending, and its new word |
+//!
+//! A record of kind 6, a run on the image that stands, which is then the image
+//! with the changed words. Here the image of kind 3 may be a bad one:
+//!
+//! | word of a record | holds |
+//! |---|---|
+//! | 0 | kind of the record, 6 |
+//! | 1 | expected number: 0, or 1 to 10 |
+//! | 2, 3 | count of the list's words |
+//! | 4, 5 | how many events are taken |
+//! | 6, 7 | k, how many words the run changes |
+//! | 8.. | the list's words |
+//! | then | k pairs: a place, ascending, and its new word |
 
 use crate::changes::Change;
 use crate::layout::word;
-use crate::{building, cases, happening, numbers, ordering};
+use crate::{building, cases, happening, numbers, ordering, running};
 
 /// The kind of record that holds a list of words and the check's number.
 pub const CHECK: u16 = 1;
@@ -74,6 +87,11 @@ pub const IMAGE: u16 = 3;
 pub const ORDER: u16 = 4;
 /// The kind of record that holds an event's outcome and changes.
 pub const EVENT: u16 = 5;
+/// The kind of record that holds a list of events and what its run comes to.
+pub const RUN: u16 = 6;
+
+/// The most changes of one order or one event.
+pub const MOST_CHANGES: usize = 16;
 
 /// What stands for both words of the answer that a refused event has not.
 const NO_ANSWER: u16 = 65535;
@@ -119,6 +137,13 @@ pub fn event_records(sequence: &happening::Sequence) -> Vec<u16> {
     words
 }
 
+/// The words of a record of kind 3 and of its records of kind 6.
+pub fn run_records(course: &running::Course) -> Vec<u16> {
+    let mut words = image_record(&course.image);
+    words.extend(course.cases.iter().flat_map(run_record));
+    words
+}
+
 /// The words of a record of kind 3.
 fn image_record(image: &[u16]) -> Vec<u16> {
     let mut words = vec![IMAGE, 0];
@@ -132,7 +157,7 @@ fn order_record(case: &ordering::Case) -> Vec<u16> {
     let mut words = vec![ORDER, case.expected];
     words.extend(count(case.span));
     words.extend([word(case.place), case.first, word(case.changes.len())]);
-    words.extend(pairs(&case.changes));
+    words.extend(few_pairs(&case.changes));
     words
 }
 
@@ -142,8 +167,25 @@ fn event_record(step: &happening::Step) -> Vec<u16> {
     words.extend(count(step.changes.len()));
     words.extend(step.event);
     words.extend(step.outcome.map_or([NO_ANSWER; 2], |answer| [answer.kind, answer.task]));
-    words.extend(pairs(&step.changes));
+    words.extend(few_pairs(&step.changes));
     words
+}
+
+/// The words of a record of kind 6.
+fn run_record(case: &running::Case) -> Vec<u16> {
+    let mut words = vec![RUN, case.number];
+    words.extend(count(case.list.len()));
+    words.extend(count(case.taken));
+    words.extend(count(case.changes.len()));
+    words.extend(&case.list);
+    words.extend(pairs(&case.changes));
+    words
+}
+
+/// Each place and its new word, of an order or an event.
+fn few_pairs(changes: &[Change]) -> impl Iterator<Item = u16> + '_ {
+    assert!(changes.len() <= MOST_CHANGES, "{} changes at once", changes.len());
+    pairs(changes)
 }
 
 /// Each place and its new word.
@@ -239,6 +281,31 @@ mod tests {
             &[5, 0, 2, 0, 0, 0, 0, 6, 15, 17, 4, 18, 300],
             &[5, 7, 0, 0, 1, 3, 256, 65535, 65535],
             &[5, 0, 0, 0, 0, 0, 0, 0, 0],
+        ];
+        assert_eq!(words, by_hand.concat());
+    }
+
+    #[test]
+    fn the_runs_of_an_image_follow_it() {
+        let case = |list: &[u16], taken, number, changes: &[Change]| running::Case {
+            list: list.to_vec(),
+            taken,
+            number,
+            changes: changes.to_vec(),
+        };
+        let many: Vec<Change> = (0..17).map(|place| (place, 9)).collect();
+        let cases = vec![
+            case(&[0, 0, 0, 1, 3, 256], 1, 7, &[(17, 4), (18, 300)]),
+            case(&[], 0, 0, &[]),
+            case(&[0; 3], 65537, 0, &many),
+        ];
+        let words = run_records(&running::Course { image: vec![50, 60], cases, stands: vec![] });
+        let by_hand: [&[u16]; 5] = [
+            &[3, 0, 2, 0, 50, 60],
+            &[6, 7, 6, 0, 1, 0, 2, 0, 0, 0, 0, 1, 3, 256, 17, 4, 18, 300],
+            &[6, 0, 0, 0, 0, 0, 0, 0],
+            &[6, 0, 3, 0, 1, 1, 17, 0, 0, 0, 0],
+            &(0..17).flat_map(|place| [place, 9]).collect::<Vec<_>>(),
         ];
         assert_eq!(words, by_hand.concat());
     }

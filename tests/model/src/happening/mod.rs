@@ -1,8 +1,11 @@
 //! The cases of events: which images and events the file of vectors holds.
 
+pub mod many;
 mod random;
 pub mod scene;
 mod special;
+
+pub use random::{event, malformed};
 
 use crate::changes::{differences, Change};
 use crate::check::check;
@@ -71,7 +74,7 @@ mod tests {
     const OFTEN: usize = 50;
 
     /// The image before each step, made by the changes of those before it.
-    fn images(sequence: &Sequence) -> Vec<Vec<u16>> {
+    pub fn images(sequence: &Sequence) -> Vec<Vec<u16>> {
         let mut image = sequence.image.clone();
         let mut images = Vec::new();
         for step in &sequence.steps {
@@ -82,7 +85,7 @@ mod tests {
     }
 
     /// The pending service of the first task of an image, 0 for none.
-    fn pending(image: &[u16]) -> u16 {
+    pub fn pending(image: &[u16]) -> u16 {
         let kernel = accept(image).expect("a good image");
         kernel.ready.held.front().map_or(0, |&me| kernel.tasks[usize::from(me)].flags.pending)
     }

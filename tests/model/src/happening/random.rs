@@ -94,12 +94,12 @@ fn sequence(rng: &mut Rng, mut kernel: Kernel) -> Sequence {
 }
 
 /// Whether nobody is ready and no device can wake anybody.
-fn is_dead(kernel: &Kernel) -> bool {
+pub fn is_dead(kernel: &Kernel) -> bool {
     kernel.ready.is_empty() && awaited(kernel).is_empty()
 }
 
 /// The events that would wake somebody.
-fn awaited(kernel: &Kernel) -> Vec<Event> {
+pub fn awaited(kernel: &Kernel) -> Vec<Event> {
     let of_task = |(i, task): (usize, &Task)| match task.status {
         status::WAITS_FOR_INPUT => Some(Event::Input { device: word(i), character: LETTER }),
         status::WAITS_FOR_OUTPUT => Some(Event::OutputDone { device: word(i) }),
@@ -173,7 +173,7 @@ fn phrase(rng: &mut Rng, tasks: usize) -> Vec<u16> {
 
 /// An event: with nobody ready most often one that wakes somebody, else most
 /// often a tick, else one of any device. A few are malformed.
-fn event(rng: &mut Rng, kernel: &Kernel) -> [u16; 3] {
+pub fn event(rng: &mut Rng, kernel: &Kernel) -> [u16; 3] {
     let tasks = kernel.tasks.len();
     let awaited = awaited(kernel);
     if kernel.ready.is_empty() && !awaited.is_empty() && rng.percent(70) {
@@ -189,7 +189,7 @@ fn event(rng: &mut Rng, kernel: &Kernel) -> [u16; 3] {
 }
 
 /// An event in which the kind is unknown, or a word is not what the kind asks.
-fn malformed(rng: &mut Rng, tasks: usize) -> [u16; 3] {
+pub fn malformed(rng: &mut Rng, tasks: usize) -> [u16; 3] {
     let device = word(rng.below(tasks));
     let none = *rng.pick(&[word(tasks), word(tasks) + 1, 256, 65535]);
     let not_zero = rng.any_word().max(1);
