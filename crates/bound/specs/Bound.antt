@@ -1,14 +1,12 @@
 -- How many ticks a task in the ready queue waits for its turn: the bound, and what it promises.
-use mathlib.Core.Bool.{cond, false}
+use mathlib.Core.Bool.{false, cond}
 use mathlib.Core.List.{List, [], _∷_, _++_}
 use mathlib.Core.Path.{_≡_}
-use Prim.Native.Nat.{ℕ, zero, suc, _+_, _-_, _*_, _<_, _≤_}
-use lib.Dec.{eqb}
+use Prim.Native.Nat.{ℕ, _+_, _-_, _*_, _<_, _≤_}
 use lib.ListN.{length, getD}
 use Rattle.paper.specs.Image.{word, at, clock, reg, flags, reach}
 use Rattle.paper.specs.Queues.{first, held, empty}
-use Rattle.paper.specs.Flags.{pending}
-use Rattle.paper.specs.Events.{is-tick, running}
+use Rattle.paper.specs.Events.{is-tick}
 use Rattle.paper.specs.declared.Task.{Task}
 use Rattle.paper.specs.declared.Address.{Address}
 use Rattle.paper.specs.declared.Place.{Place}
@@ -63,22 +61,3 @@ pub record Comes (s : Shape) (im events : List ℕ) (i : Task) (k : ℕ) (after 
   pub first : IsFirst s (after before) i
   -- and up to then no word of the task differs from the start
   pub untouched : (part later : List ℕ) (n : ℕ) → Prefix before part later n → Untouched s im (after part) i
-
--- the measure: how many ticks the first task can still use, where the clock is c and its pending is p: an order then a service cost two for one of
--- the clock, and the last tick passes the turn
-abbrev pub pace-of : ℕ → ℕ → ℕ
-pace-of c p = cond (eqb c 0) 1 (2 * c + cond (eqb p 0) 0 1)
-
-abbrev pub pace : Shape → List ℕ → ℕ
-pace s im = pace-of (at s im clock) (pending s im (running s im))
-
--- and how many ticks a task with k ahead of it can still wait: each other one before it has at most a whole slice
-abbrev pub measure : Shape → List ℕ → ℕ → ℕ
-measure s im zero = 0
-measure s im (suc k) = pace s im + k * (2 * s .slice + 1)
-
--- a task that stood with k ahead of it has come nearer by so many ticks
-pub record Nears (s : Shape) (im m : List ℕ) (i : Task) (k spent : ℕ) : Type 0 where
-  pub ahead : ℕ
-  pub stands : Behind s m i ahead
-  pub falls : spent + measure s m ahead ≤ measure s im k

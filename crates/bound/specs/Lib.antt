@@ -1,2 +1,5 @@
 pub mod Bound
+pub mod Measure
 pub mod Ready
+pub mod Pace
+pub mod Ticks

@@ -35,12 +35,12 @@ pub apart-tabled : (s : Shape) (P : Part → Bool) (im m : List ℕ) → P Part.
 apart-tabled s P im m f a i k hi hk = a .others _ (hi, hk) f
 
 -- the first task keeps its place: at most one that was woken stands at the tail
-pub record Keeps (s : Shape) (im m : List ℕ) : Type 0 where
+pub record KeepsPlace (s : Shape) (im m : List ℕ) : Type 0 where
   pub joined : List ℕ
   pub now : held s m Queue.Ready ≡ held s im Queue.Ready ++ joined
 
 -- the first task is gone from its place: every other one moved up
-pub record Passes (s : Shape) (im m : List ℕ) : Type 0 where
+pub record LeavesPlace (s : Shape) (im m : List ℕ) : Type 0 where
   pub leader : ℕ
   pub others : List ℕ
   pub joined : List ℕ
@@ -66,15 +66,15 @@ module _ (s : Shape) (im : List ℕ) (lies : Sound s im) (some : empty s im Queu
   first-held = taken-held s im Queue.Ready tt (sound lies .laid .words) (sound lies .queues Queue.Ready tt) (has-word s im lies Queue.Ready tt some)
 
   -- where the first task keeps its place it is first still
-  pub keeps-held : (m : List ℕ) (k : Keeps s im m)
+  pub keeps-held : (m : List ℕ) (k : KeepsPlace s im m)
       → held s m Queue.Ready ≡ first s im Queue.Ready ∷ (held s (taken s im Queue.Ready) Queue.Ready ++ k .joined)
   keeps-held m k = k .now ∙ rw first-held
 
-  pub keeps-first : (m : List ℕ) → Sound s m → Keeps s im m → first s m Queue.Ready ≡ first s im Queue.Ready
+  pub keeps-first : (m : List ℕ) → Sound s m → KeepsPlace s im m → first s m Queue.Ready ≡ first s im Queue.Ready
   keeps-first m h k = held-first s m _ _ (keeps-held m k) h
 
 -- an image with the ready queue as it was
-pub apart-keeps : (s : Shape) (P : Part → Bool) (im m : List ℕ) → Sound s im → Apart s P im m → P Part.ReadyQueue ≡ false → Keeps s im m
+pub apart-keeps : (s : Shape) (P : Part → Bool) (im m : List ℕ) → Sound s im → Apart s P im m → P Part.ReadyQueue ≡ false → KeepsPlace s im m
 apart-keeps s P im m lies a f =
     record { joined = []; now = kept-held s P im m a Queue.Ready tt f (sound lies .queues Queue.Ready tt) ∙ sym (append-nil _) }
 
@@ -87,7 +87,7 @@ module _ (s : Shape) (im m : List ℕ) (lies : Sound s im) (some : empty s im Qu
   left-taken : Sound s (taken s m Queue.Ready)
   left-taken = taken-sound s m Queue.Ready tt h left-word
 
-  pub left-passes : Passes s im (left s m)
+  pub left-passes : LeavesPlace s im (left s m)
   unfolding left dispatched
   left-passes =
       let e = kept-held s status-part im m (a status-part refl) Queue.Ready tt refl (sound lies .queues Queue.Ready tt) in
@@ -124,7 +124,7 @@ module _ (s : Shape) (im : List ℕ) (lies : Sound s im) (some : empty s im Queu
   turned-sound : Sound s (appended s (taken s im Queue.Ready) Queue.Ready (i .0))
   turned-sound = appended-sound s _ Queue.Ready tt turned-taken (i .0) turned-room
 
-  pub turned-passes : Passes s im (turned s im i)
+  pub turned-passes : LeavesPlace s im (turned s im i)
   unfolding turned
   turned-passes =
       let e = appended-held s _ Queue.Ready tt (sound turned-taken .laid .words) (sound turned-taken .queues Queue.Ready tt) (i .0) turned-room in
@@ -157,7 +157,7 @@ module _ (s : Shape) (m : List ℕ) (h : Sound s m) (j : Task) (hj : j .0 < s .n
 
 -- what an event does that moves a word, and wakes a task or nobody
 pub record Awake (s : Shape) (im moved m : List ℕ) : Type 0 where
-  pub keeps : Keeps s im m
+  pub keeps : KeepsPlace s im m
   pub clock-kept : at s m clock ≡ at s im clock
   pub flags-as : (i : Task) → i .0 < s .n → at s m (flags i) ≡ at s moved (flags i)
   pub tabled : Tabled s im m
