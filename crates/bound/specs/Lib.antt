@@ -3,3 +3,4 @@ pub mod Measure
 pub mod Ready
 pub mod Pace
 pub mod Ticks
+pub mod Falls
