@@ -4,3 +4,4 @@ pub mod Ready
 pub mod Pace
 pub mod Ticks
 pub mod Falls
+pub mod Called
