@@ -4,10 +4,11 @@ use mathlib.Core.List.{List, [], _∷_, _++_}
 use mathlib.Core.Path.{_≡_}
 use Prim.Native.Nat.{ℕ, zero, suc, _+_, _-_, _*_, _<_, _≤_}
 use lib.ListN.{length, getD}
-use Rattle.paper.specs.Image.{word, at, reg, flags, reach}
+use Rattle.paper.specs.Image.{word, shape-of, at, clock, reg, flags, reach}
 use Rattle.paper.specs.Queues.{first, held, empty}
 use Rattle.paper.specs.Events.{is-tick}
-use Rattle.paper.specs.Calls.{event}
+use Rattle.paper.specs.Numbers.{verdict-number, check}
+use Rattle.paper.specs.Calls.{event, run}
 use Rattle.paper.specs.declared.Task.{Task}
 use Rattle.paper.specs.declared.Address.{Address}
 use Rattle.paper.specs.declared.Place.{Place}
@@ -15,6 +16,7 @@ use Rattle.paper.specs.declared.Shape.{Shape}
 use Rattle.paper.specs.declared.Queue.{Queue}
 use Rattle.paper.specs.declared.Reach.{Reach}
 use Rattle.paper.specs.declared.Reply.{Reply}
+use Rattle.paper.specs.declared.Verdict.{Verdict}
 
 -- task i stands in the ready queue with k others ahead of it
 abbrev pub Behind : Shape → List ℕ → Task → ℕ → Type 0
@@ -23,6 +25,17 @@ Behind s im i k = (k < length (held s im Queue.Ready)) × (getD (held s im Queue
 -- how many ticks it waits at most, where S is the slice, c the clock, and k is 1 or more: (2c + 1) + (k - 1)(2S + 1)
 abbrev pub bound : ℕ → ℕ → ℕ → ℕ
 bound S c k = (2 * c + 1) + (k - 1) * (2 * S + 1)
+
+-- an image of shape s passes the check, and task i stands in its ready queue with k others ahead of it, one at least
+pub record Waits (s : Shape) (im : List ℕ) (i : Task) (k : ℕ) : Type 0 where
+  pub checked : check im ≡ Verdict.Fine
+  pub shaped : s ≡ shape-of im
+  pub behind : Behind s im i k
+  pub others : 1 ≤ k
+
+-- the bound for it
+abbrev pub most-ticks : Shape → List ℕ → ℕ → ℕ
+most-ticks s im k = bound (s .slice) (at s im clock) k
 
 -- a tick counts 1, any other event nothing
 abbrev pub tick-count : ℕ → ℕ → ℕ → ℕ
@@ -90,3 +103,12 @@ first-events (suc n) [] = []
 first-events (suc n) (k ∷ []) = []
 first-events (suc n) (k ∷ d ∷ []) = []
 first-events (suc n) (k ∷ d ∷ c ∷ later) = k ∷ d ∷ c ∷ first-events n later
+
+-- and it comes within a run, in what the run gives back
+pub record RunComes (s : Shape) (im events : List ℕ) (i : Task) (most : ℕ) : Type 0 where
+  pub comes : Comes s im events i most (λ part. run im part .image) ticks
+  -- the prefix is among the events that were taken
+  pub among : comes .number ≤ run im events .taken
+  -- and a run over it alone takes all of it, with number 0
+  pub taken : run im (comes .before) .taken ≡ comes .number
+  pub fine : verdict-number (run im (comes .before) .stop) ≡ 0

@@ -1,7 +1,10 @@
 pub mod Bound
 pub mod Measure
-pub mod Ready
 pub mod Pace
+pub mod Ready
 pub mod Ticks
 pub mod Falls
-pub mod Called
+pub mod Nearer
+pub mod Turn
+pub mod Runs
+pub mod Callers

@@ -1,8 +1,9 @@
--- The turn of a task comes, over calls of `event`, refused ones among them. Assumes nothing.
+-- Call by call of `event`, refused ones among them, a task comes nearer to its turn till it is first. Assumes nothing.
 use mathlib.Core.Path.{_≡_, refl, sym, ap, _∙_}
 use mathlib.Core.List.{List, [], _∷_, _++_}
 use mathlib.Core.Logic.{_⊎_, inl, inr, ⊎-elim}
 use Prim.Native.Nat.{ℕ, zero, suc, _+_, _-_, _*_, _<_, _≤_}
+use native.Mathlib.Nat.{le-trans}
 use native.Mathlib.Omega.{arith}
 use lib.ListN.{length}
 use Rattle.paper.specs.Image.{at, clock, shape-of}
@@ -23,7 +24,7 @@ use Rattle.laws.specs.Layout.{shape-is}
 use Rattle.laws.specs.Checked.{good-checked}
 use Rattle.laws.specs.Stays.{happening-good, event-formed}
 use Rattle.laws.specs.Replies.{Accepted, RefusedFor, tick-accepted, input-accepted, output-done-accepted, malformed-refused}
-use Rattle.bound.specs.Bound.{bound, tick-count, Behind, Prefix, IsFirst, Untouched, Comes, calls, if-accepted, accepted-ticks}
+use Rattle.bound.specs.Bound.{Behind, most-ticks, tick-count, Prefix, IsFirst, Untouched, Comes, calls, if-accepted, accepted-ticks}
 use Rattle.bound.specs.Measure.{measure, Nears}
 use Rattle.bound.specs.Pace.{pace-some, pace-most}
 use Rattle.bound.specs.Falls.{behind-first, event-nears, event-untouched}
@@ -42,7 +43,7 @@ untouched-then s im m n i u v =
     }
 
 -- an event is accepted, or refused and changes nothing
-replies : (s : Shape) (im : List ℕ) (e : Event) → Accepted (happening s im e) ⊎ ((r : Refusal) × RefusedFor im (happening s im e) r)
+pub replies : (s : Shape) (im : List ℕ) (e : Event) → Accepted (happening s im e) ⊎ ((r : Refusal) × RefusedFor im (happening s im e) r)
 unfolding happening
 replies s im Event.Tick = ⊎-elim (λ h. inl h) (λ h. inr (Refusal.ReadyFull, h .0)) (tick-accepted s im)
 replies s im (Event.Input i c) =
@@ -57,7 +58,7 @@ module _ (s : Shape) (im : List ℕ) (g : Good s im) (kind device character : �
   unfolding event
   event-is = rw (good-checked s im g, shape-is s im (g .laid))
 
-  call-good : Good s (event im kind device character .image)
+  pub call-good : Good s (event im kind device character .image)
   call-good = rw event-is (happening-good s im g _ (event-formed s kind device character))
 
   -- accepted or refused, it does what the step says
@@ -151,8 +152,23 @@ module _ (s : Shape) (i : Task) where
       one-later im g x y z k b later n (comes later (event im x y z .image) (n .ahead) (call-good s im g x y z) (n .stands) (omega (arith, n .falls, h)))
 
 -- what is within the measure is within the bound
-pub within-bound : (s : Shape) (im : List ℕ) (k : ℕ) → 1 ≤ k → measure s im k ≤ bound (s .slice) (at s im clock) k
+within-bound : (s : Shape) (im : List ℕ) (k : ℕ) → 1 ≤ k → measure s im k ≤ most-ticks s im k
 within-bound s im zero h = absurd (omega arith)
 within-bound s im (suc k) h =
     let e : suc k - 1 ≡ k = omega arith in
     rw e (omega (arith, pace-most (at s im clock) (pending s im (running s im))))
+
+pub calls-come : (s : Shape) (im : List ℕ) (i : Task) (k : ℕ) → Good s im → Behind s im i k → 1 ≤ k → (events : List ℕ)
+    → most-ticks s im k ≤ accepted-ticks im events → Comes s im events i (most-ticks s im k) (calls im) (accepted-ticks im)
+calls-come s im i k g b some events h =
+    let low = within-bound s im k some in
+    let r = comes s i events im k g b (le-trans low h) in
+    record {
+      before = r .before;
+      rest = r .rest;
+      number = r .number;
+      prefix = r .prefix;
+      few = le-trans (r .few) low;
+      first = r .first;
+      untouched = r .untouched;
+    }
