@@ -1,27 +1,21 @@
 -- The theorem for callers: of `event`, called again and again, and of `run`, in what each gives back. Assumes nothing.
 use mathlib.Core.Path.{_≡_, refl, sym, ap, _∙_}
-use mathlib.Core.List.{List, [], _∷_, _++_, append-assoc}
-use mathlib.Core.Bool.{Bool, true, false, not}
-use mathlib.Core.Logic.{_≢_, _⊎_, inl, inr, ⊎-elim}
-use Prim.Native.Nat.{ℕ, zero, suc, _+_, _*_, _%_, _≤_}
-use native.Mathlib.Numerals.{one-add}
+use mathlib.Core.List.{List, _++_, append-assoc}
+use mathlib.Core.Logic.{_⊎_, ⊎-elim}
+use Prim.Native.Nat.{ℕ, _+_, _*_, _≤_}
 use native.Mathlib.Omega.{arith}
-use borrow.Author.Tests.{eq-eqb}
-use lib.Dec.{eqb}
 use lib.ListN.{length, length-append}
 use Rattle.paper.specs.Image.{shape-of}
-use Rattle.paper.specs.Waking.{Outcome}
 use Rattle.paper.specs.Events.{event-of, happening}
-use Rattle.paper.specs.Rules.{Good}
-use Rattle.paper.specs.Numbers.{number, verdict-number, and-then, refused-if, check}
-use Rattle.paper.specs.Calls.{event-if, event, Ran, one-more, goes-on, run-from, check-run, run-if, run}
+use Rattle.paper.specs.Numbers.{number, verdict-number, check}
+use Rattle.paper.specs.Calls.{event-if, event, Ran, run-from, run}
 use Rattle.paper.specs.declared.Task.{Task}
 use Rattle.paper.specs.declared.Shape.{Shape}
 use Rattle.paper.specs.declared.Refusal.{Refusal}
 use Rattle.paper.specs.declared.Reply.{Reply}
 use Rattle.paper.specs.declared.Verdict.{Verdict}
-use Rattle.laws.specs.Replies.{Accepted, RefusedFor}
-use Rattle.bound.specs.Bound.{Waits, most-ticks, ticks, Prefix, Comes, calls, accepted-ticks, first-events, RunComes}
+use Rattle.laws.specs.Replies.{Accepted}
+use Rattle.bound.specs.Bound.{Waits, most-ticks, ticks, Comes, calls, accepted-ticks, first-events, RunComes}
 use Rattle.bound.specs.Nearer.{replies, calls-come}
 use Rattle.bound.specs.Turn.{waits-good, comes-as, turn-comes}
 use Rattle.bound.specs.Runs.{events-after, events-length, events-whole, prefix-taken, run-whole, run-taken}

@@ -1,26 +1,24 @@
 -- The step: an accepted tick brings a task that waits for its turn nearer to it, no device event takes it back, and neither touches a word of it. Assumes nothing.
 use mathlib.Core.Path.{_≡_, refl, sym, ap, _∙_}
-use mathlib.Core.List.{List, [], _∷_, _++_}
+use mathlib.Core.List.{List, [], _∷_}
 use mathlib.Core.Bool.{Bool, true, false, cond}
 use mathlib.Core.Logic.{_≢_, _⊎_, inl, inr, ⊎-elim}
-use Prim.Native.Nat.{ℕ, zero, suc, _+_, _*_, _<_, _≤_}
+use Prim.Native.Nat.{ℕ, zero, suc, _+_, _<_, _≤_}
 use native.Mathlib.Decide.{ℕ-discrete, decLt}
 use native.Mathlib.Omega.{arith}
-use borrow.Author.Tests.{eq-eqb, leb-true, ltb-true}
+use borrow.Author.Tests.{eq-eqb, ltb-true}
 use lib.Dec.{eqb, leb, ltb}
 use lib.ListN.{length, getD, length-append, List·getD-append}
-use Rattle.paper.specs.Image.{task, most-character, ord, word, place, at, clock, reg, flags, status, base, len, reach}
+use Rattle.paper.specs.Image.{task, most-character, ord, place, at, clock, reg, flags, status, reach}
 use Rattle.paper.specs.Queues.{first, taken, held, empty}
 use Rattle.paper.specs.Flags.{pending, is-ready}
 use Rattle.paper.specs.Events.{is-tick, is-input, is-output-done, event-of, running, happening}
 use Rattle.paper.specs.Rules.{times, Ready, Good}
 use Rattle.paper.specs.declared.Task.{Task}
-use Rattle.paper.specs.declared.Address.{Address}
 use Rattle.paper.specs.declared.Place.{Place}
 use Rattle.paper.specs.declared.Shape.{Shape}
 use Rattle.paper.specs.declared.Cell.{Cell}
 use Rattle.paper.specs.declared.Queue.{Queue}
-use Rattle.paper.specs.declared.Reach.{Reach}
 use Rattle.paper.specs.declared.Event.{Event}
 use Rattle.paper.specs.declared.Answer.{Answer}
 use Rattle.paper.specs.declared.Reply.{Reply}

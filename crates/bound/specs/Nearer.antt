@@ -1,30 +1,26 @@
 -- Call by call of `event`, refused ones among them, a task comes nearer to its turn till it is first. Assumes nothing.
-use mathlib.Core.Path.{_≡_, refl, sym, ap, _∙_}
+use mathlib.Core.Path.{_≡_, refl, ap, _∙_}
 use mathlib.Core.List.{List, [], _∷_, _++_}
 use mathlib.Core.Logic.{_⊎_, inl, inr, ⊎-elim}
-use Prim.Native.Nat.{ℕ, zero, suc, _+_, _-_, _*_, _<_, _≤_}
+use Prim.Native.Nat.{ℕ, zero, suc, _+_, _-_, _*_, _≤_}
 use native.Mathlib.Nat.{le-trans}
 use native.Mathlib.Omega.{arith}
 use lib.ListN.{length}
-use Rattle.paper.specs.Image.{at, clock, shape-of}
+use Rattle.paper.specs.Image.{at, clock}
 use Rattle.paper.specs.Waking.{Outcome}
 use Rattle.paper.specs.Events.{event-of, running, happening}
 use Rattle.paper.specs.Flags.{pending}
 use Rattle.paper.specs.Rules.{Good}
-use Rattle.paper.specs.Calls.{event-if, event}
-use Rattle.paper.specs.Numbers.{check}
+use Rattle.paper.specs.Calls.{event}
 use Rattle.paper.specs.declared.Task.{Task}
 use Rattle.paper.specs.declared.Shape.{Shape}
 use Rattle.paper.specs.declared.Event.{Event}
-use Rattle.paper.specs.declared.Answer.{Answer}
 use Rattle.paper.specs.declared.Refusal.{Refusal}
-use Rattle.paper.specs.declared.Reply.{Reply}
-use Rattle.paper.specs.declared.Verdict.{Verdict}
 use Rattle.laws.specs.Layout.{shape-is}
 use Rattle.laws.specs.Checked.{good-checked}
 use Rattle.laws.specs.Stays.{happening-good, event-formed}
-use Rattle.laws.specs.Replies.{Accepted, RefusedFor, tick-accepted, input-accepted, output-done-accepted, malformed-refused}
-use Rattle.bound.specs.Bound.{Behind, most-ticks, tick-count, Prefix, IsFirst, Untouched, Comes, calls, if-accepted, accepted-ticks}
+use Rattle.laws.specs.Replies.{Accepted, RefusedFor, tick-accepted, input-accepted, output-done-accepted}
+use Rattle.bound.specs.Bound.{Behind, most-ticks, tick-count, Prefix, Untouched, Comes, calls, if-accepted, accepted-ticks}
 use Rattle.bound.specs.Measure.{measure, Nears}
 use Rattle.bound.specs.Pace.{pace-some, pace-most}
 use Rattle.bound.specs.Falls.{behind-first, event-nears, event-untouched}

@@ -2,15 +2,14 @@
 use mathlib.Core.Path.{_≡_, refl, sym, ap, _∙_}
 use mathlib.Core.List.{List, [], _∷_, _++_, append-nil}
 use mathlib.Core.Bool.{Bool, true, false, cond}
-use Prim.Native.Nat.{ℕ, suc, _<_, _≤_}
+use Prim.Native.Nat.{ℕ, suc, _<_}
 use native.Mathlib.Omega.{arith}
 use borrow.Author.Tests.{ne-eqb}
-use lib.ListN.{length, getD, length-append, List·getD-append}
-use Rattle.paper.specs.Image.{cell, at, put, clock, flags, status, task}
+use lib.ListN.{length, getD}
+use Rattle.paper.specs.Image.{cell, at, clock, flags}
 use Rattle.paper.specs.Queues.{count, capacity, appended, first, taken, held, empty, full}
-use Rattle.paper.specs.Waking.{accepted, refused, dispatched, readied, woken, left, one-if, with-woken, unless-full}
-use Rattle.paper.specs.Events.{running, turned}
-use Rattle.paper.specs.Rules.{Good}
+use Rattle.paper.specs.Waking.{accepted, refused, dispatched, woken, left, one-if, with-woken, unless-full}
+use Rattle.paper.specs.Events.{turned}
 use Rattle.paper.specs.declared.Task.{Task}
 use Rattle.paper.specs.declared.Shape.{Shape}
 use Rattle.paper.specs.declared.Part.{Part}
@@ -20,7 +19,6 @@ use Rattle.paper.specs.declared.Refusal.{Refusal}
 use Rattle.paper.specs.declared.Reply.{Reply}
 use Rattle.laws.specs.Queues.{held-length, appended-held, taken-held, taken-count}
 use Rattle.laws.specs.Sound.{Sound, sound, appended-sound, taken-sound, has-word}
-use Rattle.laws.specs.Checked.{good-sound}
 use Rattle.laws.specs.Apart.{Apart, apart-none, apart-put, apart-appended, apart-taken, kept-clock, kept-count, kept-held}
 use Rattle.laws.specs.Own.{header-part}
 use Rattle.laws.specs.Turns.{turn-parts, status-part, status-apart, joined-late, woken-tail}

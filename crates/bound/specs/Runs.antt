@@ -1,25 +1,22 @@
 -- What a run takes: the first events of its list, and by themselves they leave the image that it left. Assumes nothing.
-use mathlib.Core.Path.{_≡_, refl, sym, ap, _∙_}
+use mathlib.Core.Path.{_≡_, refl, ap, _∙_}
 use mathlib.Core.List.{List, [], _∷_, _++_}
-use mathlib.Core.Bool.{Bool, true, false, not}
-use mathlib.Core.Logic.{_≢_, _⊎_, inl, inr, ⊎-elim}
+use mathlib.Core.Logic.{_≢_, _⊎_, ⊎-elim}
 use Prim.Native.Nat.{ℕ, zero, suc, _+_, _*_, _%_, _≤_}
 use native.Mathlib.Decide.{ℕ-discrete}
 use native.Mathlib.Numerals.{one-add}
 use native.Mathlib.Omega.{arith}
 use borrow.Author.Tests.{eq-eqb, ne-eqb}
-use lib.Dec.{eqb}
 use lib.ListN.{length}
 use Rattle.paper.specs.Image.{shape-of}
-use Rattle.paper.specs.Waking.{Outcome}
 use Rattle.paper.specs.Events.{event-of, happening}
-use Rattle.paper.specs.Numbers.{number, verdict-number, and-then, refused-if, check}
-use Rattle.paper.specs.Calls.{Ran, one-more, stopped-at, goes-on, run-from, check-run, run-if, run}
+use Rattle.paper.specs.Numbers.{number, verdict-number, check}
+use Rattle.paper.specs.Calls.{Ran, stopped-at, goes-on, run-from, run}
 use Rattle.paper.specs.declared.Shape.{Shape}
 use Rattle.paper.specs.declared.Refusal.{Refusal}
 use Rattle.paper.specs.declared.Reply.{Reply}
 use Rattle.paper.specs.declared.Verdict.{Verdict}
-use Rattle.laws.specs.Replies.{Accepted, RefusedFor}
+use Rattle.laws.specs.Replies.{Accepted}
 use Rattle.bound.specs.Bound.{first-events}
 use Rattle.bound.specs.Nearer.{replies}
 
@@ -137,7 +134,6 @@ unfolding run
 run-whole im fine events w = rw (fine, eq-eqb (length events % 3) 0 w)
 
 module _ (im : List ℕ) (fine : check im ≡ Verdict.Fine) (events : List ℕ) where
-
   -- and is refused where it is not
   pub run-broken : length events % 3 ≢ 0 → run im events ≡ stopped-at (Verdict.Refused Refusal.MalformedEvent) im
   unfolding run

@@ -9,9 +9,9 @@ use borrow.Author.Tests.{eqb-false, leb-true, leb-false, ltb-true}
 use lib.Dec.{eqb, leb, ltb}
 use lib.ListN.{length}
 use Rattle.paper.specs.Image.{task, most-character, total, at, put, clock, flags, status, busy}
-use Rattle.paper.specs.Queues.{appended, first, empty, full}
-use Rattle.paper.specs.Flags.{flags-of, error, pending, pending-of, cc as condition, is-ready, waits, is-stopped}
-use Rattle.paper.specs.Waking.{accepted, refused, with-status, left, one-if, with-woken, unless-full}
+use Rattle.paper.specs.Queues.{appended, empty, full}
+use Rattle.paper.specs.Flags.{flags-of, error, pending, cc as condition, waits, is-stopped}
+use Rattle.paper.specs.Waking.{accepted, refused, with-status, one-if, with-woken, unless-full}
 use Rattle.paper.specs.Services.{asked, other, fault-of, unless-wrong, service-faulted, buffer, blocks, awaited, waiting, moved, served, waits-for, wakes, finished, service}
 use Rattle.paper.specs.Orders.{order, after-order}
 use Rattle.paper.specs.Events.{is-tick, is-input, is-output-done, event-of, running, stopped, turned, spent, ordered, acting, turn-of, tick, input, port-next, output-done, happening}
@@ -24,7 +24,6 @@ use Rattle.paper.specs.declared.Queue.{Queue}
 use Rattle.paper.specs.declared.Service.{Service}
 use Rattle.paper.specs.declared.Asked.{Asked}
 use Rattle.paper.specs.declared.Fault.{Fault}
-use Rattle.paper.specs.declared.Woken.{Woken}
 use Rattle.paper.specs.declared.Event.{Event}
 use Rattle.paper.specs.declared.Answer.{Answer}
 use Rattle.paper.specs.declared.Refusal.{Refusal}
@@ -35,7 +34,7 @@ use Rattle.laws.specs.Effects.{fields}
 use Rattle.laws.specs.Orders.{OwnCell, keeps-sound, order-keeps, not-own}
 use Rattle.laws.specs.Checked.{all-three, good-sound}
 use Rattle.laws.specs.Standing.{waits-not}
-use Rattle.laws.specs.Apart.{Apart, apart-none, apart-put, apart-appended, kept-clock, kept-held}
+use Rattle.laws.specs.Apart.{Apart, apart-none, apart-put, apart-appended, kept-clock}
 use Rattle.laws.specs.Kept.{Nearly}
 use Rattle.laws.specs.Own.{own-parts, header-part}
 use Rattle.laws.specs.Turns.{status-apart, status-sound}

@@ -3,11 +3,9 @@ use mathlib.Core.Path.{_≡_, refl, sym, ap, _∙_}
 use mathlib.Core.List.{List, [], _∷_, _++_, append-assoc, append-nil}
 use Prim.Native.Nat.{ℕ, _+_, _≤_}
 use native.Mathlib.Omega.{arith}
-use Rattle.paper.specs.Image.{shape-of}
 use Rattle.paper.specs.Waking.{Outcome}
 use Rattle.paper.specs.Events.{event-of, happening}
 use Rattle.paper.specs.Rules.{Good}
-use Rattle.paper.specs.Numbers.{check}
 use Rattle.paper.specs.Calls.{event, goes-on, run-from}
 use Rattle.paper.specs.declared.Task.{Task}
 use Rattle.paper.specs.declared.Shape.{Shape}
