@@ -1,4 +1,4 @@
--- How many ticks a task in the ready queue waits for its turn: the bound, and what it promises.
+-- How many ticks a task in the ready queue waits for its turn at most: the bound, and what it promises.
 use mathlib.Core.Bool.{false, cond}
 use mathlib.Core.List.{List, [], _∷_, _++_}
 use mathlib.Core.Path.{_≡_}
@@ -27,13 +27,13 @@ abbrev pub bound : ℕ → ℕ → ℕ → ℕ
 bound S c k = (2 * c + 1) + (k - 1) * (2 * S + 1)
 
 -- an image of shape s passes the check, and task i stands in its ready queue with k others ahead of it, one at least
-pub record Waits (s : Shape) (im : List ℕ) (i : Task) (k : ℕ) : Type 0 where
+pub record InLine (s : Shape) (im : List ℕ) (i : Task) (k : ℕ) : Type 0 where
   pub checked : check im ≡ Verdict.Fine
   pub shaped : s ≡ shape-of im
   pub behind : Behind s im i k
   pub others : 1 ≤ k
 
--- the bound for it
+-- and the bound for it
 abbrev pub most-ticks : Shape → List ℕ → ℕ → ℕ
 most-ticks s im k = bound (s .slice) (at s im clock) k
 
@@ -65,7 +65,7 @@ pub record Untouched (s : Shape) (im m : List ℕ) (i : Task) : Type 0 where
   pub lies : (a : Address) → reach s m i a ≡ reach s im i a
   pub segment : (a : Address) (p : Place) → reach s im i a ≡ Reach.At p → word m p ≡ word im p
 
--- the turn of task i comes within a list of events: after is the image after a prefix, counted the ticks of it that count
+-- the turn of task i comes within a list of events; `after` gives the image after a prefix of it, `counted` the ticks of the prefix
 pub record Comes (s : Shape) (im events : List ℕ) (i : Task) (most : ℕ) (after : List ℕ → List ℕ) (counted : List ℕ → ℕ) : Type 0 where
   pub before : List ℕ
   pub rest : List ℕ
@@ -84,12 +84,12 @@ calls im (k ∷ []) = im
 calls im (k ∷ d ∷ []) = im
 calls im (k ∷ d ∷ c ∷ later) = calls (event im k d c .image) later
 
--- what a reply lets count
+-- what counts of an accepted call; a refused one counts for nothing
 abbrev pub if-accepted : Reply → ℕ → ℕ
 if-accepted (Reply.Accepted a) n = n
 if-accepted (Reply.Refused r) n = 0
 
--- how many of them were ticks and accepted
+-- how many of the calls were ticks, and accepted
 abbrev pub accepted-ticks : List ℕ → List ℕ → ℕ
 accepted-ticks im [] = 0
 accepted-ticks im (k ∷ []) = 0
@@ -104,7 +104,7 @@ first-events (suc n) (k ∷ []) = []
 first-events (suc n) (k ∷ d ∷ []) = []
 first-events (suc n) (k ∷ d ∷ c ∷ later) = k ∷ d ∷ c ∷ first-events n later
 
--- and it comes within a run, in what the run gives back
+-- the turn of task i comes within a run, said in what runs give back
 pub record RunComes (s : Shape) (im events : List ℕ) (i : Task) (most : ℕ) : Type 0 where
   pub comes : Comes s im events i most (λ part. run im part .image) ticks
   -- the prefix is among the events that were taken

@@ -15,9 +15,9 @@ use Rattle.paper.specs.declared.Refusal.{Refusal}
 use Rattle.paper.specs.declared.Reply.{Reply}
 use Rattle.paper.specs.declared.Verdict.{Verdict}
 use Rattle.laws.specs.Replies.{Accepted}
-use Rattle.bound.specs.Bound.{Waits, most-ticks, ticks, Comes, calls, accepted-ticks, first-events, RunComes}
+use Rattle.bound.specs.Bound.{InLine, most-ticks, ticks, Comes, calls, accepted-ticks, first-events, RunComes}
 use Rattle.bound.specs.Nearer.{replies, calls-come}
-use Rattle.bound.specs.Turn.{waits-good, comes-as, turn-comes}
+use Rattle.bound.specs.Turn.{line-good, comes-as, turn-comes}
 use Rattle.bound.specs.Runs.{events-after, events-length, events-whole, prefix-taken, run-whole, run-taken}
 
 -- a refused call of `event` changes nothing, on whatever words
@@ -34,9 +34,9 @@ refused-unchanged im kind device character r = go (check im)
     go (Verdict.Refused q) e = refl
 
 -- calls of `event`, refused ones between accepted ones, with accepted ticks enough: the turn comes after as few accepted ones
-pub calls-turn-comes : (s : Shape) (im : List ℕ) (i : Task) (k : ℕ) → Waits s im i k → (events : List ℕ) → most-ticks s im k ≤ accepted-ticks im events
+pub calls-turn-comes : (s : Shape) (im : List ℕ) (i : Task) (k : ℕ) → InLine s im i k → (events : List ℕ) → most-ticks s im k ≤ accepted-ticks im events
     → Comes s im events i (most-ticks s im k) (calls im) (accepted-ticks im)
-calls-turn-comes s im i k w events h = calls-come s im i k (waits-good s im i k w) (w .behind) (w .others) events h
+calls-turn-comes s im i k w events h = calls-come s im i k (line-good s im i k w) (w .behind) (w .others) events h
 
 -- a list of events, and more after it
 module _ (s : Shape) (im events more all : List ℕ) (i : Task) (most : ℕ) (after : List ℕ → List ℕ) (counted : List ℕ → ℕ) (joined : events ++ more ≡ all) where
@@ -53,7 +53,7 @@ module _ (s : Shape) (im events more all : List ℕ) (i : Task) (most : ℕ) (af
       }
 
 -- a run whose taken events have ticks enough: the turn comes among them
-module _ (s : Shape) (im : List ℕ) (i : Task) (k : ℕ) (w : Waits s im i k) (events : List ℕ) where
+module _ (s : Shape) (im : List ℕ) (i : Task) (k : ℕ) (w : InLine s im i k) (events : List ℕ) where
   abbrev took : List ℕ
   took = first-events (run im events .taken) events
 

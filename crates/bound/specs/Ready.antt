@@ -8,7 +8,7 @@ use borrow.Author.Tests.{ne-eqb}
 use lib.ListN.{length, getD}
 use Rattle.paper.specs.Image.{cell, at, clock, flags}
 use Rattle.paper.specs.Queues.{count, capacity, appended, first, taken, held, empty, full}
-use Rattle.paper.specs.Waking.{accepted, refused, dispatched, woken, left, one-if, with-woken, unless-full}
+use Rattle.paper.specs.Waking.{Outcome, accepted, refused, dispatched, woken, left, one-if, with-woken, unless-full}
 use Rattle.paper.specs.Events.{turned}
 use Rattle.paper.specs.declared.Task.{Task}
 use Rattle.paper.specs.declared.Shape.{Shape}
@@ -160,14 +160,17 @@ pub record Awake (s : Shape) (im moved m : List ℕ) : Type 0 where
   pub flags-as : (i : Task) → i .0 < s .n → at s m (flags i) ≡ at s moved (flags i)
   pub tabled : Tabled s im m
 
+-- an outcome that does so, where it is accepted
+abbrev pub WakesAs : Shape → List ℕ → List ℕ → Outcome → Type 0
+WakesAs s im moved o = (told : Answer) → o .reply ≡ Reply.Accepted told → Awake s im moved (o .image)
+
 module _ (s : Shape) (im : List ℕ) (lies : Sound s im) (some : empty s im Queue.Ready ≡ false) (m : List ℕ) (a : Apart s moved-parts im m) (h : Sound s m)
     (j : Task) (hj : j .0 < s .n) (answer : Answer) where
   awake-some : empty s m Queue.Ready ≡ false
   unfolding empty
   awake-some = rw (kept-count s moved-parts im m a Queue.Ready tt refl .0) some
 
-  pub awake : (b : Bool) (told : Answer) → unless-full s im (one-if b j) (accepted answer (with-woken s m (one-if b j))) .reply ≡ Reply.Accepted told
-      → Awake s im m (unless-full s im (one-if b j) (accepted answer (with-woken s m (one-if b j))) .image)
+  pub awake : (b : Bool) → WakesAs s im m (unless-full s im (one-if b j) (accepted answer (with-woken s m (one-if b j))))
   unfolding unless-full with-woken
   awake false told e =
       record {
@@ -176,12 +179,11 @@ module _ (s : Shape) (im : List ℕ) (lies : Sound s im) (some : empty s im Queu
         flags-as = λ i hi. refl;
         tabled = apart-tabled s moved-parts im m refl a;
       }
-  awake true told e = go (full s im Queue.Ready) refl e
+  awake true told e = go (full s im Queue.Ready) refl told e
     where
-      go : (r : Bool) → full s im Queue.Ready ≡ r → cond r (refused Refusal.ReadyFull im) (accepted answer (woken s m j)) .reply ≡ Reply.Accepted told
-          → Awake s im m (cond r (refused Refusal.ReadyFull im) (accepted answer (woken s m j)) .image)
-      go true f t = absurd (let z : _≡_ {A = ℕ} 0 1 = cc in omega arith)
-      go false f t =
+      go : (r : Bool) → full s im Queue.Ready ≡ r → WakesAs s im m (cond r (refused Refusal.ReadyFull im) (accepted answer (woken s m j)))
+      go true f told t = absurd (let z : _≡_ {A = ℕ} 0 1 = cc in omega arith)
+      go false f told t =
           let room : full s m Queue.Ready ≡ false = apart-full s im m a ∙ f in
           let w = woken-if-apart s m h j hj true in
           record {

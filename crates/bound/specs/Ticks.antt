@@ -5,13 +5,13 @@ use mathlib.Core.Bool.{Bool, true, false, not, cond, _||_, true≢false}
 use mathlib.Core.Logic.{_≢_, _⊎_, inl, inr}
 use Prim.Native.Nat.{ℕ, _+_, _-_, _<_, _≤_}
 use native.Mathlib.Omega.{arith}
-use borrow.Author.Tests.{eqb-false, leb-true, leb-false, ltb-true}
+use borrow.Author.Tests.{eqb-false, leb-false, ltb-true}
 use lib.Dec.{eqb, leb, ltb}
 use lib.ListN.{length}
 use Rattle.paper.specs.Image.{task, most-character, total, at, put, clock, flags, status, busy}
 use Rattle.paper.specs.Queues.{appended, empty, full}
 use Rattle.paper.specs.Flags.{flags-of, error, pending, cc as condition, waits, is-stopped}
-use Rattle.paper.specs.Waking.{accepted, refused, with-status, one-if, with-woken, unless-full}
+use Rattle.paper.specs.Waking.{Outcome, accepted, refused, with-status, one-if, with-woken, unless-full}
 use Rattle.paper.specs.Services.{asked, other, fault-of, unless-wrong, service-faulted, buffer, blocks, awaited, waiting, moved, served, waits-for, wakes, finished, service}
 use Rattle.paper.specs.Orders.{order, after-order}
 use Rattle.paper.specs.Events.{is-tick, is-input, is-output-done, event-of, running, stopped, turned, spent, ordered, acting, turn-of, tick, input, port-next, output-done, happening}
@@ -41,11 +41,11 @@ use Rattle.laws.specs.Turns.{status-apart, status-sound}
 use Rattle.laws.specs.Serving.{error-none}
 use Rattle.laws.specs.Moved.{moved-parts, small-error, moved-apart, served-apart, next-apart}
 use Rattle.laws.specs.Moving.{free-output}
-use Rattle.laws.specs.Stays.{served-nearly, next-nearly, spared-if, first-task, first-stands, asked-for, asked-nothing, tick-good, input-good, output-done-good}
-use Rattle.laws.specs.Touches.{input-touches, output-done-touches}
+use Rattle.laws.specs.Stays.{served-nearly, next-nearly, spared-if, first-task, first-stands, asked-for, asked-nothing, happening-good, event-formed}
+use Rattle.laws.specs.Touches.{Touches, input-touches, output-done-touches}
 use Rattle.bound.specs.Bound.{tick-count}
 use Rattle.bound.specs.Measure.{pace-of, pace}
-use Rattle.bound.specs.Ready.{Tabled, apart-tabled, KeepsPlace, LeavesPlace, keeps-first, apart-keeps, left-passes, left-tabled, turned-passes, turned-tabled, Awake, awake}
+use Rattle.bound.specs.Ready.{Tabled, apart-tabled, KeepsPlace, LeavesPlace, keeps-first, apart-keeps, left-passes, left-tabled, turned-passes, turned-tabled, WakesAs, awake}
 use Rattle.bound.specs.Pace.{served-falls, ordered-falls}
 
 -- the first task is gone from its place, or keeps it and has used up so many of the ticks that it can use
@@ -53,213 +53,194 @@ pub record Moves (s : Shape) (im m : List ℕ) (used : ℕ) : Type 0 where
   pub turn : LeavesPlace s im m ⊎ (KeepsPlace s im m × (used + pace s m ≤ pace s im))
   pub tabled : Tabled s im m
 
--- what the first task can use, where it kept its place
-pace-is : (s : Shape) (im : List ℕ) → Sound s im → empty s im Queue.Ready ≡ false → (m : List ℕ) → Sound s m → KeepsPlace s im m
-    → (c p : ℕ) → at s m clock ≡ c → pending s m (running s im) ≡ p → pace s m ≡ pace-of c p
-pace-is s im lies some m h k c p ec ep = rw (keeps-first s im lies some m h k, ec, ep)
+-- an outcome that does so, where it is accepted
+abbrev MovesAs : Shape → List ℕ → Outcome → ℕ → Type 0
+MovesAs s im o used = (told : Answer) → o .reply ≡ Reply.Accepted told → Sound s (o .image) → Moves s im (o .image) used
 
 -- the parts that an order changes, the clock with it
 abbrev order-parts : Part → Bool
 order-parts p = own-parts p || header-part p
 
--- a tick of a good image, of the first task
+-- an event on a good image, its ready queue not empty; i is the first task
 module _ (s : Shape) (im : List ℕ) (g : Good s im) (some : empty s im Queue.Ready ≡ false) where
+  abbrev i : Task
+  i = running s im
+
+  hi : i .0 < s .n
+  hi = first-task s im g some
+
   lies : Sound s im
   lies = good-sound s im g
 
+  -- what it can still use, where it kept its place
+  pace-is : (m : List ℕ) → Sound s m → KeepsPlace s im m → (c p : ℕ) → at s m clock ≡ c → pending s m i ≡ p → pace s m ≡ pace-of c p
+  pace-is m h k c p ec ep = rw (keeps-first s im lies some m h k, ec, ep)
+
   -- rule 2
-  stopped-moves : Moves s im (stopped s im (running s im)) 1
+  stopped-moves : Moves s im (stopped s im i) 1
   unfolding stopped
   stopped-moves =
-      let hi = first-task s im g some in
-      let m = put s im (status (running s im)) is-stopped in
-      let h = put-sound s im (status (running s im)) is-stopped (hi, omega arith) (omega arith) lies in
-      let a : (P : Part → Bool) → P Part.StatusTable ≡ true → Apart s P im m = λ P t. apart-put s P im im (apart-none s P im) (status (running s im)) is-stopped (hi, omega arith) t in
+      let m = put s im (status i) is-stopped in
+      let h = put-sound s im (status i) is-stopped (hi, omega arith) (omega arith) lies in
+      let a : (P : Part → Bool) → P Part.StatusTable ≡ true → Apart s P im m =
+      λ P t. apart-put s P im im (apart-none s P im) (status i) is-stopped (hi, omega arith) t in
       record { turn = inl (left-passes s im m lies some h a); tabled = left-tabled s im m lies some h a }
 
   -- rule 3
-  turned-moves : Moves s im (turned s im (running s im)) 1
-  turned-moves = record { turn = inl (turned-passes s im lies some (running s im)); tabled = turned-tabled s im lies some (running s im) }
+  turned-moves : Moves s im (turned s im i) 1
+  turned-moves = record { turn = inl (turned-passes s im lies some i); tabled = turned-tabled s im lies some i }
 
   module _ (runs : at s im clock ≢ 0) where
-    -- rule 4: the service faulted
-    module _ (v : Service) (asks : pending s im (running s im) ≡ waits v) where
-      pends : pending s im (running s im) ≢ 0
-      pends e = waits-not v (sym e ∙ asks)
-
-      faulted-moves : (e : ℕ) → fault-of s im (running s im) v ≡ Fault.Error e → Moves s im (service-faulted s im (running s im) e) 1
-      unfolding service-faulted
-      faulted-moves e f =
-          let hi = first-task s im g some in
-          let w = flags-of (condition s im (running s im)) e 0 in
-          let m = put s im (flags (running s im)) w in
-          let a : Apart s own-parts im m = apart-put s own-parts im im (apart-none s own-parts im) (flags (running s im)) w (hi, omega arith) refl in
-          let h : Sound s m = put-sound s im (flags (running s im)) w (hi, omega arith) (omega arith) lies in
-          let k = apart-keeps s own-parts im m lies a refl in
-          let r : at s m (flags (running s im)) ≡ w = at-same s im (flags (running s im)) w (hi, omega arith) (sound lies .laid .words) in
-          let p : pending s m (running s im) ≡ 0 =
-          rw r (fields (condition s im (running s im)) e 0 (omega arith) (omega (arith, small-error s im (running s im) v e f)) .2) in
+    -- rule 4
+    module _ (v : Service) (asks : pending s im i ≡ waits v) where
+      -- a service that does not wait: it costs one tick
+      served-moves : (m : List ℕ) → Sound s m → KeepsPlace s im m → at s m clock ≡ at s im clock → pending s m i ≡ 0 → Tabled s im m → Moves s im m 1
+      served-moves m h k c p t =
           record {
-            turn = inr (k, rw (pace-is s im lies some m h k (at s im clock) 0 (kept-clock s own-parts im m a refl) p) (served-falls _ _ runs pends));
-            tabled = apart-tabled s own-parts im m refl a;
+            turn = inr (k, rw (pace-is m h k (at s im clock) 0 c p) (served-falls (at s im clock) (pending s im i) runs (λ e. waits-not v (sym e ∙ asks))));
+            tabled = t;
           }
 
+      -- it faulted
+      faulted-moves : (e : ℕ) → fault-of s im i v ≡ Fault.Error e → Moves s im (service-faulted s im i e) 1
+      unfolding service-faulted
+      faulted-moves e f =
+          let w = flags-of (condition s im i) e 0 in
+          let m = put s im (flags i) w in
+          let a : Apart s own-parts im m = apart-put s own-parts im im (apart-none s own-parts im) (flags i) w (hi, omega arith) refl in
+          let h : Sound s m = put-sound s im (flags i) w (hi, omega arith) (omega arith) lies in
+          let r : at s m (flags i) ≡ w = at-same s im (flags i) w (hi, omega arith) (sound lies .laid .words) in
+          let low = small-error s im i v e f in
+          served-moves m h (apart-keeps s own-parts im m lies a refl) (kept-clock s own-parts im m a refl)
+          (rw r (fields (condition s im i) e 0 (omega arith) (omega arith) .2)) (apart-tabled s own-parts im m refl a)
+
       -- it waits
-      waiting-moves : Moves s im (waiting s im (running s im) v) 1
+      waiting-moves : Moves s im (waiting s im i v) 1
       unfolding waiting
       waiting-moves =
-          let hi = first-task s im g some in
-          let m = with-status s im (running s im) (waits v) (awaited s im (running s im) v) in
-          let h = status-sound s im (running s im) hi lies (waits v) (awaited s im (running s im) v) in
-          let a = status-apart s im (running s im) hi lies (waits v) (awaited s im (running s im) v) in
+          let m = with-status s im i (waits v) (awaited s im i v) in
+          let h = status-sound s im i hi lies (waits v) (awaited s im i v) in
+          let a = status-apart s im i hi lies (waits v) (awaited s im i v) in
           record { turn = inl (left-passes s im m lies some h a); tabled = left-tabled s im m lies some h a }
 
       -- it is done
-      module _ (right : fault-of s im (running s im) v ≡ Fault.Nothing) (clear : blocks v s im (buffer s im (running s im) v) ≡ false) where
-        served-sound : Sound s (served s im (running s im) v)
-        served-sound = served-nearly s im g (running s im) (first-task s im g some) (first-stands s im g some) v right clear .lies
-
-        served-pending : pending s (served s im (running s im) v) (running s im) ≡ 0
+      module _ (right : fault-of s im i v ≡ Fault.Nothing) (clear : blocks v s im (buffer s im i v) ≡ false) where
+        served-pending : pending s (served s im i v) i ≡ 0
         unfolding served
         served-pending =
-            let hi = first-task s im g some in
-            let w = flags-of (condition s im (running s im)) (error s im (running s im)) 0 in
-            let m = moved s im (running s im) v in
-            let long : length m ≡ total s = moved-apart s im lies (running s im) hi v right clear .long ∙ sound lies .laid .words in
-            let r : at s (put s m (flags (running s im)) w) (flags (running s im)) ≡ w = at-same s m (flags (running s im)) w (hi, omega arith) long in
-            rw r (fields (condition s im (running s im)) (error s im (running s im)) 0 (omega arith) (omega arith) .2)
+            let w = flags-of (condition s im i) (error s im i) 0 in
+            let m = moved s im i v in
+            let long : length m ≡ total s = moved-apart s im lies i hi v right clear .long ∙ sound lies .laid .words in
+            let r : at s (put s m (flags i) w) (flags i) ≡ w = at-same s m (flags i) w (hi, omega arith) long in
+            rw r (fields (condition s im i) (error s im i) 0 (omega arith) (omega arith) .2)
 
-        awake-moves : (m : List ℕ) → Sound s m → Awake s im (served s im (running s im) v) m → Moves s im m 1
-        awake-moves m h k =
-            let p : pending s m (running s im) ≡ 0 = rw (k .flags-as (running s im) (first-task s im g some)) served-pending in
-            record {
-              turn = inr (k .keeps, rw (pace-is s im lies some m h (k .keeps) (at s im clock) 0 (k .clock-kept) p) (served-falls _ _ runs pends));
-              tabled = k .tabled;
-            }
-
-        finished-awake : (told : Answer) → finished s im (running s im) v .reply ≡ Reply.Accepted told
-            → Awake s im (served s im (running s im) v) (finished s im (running s im) v .image)
+        finished-awake : WakesAs s im (served s im i v) (finished s im i v)
         unfolding finished
-        finished-awake told e = go v right (served-apart s im lies (running s im) (first-task s im g some) v right clear) served-sound e
+        finished-awake =
+            go v right (served-apart s im lies i hi v right clear) (served-nearly s im g i hi (first-stands s im g some) v right clear .lies)
           where
-            go : (v : Service) → fault-of s im (running s im) v ≡ Fault.Nothing → Apart s moved-parts im (served s im (running s im) v) → Sound s (served s im (running s im) v)
-                → unless-full s im (wakes s im (running s im) v) (accepted (Answer.ServiceDone (running s im)) (with-woken s (served s im (running s im) v) (wakes s im (running s im) v))) .reply ≡ Reply.Accepted told
-                → Awake s im (served s im (running s im) v)
-                (unless-full s im (wakes s im (running s im) v) (accepted (Answer.ServiceDone (running s im)) (with-woken s (served s im (running s im) v) (wakes s im (running s im) v))) .image)
-            go Service.Send r a h t =
-                awake s im lies some _ a h (other s im (running s im)) (leb-false (s .n) _ (error-none _ 5 r)) _
-                (waits-for s im (other s im (running s im)) Service.Receive (running s im)) told t
-            go Service.Receive r a h t =
-                awake s im lies some _ a h (other s im (running s im)) (leb-false (s .n) _ (error-none _ 5 r)) _
-                (waits-for s im (other s im (running s im)) Service.Send (running s im)) told t
-            go Service.Input r a h t = awake s im lies some _ a h (running s im) (first-task s im g some) _ false told t
-            go Service.Output r a h t = awake s im lies some _ a h (running s im) (first-task s im g some) _ false told t
+            go : (v : Service) → fault-of s im i v ≡ Fault.Nothing → Apart s moved-parts im (served s im i v) → Sound s (served s im i v)
+                → WakesAs s im (served s im i v) (unless-full s im (wakes s im i v) (accepted (Answer.ServiceDone i) (with-woken s (served s im i v) (wakes s im i v))))
+            go Service.Send r a h =
+                awake s im lies some _ a h (other s im i) (leb-false (s .n) _ (error-none _ 5 r)) _ (waits-for s im (other s im i) Service.Receive i)
+            go Service.Receive r a h =
+                awake s im lies some _ a h (other s im i) (leb-false (s .n) _ (error-none _ 5 r)) _ (waits-for s im (other s im i) Service.Send i)
+            go Service.Input r a h = awake s im lies some _ a h i hi _ false
+            go Service.Output r a h = awake s im lies some _ a h i hi _ false
 
-      service-moves : (told : Answer) → service s im (running s im) v .reply ≡ Reply.Accepted told → Sound s (service s im (running s im) v .image)
-          → Moves s im (service s im (running s im) v .image) 1
+        finished-moves : MovesAs s im (finished s im i v) 1
+        finished-moves told t h =
+            let k = finished-awake told t in
+            served-moves (finished s im i v .image) h (k .keeps) (k .clock-kept) (rw (k .flags-as i hi) served-pending) (k .tabled)
+
+      service-moves : MovesAs s im (service s im i v) 1
       unfolding service
-      service-moves told t h = go (fault-of s im (running s im) v) refl t h
+      service-moves = go (fault-of s im i v) refl
         where
-          then : (b : Bool) → blocks v s im (buffer s im (running s im) v) ≡ b → fault-of s im (running s im) v ≡ Fault.Nothing
-              → cond b (accepted (Answer.ServiceWaits (running s im)) (waiting s im (running s im) v)) (finished s im (running s im) v) .reply ≡ Reply.Accepted told
-              → Sound s (cond b (accepted (Answer.ServiceWaits (running s im)) (waiting s im (running s im) v)) (finished s im (running s im) v) .image)
-              → Moves s im (cond b (accepted (Answer.ServiceWaits (running s im)) (waiting s im (running s im) v)) (finished s im (running s im) v) .image) 1
-          then true e f t h = waiting-moves
-          then false e f t h = awake-moves f e (finished s im (running s im) v .image) h (finished-awake f e told t)
+          then : (b : Bool) → blocks v s im (buffer s im i v) ≡ b → fault-of s im i v ≡ Fault.Nothing
+              → MovesAs s im (cond b (accepted (Answer.ServiceWaits i) (waiting s im i v)) (finished s im i v)) 1
+          then true e f told t h = waiting-moves
+          then false e f told t h = finished-moves f e told t h
 
-          go : (x : Fault) → fault-of s im (running s im) v ≡ x
-              → unless-wrong x s im (running s im) (cond (blocks v s im (buffer s im (running s im) v)) (accepted (Answer.ServiceWaits (running s im)) (waiting s im (running s im) v)) (finished s im (running s im) v)) .reply ≡ Reply.Accepted told
-              → Sound s (unless-wrong x s im (running s im) (cond (blocks v s im (buffer s im (running s im) v)) (accepted (Answer.ServiceWaits (running s im)) (waiting s im (running s im) v)) (finished s im (running s im) v)) .image)
-              → Moves s im (unless-wrong x s im (running s im) (cond (blocks v s im (buffer s im (running s im) v)) (accepted (Answer.ServiceWaits (running s im)) (waiting s im (running s im) v)) (finished s im (running s im) v)) .image) 1
-          go (Fault.Error e) f t h = faulted-moves e f
-          go Fault.Nothing f t h = then (blocks v s im (buffer s im (running s im) v)) refl f t h
+          go : (x : Fault) → fault-of s im i v ≡ x
+              → MovesAs s im (unless-wrong x s im i (cond (blocks v s im (buffer s im i v)) (accepted (Answer.ServiceWaits i) (waiting s im i v)) (finished s im i v))) 1
+          go (Fault.Error e) f told t h = faulted-moves e f
+          go Fault.Nothing f told t h = then (blocks v s im (buffer s im i v)) refl f told t h
 
     -- rule 5
-    ordered-moves : pending s im (running s im) ≡ 0 → Sound s (ordered s im (running s im) (order s im (running s im)) .image)
-        → Moves s im (ordered s im (running s im) (order s im (running s im)) .image) 1
+    ordered-moves : pending s im i ≡ 0 → MovesAs s im (ordered s im i (order s im i)) 1
     unfolding ordered spent
-    ordered-moves none h =
-        let m₀ = after-order s im (running s im) (order s im (running s im)) in
-        let m = put s m₀ clock (at s m₀ clock - 1) in
-        let k₀ = order-keeps s im (running s im) (first-task s im g some) (sound lies .laid) in
-        let h₀ : Sound s m₀ = keeps-sound s im (running s im) m₀ lies k₀ in
-        let a : Apart s order-parts im m = apart-put s order-parts im m₀ (record { long = k₀ .long; others = λ c hc f. k₀ .others c hc (not-order c f) }) clock (at s m₀ clock - 1) (omega arith, omega arith) refl in
-        let e₀ : at s m₀ clock ≡ at s im clock = k₀ .others clock (omega arith, omega arith) (not-own s im (running s im) clock tt tt) in
-        let e : at s m clock ≡ at s im clock - 1 = at-same s m₀ clock (at s m₀ clock - 1) (omega arith, omega arith) (sound h₀ .laid .words) ∙ rw e₀ in
+    ordered-moves none told t h =
+        let m₀ = after-order s im i (order s im i) in
+        let c = at s m₀ clock - 1 in
+        let m = put s m₀ clock c in
+        let k₀ = order-keeps s im i hi (sound lies .laid) in
+        let h₀ : Sound s m₀ = keeps-sound s im i m₀ lies k₀ in
+        let a₀ : Apart s order-parts im m₀ = record { long = k₀ .long; others = λ d hd f. k₀ .others d hd (not-order d f) } in
+        let a : Apart s order-parts im m = apart-put s order-parts im m₀ a₀ clock c (omega arith, omega arith) refl in
+        let e₀ : at s m₀ clock ≡ at s im clock = k₀ .others clock (omega arith, omega arith) (not-own s im i clock tt tt) in
+        let e : at s m clock ≡ at s im clock - 1 = at-same s m₀ clock c (omega arith, omega arith) (sound h₀ .laid .words) ∙ rw e₀ in
         let k = apart-keeps s order-parts im m lies a refl in
-        let l = ordered-falls (at s im clock) (pending s m (running s im)) runs in
         record {
-          turn = inr (k, rw (pace-is s im lies some m h k (at s im clock - 1) (pending s m (running s im)) e refl, none) l);
+          turn = inr (k, rw (pace-is m h k (at s im clock - 1) (pending s m i) e refl, none) (ordered-falls (at s im clock) (pending s m i) runs));
           tabled = apart-tabled s order-parts im m refl a;
         }
       where
-        not-order : (c : Cell) → order-parts (c .part) ≡ false → ¬ OwnCell s im (running s im) c
+        not-order : (c : Cell) → order-parts (c .part) ≡ false → ¬ OwnCell s im i c
         not-order c e (inl (p, _)) = true≢false (sym (ap order-parts p) ∙ e)
         not-order c e (inr (p, _)) = true≢false (sym (ap order-parts p) ∙ e)
 
-    acting-moves : (told : Answer) (x : Asked) → asked (pending s im (running s im)) ≡ x → acting s im (running s im) x .reply ≡ Reply.Accepted told
-        → Sound s (acting s im (running s im) x .image) → Moves s im (acting s im (running s im) x .image) 1
-    acting-moves told (Asked.For v) e t h = service-moves v (asked-for (pending s im (running s im)) v e) told t h
-    acting-moves told Asked.Nothing e t h =
-        ordered-moves (asked-nothing (pending s im (running s im)) (g .flags (running s im) (first-task s im g some) .pending-range) e) h
+    acting-moves : (x : Asked) → asked (pending s im i) ≡ x → MovesAs s im (acting s im i x) 1
+    acting-moves (Asked.For v) e = service-moves v (asked-for (pending s im i) v e)
+    acting-moves Asked.Nothing e = ordered-moves (asked-nothing (pending s im i) (g .flags i hi .pending-range) e)
 
-  turn-moves : (told : Answer) → turn-of s im (running s im) .reply ≡ Reply.Accepted told → Sound s (turn-of s im (running s im) .image)
-      → Moves s im (turn-of s im (running s im) .image) 1
+  turn-moves : MovesAs s im (turn-of s im i) 1
   unfolding turn-of
-  turn-moves told = go (eqb (error s im (running s im)) 0) (eqb (at s im clock) 0) refl
+  turn-moves = go (eqb (error s im i) 0) (eqb (at s im clock) 0) refl
     where
       go : (b c : Bool) → eqb (at s im clock) 0 ≡ c
-          → cond (not b) (accepted (Answer.ErrorStop (running s im)) (stopped s im (running s im))) (cond c (accepted (Answer.TurnPassed (running s im)) (turned s im (running s im))) (acting s im (running s im) (asked (pending s im (running s im))))) .reply ≡ Reply.Accepted told
-          → Sound s (cond (not b) (accepted (Answer.ErrorStop (running s im)) (stopped s im (running s im))) (cond c (accepted (Answer.TurnPassed (running s im)) (turned s im (running s im))) (acting s im (running s im) (asked (pending s im (running s im))))) .image)
-          → Moves s im (cond (not b) (accepted (Answer.ErrorStop (running s im)) (stopped s im (running s im))) (cond c (accepted (Answer.TurnPassed (running s im)) (turned s im (running s im))) (acting s im (running s im) (asked (pending s im (running s im))))) .image) 1
-      go false c e t h = stopped-moves
-      go true true e t h = turned-moves
-      go true false e t h = acting-moves (eqb-false (at s im clock) 0 e) told (asked (pending s im (running s im))) refl t h
+          → MovesAs s im (cond (not b) (accepted (Answer.ErrorStop i) (stopped s im i))
+          (cond c (accepted (Answer.TurnPassed i) (turned s im i)) (acting s im i (asked (pending s im i))))) 1
+      go false c e told t h = stopped-moves
+      go true true e told t h = turned-moves
+      go true false e told t h = acting-moves (eqb-false (at s im clock) 0 e) (asked (pending s im i)) refl told t h
 
-  -- so a tick
-  tick-moves : (told : Answer) → tick s im .reply ≡ Reply.Accepted told → Moves s im (tick s im .image) 1
+  -- so a tick costs one
+  tick-moves : MovesAs s im (tick s im) 1
   unfolding tick
-  tick-moves told t = go (empty s im Queue.Ready) some t (good-sound s _ (tick-good s im g))
-    where
-      go : (b : Bool) → b ≡ false → cond b (accepted Answer.Idle im) (turn-of s im (running s im)) .reply ≡ Reply.Accepted told
-          → Sound s (cond b (accepted Answer.Idle im) (turn-of s im (running s im)) .image) → Moves s im (cond b (accepted Answer.Idle im) (turn-of s im (running s im)) .image) 1
-      go true e t h = absurd (true≢false e)
-      go false e t h = turn-moves told t h
+  tick-moves = rw some turn-moves
 
   -- device events: the first task keeps its place, the clock and its flags
-  still : (m : List ℕ) → Sound s m → KeepsPlace s im m → at s m clock ≡ at s im clock → at s m (flags (running s im)) ≡ at s im (flags (running s im))
-      → Tabled s im m → Moves s im m 0
-  still m h k c f t =
-      let p : pending s m (running s im) ≡ pending s im (running s im) = rw f in
-      record { turn = inr (k, rw (pace-is s im lies some m h k (at s im clock) (pending s im (running s im)) c p) (omega arith)); tabled = t }
+  still : (m : List ℕ) → Sound s m → KeepsPlace s im m → at s m clock ≡ at s im clock → Touches s (λ c. ⊥) im m → Tabled s im m → Moves s im m 0
+  still m h k c u t =
+      let p : pending s m i ≡ pending s im i = rw (u .spared (flags i) (hi, omega arith) refl (λ z. z)) in
+      record { turn = inr (k, rw (pace-is m h k (at s im clock) (pending s im i) c p) (omega arith)); tabled = t }
 
-  module _ (j : Task) (hj : j .0 < s .n) (told : Answer) where
-    input-awake : (c : ℕ) → input s im j c .reply ≡ Reply.Accepted told → Awake s im (appended s im (Queue.Input j) c) (input s im j c .image)
+  module _ (j : Task) (hj : j .0 < s .n) where
+    input-awake : (c : ℕ) → WakesAs s im (appended s im (Queue.Input j) c) (input s im j c)
     unfolding input
-    input-awake c t = go (full s im (Queue.Input j)) refl t
+    input-awake c = go (full s im (Queue.Input j)) refl
       where
         b : Bool
         b = eqb (at s im (status j)) (waits Service.Input)
 
         go : (r : Bool) → full s im (Queue.Input j) ≡ r
-            → cond r (refused Refusal.InputFull im) (unless-full s im (one-if b j) (accepted (Answer.Input j) (with-woken s (appended s im (Queue.Input j) c) (one-if b j)))) .reply ≡ Reply.Accepted told
-            → Awake s im (appended s im (Queue.Input j) c)
-            (cond r (refused Refusal.InputFull im) (unless-full s im (one-if b j) (accepted (Answer.Input j) (with-woken s (appended s im (Queue.Input j) c) (one-if b j)))) .image)
-        go true e t = absurd (let z : _≡_ {A = ℕ} 0 1 = cc in omega arith)
-        go false e t =
+            → WakesAs s im (appended s im (Queue.Input j) c)
+            (cond r (refused Refusal.InputFull im) (unless-full s im (one-if b j) (accepted (Answer.Input j) (with-woken s (appended s im (Queue.Input j) c) (one-if b j)))))
+        go true e told t = absurd (let z : _≡_ {A = ℕ} 0 1 = cc in omega arith)
+        go false e told t =
             awake s im lies some (appended s im (Queue.Input j) c)
             (apart-appended s moved-parts im im (apart-none s moved-parts im) (Queue.Input j) hj (sound lies .laid .words) (sound lies .queues (Queue.Input j) hj) refl c)
             (appended-sound s im (Queue.Input j) hj lies c (has-room s im lies (Queue.Input j) hj e)) j hj (Answer.Input j) b told t
 
-    input-moves : (c : ℕ) → c ≤ most-character → input s im j c .reply ≡ Reply.Accepted told → Moves s im (input s im j c .image) 0
-    input-moves c low t =
-        let k = input-awake c t in
-        still (input s im j c .image) (good-sound s _ (input-good s im g j hj c low)) (k .keeps) (k .clock-kept)
-        (input-touches s im g j hj c .spared (flags (running s im)) (first-task s im g some, omega arith) refl (λ z. z)) (k .tabled)
+    input-moves : (c : ℕ) → MovesAs s im (input s im j c) 0
+    input-moves c told t h =
+        let k = input-awake c told t in
+        still (input s im j c .image) h (k .keeps) (k .clock-kept) (input-touches s im g j hj c) (k .tabled)
 
-    output-awake : output-done s im j .reply ≡ Reply.Accepted told → Awake s im (port-next s im j) (output-done s im j .image)
+    output-awake : WakesAs s im (port-next s im j) (output-done s im j)
     unfolding output-done
-    output-awake t = go (eqb (at s im (busy j)) 0) t
+    output-awake = go (eqb (at s im (busy j)) 0)
       where
         b : Bool
         b = eqb (at s im (status j)) (waits Service.Output)
@@ -268,39 +249,35 @@ module _ (s : Shape) (im : List ℕ) (g : Good s im) (some : empty s im Queue.Re
         next = next-nearly s im g j hj (one-if b j) (free-output s im j (one-if b j) (spared-if s im g j hj Service.Output))
 
         go : (r : Bool)
-            → cond r (refused Refusal.PortIdle im) (unless-full s im (one-if b j) (accepted (Answer.OutputDone j) (with-woken s (port-next s im j) (one-if b j)))) .reply ≡ Reply.Accepted told
-            → Awake s im (port-next s im j)
-            (cond r (refused Refusal.PortIdle im) (unless-full s im (one-if b j) (accepted (Answer.OutputDone j) (with-woken s (port-next s im j) (one-if b j)))) .image)
-        go true t = absurd (let z : _≡_ {A = ℕ} 0 1 = cc in omega arith)
-        go false t = awake s im lies some (port-next s im j) (next-apart s im lies j hj) (next .lies) j hj (Answer.OutputDone j) b told t
+            → WakesAs s im (port-next s im j)
+            (cond r (refused Refusal.PortIdle im) (unless-full s im (one-if b j) (accepted (Answer.OutputDone j) (with-woken s (port-next s im j) (one-if b j)))))
+        go true told t = absurd (let z : _≡_ {A = ℕ} 0 1 = cc in omega arith)
+        go false told t = awake s im lies some (port-next s im j) (next-apart s im lies j hj) (next .lies) j hj (Answer.OutputDone j) b told t
 
-    output-moves : output-done s im j .reply ≡ Reply.Accepted told → Moves s im (output-done s im j .image) 0
-    output-moves t =
-        let k = output-awake t in
-        still (output-done s im j .image) (good-sound s _ (output-done-good s im g j hj)) (k .keeps) (k .clock-kept)
-        (output-done-touches s im g j hj .spared (flags (running s im)) (first-task s im g some, omega arith) refl (λ z. z)) (k .tabled)
+    output-moves : MovesAs s im (output-done s im j) 0
+    output-moves told t h =
+        let k = output-awake told t in
+        still (output-done s im j .image) h (k .keeps) (k .clock-kept) (output-done-touches s im g j hj) (k .tabled)
 
   -- whatever event comes and is accepted: a tick is one of the ticks that the first task can use, a device event none
-  pub event-moves : (k d c : ℕ) (told : Answer) → happening s im (event-of s k d c) .reply ≡ Reply.Accepted told
-      → Moves s im (happening s im (event-of s k d c) .image) (tick-count k d c)
+  happens : (k d c : ℕ) → MovesAs s im (happening s im (event-of s k d c)) (tick-count k d c)
   unfolding event-of happening
-  event-moves k d c told = tick-first (is-tick k d c)
+  happens k d c = tick-first (is-tick k d c)
     where
-      done-last : (b : Bool) → is-output-done s k d c ≡ b → happening s im (cond b (Event.OutputDone (task d)) Event.Malformed) .reply ≡ Reply.Accepted told
-          → Moves s im (happening s im (cond b (Event.OutputDone (task d)) Event.Malformed) .image) 0
-      done-last true e t = output-moves (task d) (ltb-true d (s .n) (all-three (eqb k 2) (ltb d (s .n)) (eqb c 0) .0 e .1)) told t
-      done-last false e t = absurd (let z : _≡_ {A = ℕ} 0 1 = cc in omega arith)
+      done-last : (b : Bool) → is-output-done s k d c ≡ b → MovesAs s im (happening s im (cond b (Event.OutputDone (task d)) Event.Malformed)) 0
+      done-last true e told t h = output-moves (task d) (ltb-true d (s .n) (all-three (eqb k 2) (ltb d (s .n)) (eqb c 0) .0 e .1)) told t h
+      done-last false e told t h = absurd (let z : _≡_ {A = ℕ} 0 1 = cc in omega arith)
 
       input-next : (b : Bool) → is-input s k d c ≡ b
-          → happening s im (cond b (Event.Input (task d) c) (cond (is-output-done s k d c) (Event.OutputDone (task d)) Event.Malformed)) .reply ≡ Reply.Accepted told
-          → Moves s im (happening s im (cond b (Event.Input (task d) c) (cond (is-output-done s k d c) (Event.OutputDone (task d)) Event.Malformed)) .image) 0
-      input-next true e t =
-          let r = all-three (eqb k 1) (ltb d (s .n)) (leb c most-character) .0 e in
-          input-moves (task d) (ltb-true d (s .n) (r .1)) told c (leb-true c most-character (r .2)) t
-      input-next false e t = done-last (is-output-done s k d c) refl t
+          → MovesAs s im (happening s im (cond b (Event.Input (task d) c) (cond (is-output-done s k d c) (Event.OutputDone (task d)) Event.Malformed))) 0
+      input-next true e = input-moves (task d) (ltb-true d (s .n) (all-three (eqb k 1) (ltb d (s .n)) (leb c most-character) .0 e .1)) c
+      input-next false e = done-last (is-output-done s k d c) refl
 
       tick-first : (b : Bool)
-          → happening s im (cond b Event.Tick (cond (is-input s k d c) (Event.Input (task d) c) (cond (is-output-done s k d c) (Event.OutputDone (task d)) Event.Malformed))) .reply ≡ Reply.Accepted told
-          → Moves s im (happening s im (cond b Event.Tick (cond (is-input s k d c) (Event.Input (task d) c) (cond (is-output-done s k d c) (Event.OutputDone (task d)) Event.Malformed))) .image) (cond b 1 0)
-      tick-first true t = tick-moves told t
-      tick-first false t = input-next (is-input s k d c) refl t
+          → MovesAs s im (happening s im (cond b Event.Tick (cond (is-input s k d c) (Event.Input (task d) c) (cond (is-output-done s k d c) (Event.OutputDone (task d)) Event.Malformed)))) (cond b 1 0)
+      tick-first true = tick-moves
+      tick-first false = input-next (is-input s k d c) refl
+
+  pub event-moves : (k d c : ℕ) (told : Answer) → happening s im (event-of s k d c) .reply ≡ Reply.Accepted told
+      → Moves s im (happening s im (event-of s k d c) .image) (tick-count k d c)
+  event-moves k d c told t = happens k d c told t (good-sound s _ (happening-good s im g _ (event-formed s k d c)))

@@ -13,12 +13,12 @@ use Rattle.paper.specs.declared.Reply.{Reply}
 use Rattle.paper.specs.declared.Verdict.{Verdict}
 use Rattle.laws.specs.Checked.{checked-good}
 use Rattle.laws.specs.Stays.{happening-good, event-formed}
-use Rattle.bound.specs.Bound.{Waits, most-ticks, tick-count, ticks, Prefix, Comes, calls, if-accepted, accepted-ticks}
+use Rattle.bound.specs.Bound.{InLine, most-ticks, tick-count, ticks, Prefix, Comes, calls, if-accepted, accepted-ticks}
 use Rattle.bound.specs.Nearer.{event-is, calls-come}
 
 -- an image that passes the check is good
-pub waits-good : (s : Shape) (im : List ℕ) (i : Task) (k : ℕ) → Waits s im i k → Good s im
-waits-good s im i k w = rw (w .shaped) (checked-good im (w .checked))
+pub line-good : (s : Shape) (im : List ℕ) (i : Task) (k : ℕ) → InLine s im i k → Good s im
+line-good s im i k w = rw (w .shaped) (checked-good im (w .checked))
 
 -- a prefix of a prefix is a prefix
 pub prefix-of : (events before rest part later : List ℕ) (m n : ℕ) → Prefix events before rest m → Prefix before part later n → Prefix events part (later ++ rest) n
@@ -62,10 +62,10 @@ run-calls s (x ∷ y ∷ z ∷ part) rest im g e =
 
 -- a task waits with k others ahead of it, and events come, in any mix, all accepted, with ticks enough:
 -- after a prefix with at most (2c + 1) + (k - 1)(2S + 1) ticks it is first, and up to then no word of it differs
-pub turn-comes : (s : Shape) (im : List ℕ) (i : Task) (k : ℕ) → Waits s im i k → (events : List ℕ) → run-from s im events .stop ≡ Verdict.Fine
+pub turn-comes : (s : Shape) (im : List ℕ) (i : Task) (k : ℕ) → InLine s im i k → (events : List ℕ) → run-from s im events .stop ≡ Verdict.Fine
     → most-ticks s im k ≤ ticks events → Comes s im events i (most-ticks s im k) (λ part. run-from s im part .image) ticks
 turn-comes s im i k w events fine h =
-    let g = waits-good s im i k w in
+    let g = line-good s im i k w in
     let all = run-calls s events [] im g (rw (append-nil events) fine) in
     comes-as s im events i (most-ticks s im k) (calls im) (λ part. run-from s im part .image) (accepted-ticks im) ticks
     (λ part rest n p. run-calls s part rest im g (rw (p .joined) fine)) (calls-come s im i k g (w .behind) (w .others) events (rw (all .1) at h))
