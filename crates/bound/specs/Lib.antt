@@ -3,6 +3,7 @@ pub mod Measure
 pub mod Pace
 pub mod Ready
 pub mod Ticks
+pub mod Line
 pub mod Falls
 pub mod Nearer
 pub mod Turn

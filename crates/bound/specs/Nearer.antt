@@ -23,7 +23,8 @@ use Rattle.laws.specs.Replies.{Accepted, RefusedFor, tick-accepted, input-accep
 use Rattle.bound.specs.Bound.{Behind, most-ticks, tick-count, Prefix, Untouched, Comes, calls, if-accepted, accepted-ticks}
 use Rattle.bound.specs.Measure.{measure, Nears}
 use Rattle.bound.specs.Pace.{pace-some, pace-most}
-use Rattle.bound.specs.Falls.{behind-first, event-nears, event-untouched}
+use Rattle.bound.specs.Line.{behind-first}
+use Rattle.bound.specs.Falls.{event-nears, event-untouched}
 
 -- an image is untouched by nothing, and by one thing after another
 pub untouched-none : (s : Shape) (im : List ℕ) (i : Task) → Untouched s im im i
@@ -83,7 +84,7 @@ module _ (s : Shape) (im : List ℕ) (g : Good s im) (kind device character : �
         refused : (r : Refusal) × RefusedFor im o r → Untouched s im (o .image) i
         refused h = rw (h .1 .unchanged) (untouched-none s im i)
 
--- the turn comes: by events, the measure falling
+-- the turn comes: call by call, the measure falling
 module _ (s : Shape) (i : Task) where
   -- at once, where the measure is spent
   at-once : (im events : List ℕ) (k : ℕ) → Good s im → Behind s im i k → measure s im k ≤ 0 → Comes s im events i (measure s im k) (calls im) (accepted-ticks im)
@@ -108,6 +109,7 @@ module _ (s : Shape) (i : Task) where
     abbrev m : List ℕ
     m = event im kind device character .image
 
+    -- no word of the task differs after a prefix
     then-untouched : (before : List ℕ) → ((part later : List ℕ) (n : ℕ) → Prefix before part later n → Untouched s m (calls m part) i)
         → (part later : List ℕ) (n : ℕ) → Prefix (kind ∷ device ∷ character ∷ before) part later n → Untouched s im (calls im part) i
     then-untouched before u [] later n p = untouched-none s im i
@@ -123,6 +125,7 @@ module _ (s : Shape) (i : Task) where
         let v : Untouched s m (calls m part) i = u part later (n - 1) record { joined = el; whole = omega arith } in
         rw (ex, ey, ez) (untouched-then s im m (calls m part) i (call-untouched s im g kind device character i k b) v)
 
+    -- what comes in the later calls comes in all
     one-later : (later : List ℕ) (n : Nears s im m i (suc k) (if-accepted (event im kind device character .reply) (tick-count kind device character)))
         → Comes s m later i (measure s m (n .ahead)) (calls m) (accepted-ticks m)
         → Comes s im (kind ∷ device ∷ character ∷ later) i (measure s im (suc k)) (calls im) (accepted-ticks im)
@@ -137,6 +140,7 @@ module _ (s : Shape) (i : Task) where
           untouched = then-untouched (r .before) (r .untouched);
         }
 
+  -- so it comes where the accepted ticks are as many as the measure
   comes : (events im : List ℕ) (k : ℕ) → Good s im → Behind s im i k → measure s im k ≤ accepted-ticks im events
       → Comes s im events i (measure s im k) (calls im) (accepted-ticks im)
   comes [] im k g b h = at-once im [] k g b h
@@ -154,6 +158,7 @@ within-bound s im (suc k) h =
     let e : suc k - 1 ≡ k = omega arith in
     rw e (omega (arith, pace-most (at s im clock) (pending s im (running s im))))
 
+-- and where they are as many as the bound
 pub calls-come : (s : Shape) (im : List ℕ) (i : Task) (k : ℕ) → Good s im → Behind s im i k → 1 ≤ k → (events : List ℕ)
     → most-ticks s im k ≤ accepted-ticks im events → Comes s im events i (most-ticks s im k) (calls im) (accepted-ticks im)
 calls-come s im i k g b some events h =
