@@ -10,7 +10,7 @@ use Rattle.paper.specs.Image.{at, clock}
 use Rattle.paper.specs.Queues.{held}
 use Rattle.paper.specs.Flags.{pending}
 use Rattle.paper.specs.Events.{is-tick, event-of, running, happening}
-use Rattle.paper.specs.Rules.{Ready, Good}
+use Rattle.paper.specs.Rules.{Good}
 use Rattle.paper.specs.declared.Task.{Task}
 use Rattle.paper.specs.declared.Shape.{Shape}
 use Rattle.paper.specs.declared.Queue.{Queue}

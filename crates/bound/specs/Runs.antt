@@ -11,16 +11,16 @@ use lib.ListN.{length}
 use Rattle.paper.specs.Image.{shape-of}
 use Rattle.paper.specs.Events.{event-of, happening}
 use Rattle.paper.specs.Numbers.{number, verdict-number, check}
-use Rattle.paper.specs.Calls.{Ran, stopped-at, goes-on, run-from, run}
+use Rattle.paper.specs.Calls.{stopped-at, goes-on, run-from, run}
 use Rattle.paper.specs.declared.Shape.{Shape}
 use Rattle.paper.specs.declared.Refusal.{Refusal}
 use Rattle.paper.specs.declared.Reply.{Reply}
 use Rattle.paper.specs.declared.Verdict.{Verdict}
 use Rattle.laws.specs.Replies.{Accepted}
-use Rattle.bound.specs.Bound.{first-events}
+use Rattle.bound.specs.Bound.{first-events, all-taken}
 use Rattle.bound.specs.Nearer.{replies}
 
--- the first n events and the rest are the list, and have at most n events' words
+-- the first n events and the rest are the list
 pub events-after : (n : ℕ) (events : List ℕ) → (rest : List ℕ) × (first-events n events ++ rest ≡ events)
 events-after zero events = (events, refl)
 events-after (suc n) [] = ([], refl)
@@ -30,6 +30,7 @@ events-after (suc n) (x ∷ y ∷ z ∷ later) =
     let r = events-after n later in
     (r .0, ap {B = List ℕ} (λ (l : List ℕ). x ∷ y ∷ z ∷ l) (r .1))
 
+-- they have at most n events' words
 pub events-length : (n : ℕ) (events : List ℕ) → length (first-events n events) ≤ 3 * n
 events-length zero events = omega arith
 events-length (suc n) [] = omega arith
@@ -37,16 +38,13 @@ events-length (suc n) (x ∷ []) = omega arith
 events-length (suc n) (x ∷ y ∷ []) = omega arith
 events-length (suc n) (x ∷ y ∷ z ∷ later) = omega (arith, events-length n later)
 
+-- and are whole events
 pub events-whole : (n : ℕ) (events : List ℕ) → length (first-events n events) % 3 ≡ 0
 events-whole zero events = refl
 events-whole (suc n) [] = refl
 events-whole (suc n) (x ∷ []) = refl
 events-whole (suc n) (x ∷ y ∷ []) = refl
 events-whole (suc n) (x ∷ y ∷ z ∷ later) = omega (arith, events-whole n later)
-
--- a run with all of its events taken
-abbrev pub all-taken : Ran → Ran
-all-taken r = record { taken = r .taken; stop = Verdict.Fine; image = r .image }
 
 -- a refused event leaves the image as it was
 refused-image : (s : Shape) (im : List ℕ) (x y z : ℕ) (r : Refusal) → happening s im (event-of s x y z) .reply ≡ Reply.Refused r
