@@ -1,0 +1,118 @@
+-- How many ticks a task in the ready queue waits for its turn at most: the bound, and what it promises.
+use mathlib.Core.Bool.{false, cond}
+use mathlib.Core.List.{List, [], _∷_, _++_}
+use mathlib.Core.Path.{_≡_}
+use Prim.Native.Nat.{ℕ, zero, suc, _+_, _-_, _*_, _<_, _≤_}
+use lib.ListN.{length, getD}
+use Rattle.paper.specs.Image.{word, shape-of, at, clock, reg, flags, reach}
+use Rattle.paper.specs.Queues.{first, held, empty}
+use Rattle.paper.specs.Events.{is-tick}
+use Rattle.paper.specs.Numbers.{verdict-number, check}
+use Rattle.paper.specs.Calls.{event, Ran, run}
+use Rattle.paper.specs.declared.Task.{Task}
+use Rattle.paper.specs.declared.Address.{Address}
+use Rattle.paper.specs.declared.Place.{Place}
+use Rattle.paper.specs.declared.Shape.{Shape}
+use Rattle.paper.specs.declared.Queue.{Queue}
+use Rattle.paper.specs.declared.Reach.{Reach}
+use Rattle.paper.specs.declared.Reply.{Reply}
+use Rattle.paper.specs.declared.Verdict.{Verdict}
+
+-- task i stands in the ready queue with k others ahead of it
+abbrev pub Behind : Shape → List ℕ → Task → ℕ → Type 0
+Behind s im i k = (k < length (held s im Queue.Ready)) × (getD (held s im Queue.Ready) k 0 ≡ i .0)
+
+-- how many ticks it waits at most, where S is the slice, c the clock, and k is 1 or more: (2c + 1) + (k - 1)(2S + 1)
+abbrev pub bound : ℕ → ℕ → ℕ → ℕ
+bound S c k = (2 * c + 1) + (k - 1) * (2 * S + 1)
+
+-- an image of shape s passes the check, and task i stands in its ready queue with k others ahead of it, one at least
+pub record InLine (s : Shape) (im : List ℕ) (i : Task) (k : ℕ) : Type 0 where
+  pub checked : check im ≡ Verdict.Fine
+  pub shaped : s ≡ shape-of im
+  pub behind : Behind s im i k
+  pub others : 1 ≤ k
+
+-- and the bound for it
+abbrev pub most-ticks : Shape → List ℕ → ℕ → ℕ
+most-ticks s im k = bound (s .slice) (at s im clock) k
+
+-- a tick counts 1, any other event nothing
+abbrev pub tick-count : ℕ → ℕ → ℕ → ℕ
+tick-count k d c = cond (is-tick k d c) 1 0
+
+-- how many ticks a list of events has, three words an event
+abbrev pub ticks : List ℕ → ℕ
+ticks [] = 0
+ticks (k ∷ []) = 0
+ticks (k ∷ d ∷ []) = 0
+ticks (k ∷ d ∷ c ∷ later) = tick-count k d c + ticks later
+
+-- a prefix of n whole events of a list
+pub record Prefix (events part rest : List ℕ) (n : ℕ) : Type 0 where
+  pub joined : part ++ rest ≡ events
+  pub whole : length part ≡ 3 * n
+
+-- task i is first
+pub record IsFirst (s : Shape) (im : List ℕ) (i : Task) : Type 0 where
+  pub some : empty s im Queue.Ready ≡ false
+  pub named : first s im Queue.Ready ≡ i .0
+
+-- no word of task i differs between im and m: its registers, its flags, its segment, which lies where it lay
+pub record Untouched (s : Shape) (im m : List ℕ) (i : Task) : Type 0 where
+  pub registers : (r : ℕ) → r < 8 → at s m (reg i r) ≡ at s im (reg i r)
+  pub flags-kept : at s m (flags i) ≡ at s im (flags i)
+  pub lies : (a : Address) → reach s m i a ≡ reach s im i a
+  pub segment : (a : Address) (p : Place) → reach s im i a ≡ Reach.At p → word m p ≡ word im p
+
+-- the turn of task i comes within a list of events; `after` gives the image after a prefix of it, `counted` the ticks of the prefix
+pub record Comes (s : Shape) (im events : List ℕ) (i : Task) (most : ℕ) (after : List ℕ → List ℕ) (counted : List ℕ → ℕ) : Type 0 where
+  pub before : List ℕ
+  pub rest : List ℕ
+  pub number : ℕ
+  pub prefix : Prefix events before rest number
+  -- after that prefix, of so few ticks, the task is first
+  pub few : counted before ≤ most
+  pub first : IsFirst s (after before) i
+  -- and after every prefix up to that one no word of it differs from the start
+  pub untouched : (part later : List ℕ) (n : ℕ) → Prefix before part later n → Untouched s im (after part) i
+
+-- calls of `event` one after another, three words a call: the image after them
+abbrev pub calls : List ℕ → List ℕ → List ℕ
+calls im [] = im
+calls im (k ∷ []) = im
+calls im (k ∷ d ∷ []) = im
+calls im (k ∷ d ∷ c ∷ later) = calls (event im k d c .image) later
+
+-- what counts of an accepted call; a refused one counts for nothing
+abbrev pub if-accepted : Reply → ℕ → ℕ
+if-accepted (Reply.Accepted a) n = n
+if-accepted (Reply.Refused r) n = 0
+
+-- how many of the calls were ticks, and accepted
+abbrev pub accepted-ticks : List ℕ → List ℕ → ℕ
+accepted-ticks im [] = 0
+accepted-ticks im (k ∷ []) = 0
+accepted-ticks im (k ∷ d ∷ []) = 0
+accepted-ticks im (k ∷ d ∷ c ∷ later) = if-accepted (event im k d c .reply) (tick-count k d c) + accepted-ticks (event im k d c .image) later
+
+-- the first n events of a list
+abbrev pub first-events : ℕ → List ℕ → List ℕ
+first-events zero events = []
+first-events (suc n) [] = []
+first-events (suc n) (k ∷ []) = []
+first-events (suc n) (k ∷ d ∷ []) = []
+first-events (suc n) (k ∷ d ∷ c ∷ later) = k ∷ d ∷ c ∷ first-events n later
+
+-- a run with all of its events taken
+abbrev pub all-taken : Ran → Ran
+all-taken r = record { taken = r .taken; stop = Verdict.Fine; image = r .image }
+
+-- the turn of task i comes within a run, said in what runs give back
+pub record RunComes (s : Shape) (im events : List ℕ) (i : Task) (most : ℕ) : Type 0 where
+  pub comes : Comes s im events i most (λ part. run im part .image) ticks
+  -- the prefix is among the events that were taken
+  pub among : comes .number ≤ run im events .taken
+  -- and a run over it alone takes all of it, with number 0
+  pub taken : run im (comes .before) .taken ≡ comes .number
+  pub fine : verdict-number (run im (comes .before) .stop) ≡ 0

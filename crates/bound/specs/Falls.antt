@@ -1,0 +1,86 @@
+-- The step: an accepted tick brings a task nearer to its turn, no device event takes it back, and neither touches a word of it. Assumes nothing.
+use mathlib.Core.Path.{_≡_, _∙_}
+use mathlib.Core.List.{List}
+use mathlib.Core.Bool.{Bool, true, false, cond}
+use mathlib.Core.Logic.{_⊎_, ⊎-elim}
+use Prim.Native.Nat.{ℕ, zero, suc, _+_, _<_, _≤_}
+use native.Mathlib.Omega.{arith}
+use lib.ListN.{length, getD, length-append, List·getD-append}
+use Rattle.paper.specs.Image.{at, clock}
+use Rattle.paper.specs.Queues.{held}
+use Rattle.paper.specs.Flags.{pending}
+use Rattle.paper.specs.Events.{is-tick, event-of, running, happening}
+use Rattle.paper.specs.Rules.{Good}
+use Rattle.paper.specs.declared.Task.{Task}
+use Rattle.paper.specs.declared.Shape.{Shape}
+use Rattle.paper.specs.declared.Queue.{Queue}
+use Rattle.paper.specs.declared.Answer.{Answer}
+use Rattle.paper.specs.declared.Reply.{Reply}
+use Rattle.laws.specs.Stays.{happening-good, event-formed}
+use Rattle.bound.specs.Bound.{tick-count, Behind, Untouched}
+use Rattle.bound.specs.Measure.{pace, measure, Nears}
+use Rattle.bound.specs.Pace.{pace-some, pace-most}
+use Rattle.bound.specs.Ready.{KeepsPlace, LeavesPlace}
+use Rattle.bound.specs.Ticks.{Moves, event-moves}
+use Rattle.bound.specs.Line.{behind-some, event-touches, touches-untouched}
+
+module _ (s : Shape) (im m : List ℕ) (g : Good s m) (used : ℕ) (one : used ≤ 1) where
+  -- where the first task leaves its place: it could use a tick at least, and the next one can use a whole slice at most
+  leaving-falls : (k : ℕ) → used + measure s m k ≤ measure s im (suc k)
+  leaving-falls zero = omega (arith, pace-some (at s im clock) (pending s im (running s im)))
+  leaving-falls (suc k) =
+      omega (
+        arith,
+        pace-some (at s im clock) (pending s im (running s im)),
+        pace-most (at s m clock) (pending s m (running s m)),
+        g .clock-range,
+      )
+
+  module _ (i : Task) (k : ℕ) (b : Behind s im i (suc k)) where
+    -- and every other one moves up
+    leaves-nears : LeavesPlace s im m → Nears s im m i (suc k) used
+    leaves-nears v =
+        let b′ : (suc k < suc (length (v .others))) × (getD (v .others) k 0 ≡ i .0) = rw (v .was) at b in
+        let l : k < length (v .others) = omega arith in
+        record {
+          ahead = k;
+          stands = rw (v .now) (rw length-append (omega arith), List·getD-append (v .others) (v .joined) 0 k l ∙ b′ .1);
+          falls = leaving-falls k;
+        }
+
+    -- where it keeps its place, so does every other one
+    keeps-nears : KeepsPlace s im m → used + pace s m ≤ pace s im → Nears s im m i (suc k) used
+    keeps-nears v less =
+        let ws = held s im Queue.Ready in
+        record {
+          ahead = suc k;
+          stands = rw (v .now) (rw length-append (omega arith), List·getD-append ws (v .joined) 0 (suc k) (b .0) ∙ b .1);
+          falls = omega (arith, less);
+        }
+
+    moves-nears : Moves s im m used → Nears s im m i (suc k) used
+    moves-nears v = ⊎-elim leaves-nears (λ h. keeps-nears (h .0) (h .1)) (v .turn)
+
+-- a tick counts 1
+tick-one : (k d c : ℕ) → tick-count k d c ≤ 1
+tick-one k d c = go (is-tick k d c)
+  where
+    go : (b : Bool) → cond b 1 0 ≤ 1
+    go true = omega arith
+    go false = omega arith
+
+-- an accepted event, and a task with others ahead of it
+module _ (s : Shape) (im : List ℕ) (g : Good s im) (i : Task) (k : ℕ) (b : Behind s im i (suc k)) (kind device character : ℕ) (told : Answer)
+    (taken-up : happening s im (event-of s kind device character) .reply ≡ Reply.Accepted told) where
+  moves : Moves s im (happening s im (event-of s kind device character) .image) (tick-count kind device character)
+  moves = event-moves s im g (behind-some s im g i (suc k) b) kind device character told taken-up
+
+  -- the step lemma: a tick makes the measure fall by 1 at least, and no device event raises it
+  pub event-nears : Nears s im (happening s im (event-of s kind device character) .image) i (suc k) (tick-count kind device character)
+  event-nears =
+      moves-nears s im _ (happening-good s im g _ (event-formed s kind device character)) (tick-count kind device character)
+      (tick-one kind device character) i k b moves
+
+  -- and neither touches a word of the task
+  pub event-untouched : Untouched s im (happening s im (event-of s kind device character) .image) i
+  event-untouched = touches-untouched s im g i k b _ (event-touches s im g kind device character) (moves .tabled)

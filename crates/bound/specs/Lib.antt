@@ -1,0 +1,11 @@
+pub mod Bound
+pub mod Measure
+pub mod Pace
+pub mod Ready
+pub mod Ticks
+pub mod Line
+pub mod Falls
+pub mod Nearer
+pub mod Turn
+pub mod Runs
+pub mod Callers

@@ -1,0 +1,162 @@
+-- What a run takes: the first events of its list, and by themselves they leave the image that it left. Assumes nothing.
+use mathlib.Core.Path.{_≡_, refl, ap, _∙_}
+use mathlib.Core.List.{List, [], _∷_, _++_}
+use mathlib.Core.Logic.{_≢_, _⊎_, ⊎-elim}
+use Prim.Native.Nat.{ℕ, zero, suc, _+_, _*_, _%_, _≤_}
+use native.Mathlib.Decide.{ℕ-discrete}
+use native.Mathlib.Numerals.{one-add}
+use native.Mathlib.Omega.{arith}
+use borrow.Author.Tests.{eq-eqb, ne-eqb}
+use lib.ListN.{length}
+use Rattle.paper.specs.Image.{shape-of}
+use Rattle.paper.specs.Events.{event-of, happening}
+use Rattle.paper.specs.Numbers.{number, verdict-number, check}
+use Rattle.paper.specs.Calls.{stopped-at, goes-on, run-from, run}
+use Rattle.paper.specs.declared.Shape.{Shape}
+use Rattle.paper.specs.declared.Refusal.{Refusal}
+use Rattle.paper.specs.declared.Reply.{Reply}
+use Rattle.paper.specs.declared.Verdict.{Verdict}
+use Rattle.laws.specs.Replies.{Accepted}
+use Rattle.bound.specs.Bound.{first-events, all-taken}
+use Rattle.bound.specs.Nearer.{replies}
+
+-- the first n events and the rest are the list
+pub events-after : (n : ℕ) (events : List ℕ) → (rest : List ℕ) × (first-events n events ++ rest ≡ events)
+events-after zero events = (events, refl)
+events-after (suc n) [] = ([], refl)
+events-after (suc n) (x ∷ []) = (x ∷ [], refl)
+events-after (suc n) (x ∷ y ∷ []) = (x ∷ y ∷ [], refl)
+events-after (suc n) (x ∷ y ∷ z ∷ later) =
+    let r = events-after n later in
+    (r .0, ap {B = List ℕ} (λ (l : List ℕ). x ∷ y ∷ z ∷ l) (r .1))
+
+-- they have at most n events' words
+pub events-length : (n : ℕ) (events : List ℕ) → length (first-events n events) ≤ 3 * n
+events-length zero events = omega arith
+events-length (suc n) [] = omega arith
+events-length (suc n) (x ∷ []) = omega arith
+events-length (suc n) (x ∷ y ∷ []) = omega arith
+events-length (suc n) (x ∷ y ∷ z ∷ later) = omega (arith, events-length n later)
+
+-- and are whole events
+pub events-whole : (n : ℕ) (events : List ℕ) → length (first-events n events) % 3 ≡ 0
+events-whole zero events = refl
+events-whole (suc n) [] = refl
+events-whole (suc n) (x ∷ []) = refl
+events-whole (suc n) (x ∷ y ∷ []) = refl
+events-whole (suc n) (x ∷ y ∷ z ∷ later) = omega (arith, events-whole n later)
+
+-- a refused event leaves the image as it was
+refused-image : (s : Shape) (im : List ℕ) (x y z : ℕ) (r : Refusal) → happening s im (event-of s x y z) .reply ≡ Reply.Refused r
+    → happening s im (event-of s x y z) .image ≡ im
+refused-image s im x y z r e = ⊎-elim never (λ h. h .1 .unchanged) (replies s im (event-of s x y z))
+  where
+    never : Accepted (happening s im (event-of s x y z)) → happening s im (event-of s x y z) .image ≡ im
+    never h =
+        let t : happening s im (event-of s x y z) .reply ≡ Reply.Accepted (h .answer) = h .told in
+        absurd (let z : _≡_ {A = ℕ} 0 1 = cc in omega arith)
+
+module _ (s : Shape) where
+  -- the events that were taken, alone
+  pub taken-first : (events im : List ℕ) → run-from s im (first-events (run-from s im events .taken) events) ≡ all-taken (run-from s im events)
+  taken-first [] im = refl
+  taken-first (x ∷ []) im = refl
+  taken-first (x ∷ y ∷ []) im = refl
+  taken-first (x ∷ y ∷ z ∷ later) im =
+      go (happening s im (event-of s x y z) .reply) refl (taken-first later (happening s im (event-of s x y z) .image))
+    where
+      go : (r : Reply) → happening s im (event-of s x y z) .reply ≡ r
+          → run-from s (happening s im (event-of s x y z) .image) (first-events (run-from s (happening s im (event-of s x y z) .image) later .taken) later)
+          ≡ all-taken (run-from s (happening s im (event-of s x y z) .image) later)
+          → run-from s im (first-events (goes-on r (happening s im (event-of s x y z) .image) (λ next. run-from s next later) .taken) (x ∷ y ∷ z ∷ later))
+          ≡ all-taken (goes-on r (happening s im (event-of s x y z) .image) (λ next. run-from s next later))
+      go (Reply.Accepted a) e ih = rw (one-add, e, ih, one-add)
+      go (Reply.Refused r) e ih = rw (refused-image s im x y z r e)
+
+  -- where all events are accepted, those of a prefix are, and are taken
+  pub prefix-taken : (part rest im : List ℕ) (n : ℕ) → run-from s im (part ++ rest) .stop ≡ Verdict.Fine → length part ≡ 3 * n
+      → (run-from s im part .stop ≡ Verdict.Fine) × (run-from s im part .taken ≡ n)
+  prefix-taken [] rest im n f w = (refl, omega arith)
+  prefix-taken (x ∷ []) rest im n f w = absurd (let l : 1 ≡ 3 * n = w in omega arith)
+  prefix-taken (x ∷ y ∷ []) rest im n f w = absurd (let l : 2 ≡ 3 * n = w in omega arith)
+  prefix-taken (x ∷ y ∷ z ∷ part) rest im zero f w = absurd (let l : suc (suc (suc (length part))) ≡ 3 * 0 = w in omega arith)
+  prefix-taken (x ∷ y ∷ z ∷ part) rest im (suc n) f w =
+      let l : suc (suc (suc (length part))) ≡ 3 * suc n = w in
+      go (happening s im (event-of s x y z) .reply) f (λ h. prefix-taken part rest (happening s im (event-of s x y z) .image) n h (omega arith))
+    where
+      go : (r : Reply) → goes-on r (happening s im (event-of s x y z) .image) (λ next. run-from s next (part ++ rest)) .stop ≡ Verdict.Fine
+          → (run-from s (happening s im (event-of s x y z) .image) (part ++ rest) .stop ≡ Verdict.Fine
+          → (run-from s (happening s im (event-of s x y z) .image) part .stop ≡ Verdict.Fine) × (run-from s (happening s im (event-of s x y z) .image) part .taken ≡ n))
+          → (goes-on r (happening s im (event-of s x y z) .image) (λ next. run-from s next part) .stop ≡ Verdict.Fine) ×
+          (goes-on r (happening s im (event-of s x y z) .image) (λ next. run-from s next part) .taken ≡ suc n)
+      go (Reply.Accepted a) f ih = (ih f .0, rw (one-add, ih f .1))
+      go (Reply.Refused r) f ih = absurd (let z : _≡_ {A = ℕ} 0 1 = cc in omega arith)
+
+  -- and the events that were taken are the whole list
+  pub taken-all : (events im : List ℕ) → run-from s im events .stop ≡ Verdict.Fine → first-events (run-from s im events .taken) events ≡ events
+  taken-all [] im f = refl
+  taken-all (x ∷ []) im f = absurd (let z : _≡_ {A = ℕ} 0 1 = cc in omega arith)
+  taken-all (x ∷ y ∷ []) im f = absurd (let z : _≡_ {A = ℕ} 0 1 = cc in omega arith)
+  taken-all (x ∷ y ∷ z ∷ later) im f =
+      go (happening s im (event-of s x y z) .reply) f (λ h. taken-all later (happening s im (event-of s x y z) .image) h)
+    where
+      go : (r : Reply) → goes-on r (happening s im (event-of s x y z) .image) (λ next. run-from s next later) .stop ≡ Verdict.Fine
+          → (run-from s (happening s im (event-of s x y z) .image) later .stop ≡ Verdict.Fine
+          → first-events (run-from s (happening s im (event-of s x y z) .image) later .taken) later ≡ later)
+          → first-events (goes-on r (happening s im (event-of s x y z) .image) (λ next. run-from s next later) .taken) (x ∷ y ∷ z ∷ later) ≡ x ∷ y ∷ z ∷ later
+      go (Reply.Accepted a) f ih = rw (one-add, ih f)
+      go (Reply.Refused r) f ih = absurd (let z : _≡_ {A = ℕ} 0 1 = cc in omega arith)
+
+-- the number 0 is that of a run without a refusal
+pub number-fine : (v : Verdict) → verdict-number v ≡ 0 → v ≡ Verdict.Fine
+number-fine Verdict.Fine e = refl
+number-fine (Verdict.Refused r) e = absurd (go r e)
+  where
+    go : (r : Refusal) → number r ≡ 0 → ⊥
+    go Refusal.TooShort e = omega arith
+    go Refusal.NotMarked e = omega arith
+    go Refusal.OutOfRange e = omega arith
+    go Refusal.NotPacked e = omega arith
+    go Refusal.WrongSegments e = omega arith
+    go Refusal.RuleBroken e = omega arith
+    go Refusal.MalformedEvent e = omega arith
+    go Refusal.InputFull e = omega arith
+    go Refusal.PortIdle e = omega arith
+    go Refusal.ReadyFull e = omega arith
+    go Refusal.BadPlan e = omega arith
+    go Refusal.WrongTarget e = omega arith
+
+-- a run on an image that passes the check goes over its list, where that is of whole events
+pub run-whole : (im : List ℕ) → check im ≡ Verdict.Fine → (events : List ℕ) → length events % 3 ≡ 0 → run im events ≡ run-from (shape-of im) im events
+unfolding run
+run-whole im fine events w = rw (fine, eq-eqb (length events % 3) 0 w)
+
+module _ (im : List ℕ) (fine : check im ≡ Verdict.Fine) (events : List ℕ) where
+  -- and is refused where it is not
+  pub run-broken : length events % 3 ≢ 0 → run im events ≡ stopped-at (Verdict.Refused Refusal.MalformedEvent) im
+  unfolding run
+  run-broken w = rw (fine, ne-eqb (length events % 3) 0 w)
+
+  -- the events that were taken, run alone: all are taken, the number is 0, and the image is the one that the run left
+  pub run-taken : run im (first-events (run im events .taken) events) ≡ all-taken (run im events)
+  run-taken = go (ℕ-discrete (length events % 3) 0)
+    where
+      go : Dec (length events % 3 ≡ 0) → run im (first-events (run im events .taken) events) ≡ all-taken (run im events)
+      go (yes w) =
+          rw (run-whole im fine events w)
+          (run-whole im fine (first-events (run-from (shape-of im) im events .taken) events) (events-whole (run-from (shape-of im) im events .taken) events) ∙
+          taken-first (shape-of im) events im)
+      go (no w) = rw (run-broken w) (run-whole im fine [] refl)
+
+  -- with number 0 they are the whole list
+  pub run-all : verdict-number (run im events .stop) ≡ 0 → first-events (run im events .taken) events ≡ events
+  run-all e = go (ℕ-discrete (length events % 3) 0)
+    where
+      f : run im events .stop ≡ Verdict.Fine
+      f = number-fine (run im events .stop) e
+
+      go : Dec (length events % 3 ≡ 0) → first-events (run im events .taken) events ≡ events
+      go (yes w) = rw (run-whole im fine events w) (taken-all (shape-of im) events im (rw (run-whole im fine events w) at f))
+      go (no w) =
+          let z : Verdict.Refused Refusal.MalformedEvent ≡ Verdict.Fine = rw (run-broken w) at f in
+          absurd (let y : _≡_ {A = ℕ} 0 1 = cc in omega arith)

@@ -1,0 +1,1 @@
+// How long a task waits for its turn: definitions and theorems in specs/, and there is no code.
