@@ -2,13 +2,13 @@
 use mathlib.Core.Bool.{false, cond}
 use mathlib.Core.List.{List, [], _∷_, _++_}
 use mathlib.Core.Path.{_≡_}
-use Prim.Native.Nat.{ℕ, zero, suc, _+_, _-_, _*_, _<_, _≤_}
+use Prim.Native.Nat.{ℕ, _+_, _-_, _*_, _<_, _≤_}
 use lib.ListN.{length, getD}
 use Rattle.paper.specs.Image.{word, shape-of, at, clock, reg, flags, reach}
 use Rattle.paper.specs.Queues.{first, held, empty}
 use Rattle.paper.specs.Events.{is-tick}
 use Rattle.paper.specs.Numbers.{verdict-number, check}
-use Rattle.paper.specs.Calls.{event, Ran, run}
+use Rattle.paper.specs.Calls.{event, run}
 use Rattle.paper.specs.declared.Task.{Task}
 use Rattle.paper.specs.declared.Address.{Address}
 use Rattle.paper.specs.declared.Place.{Place}
@@ -95,18 +95,6 @@ accepted-ticks im [] = 0
 accepted-ticks im (k ∷ []) = 0
 accepted-ticks im (k ∷ d ∷ []) = 0
 accepted-ticks im (k ∷ d ∷ c ∷ later) = if-accepted (event im k d c .reply) (tick-count k d c) + accepted-ticks (event im k d c .image) later
-
--- the first n events of a list
-abbrev pub first-events : ℕ → List ℕ → List ℕ
-first-events zero events = []
-first-events (suc n) [] = []
-first-events (suc n) (k ∷ []) = []
-first-events (suc n) (k ∷ d ∷ []) = []
-first-events (suc n) (k ∷ d ∷ c ∷ later) = k ∷ d ∷ c ∷ first-events n later
-
--- a run with all of its events taken
-abbrev pub all-taken : Ran → Ran
-all-taken r = record { taken = r .taken; stop = Verdict.Fine; image = r .image }
 
 -- the turn of task i comes within a run, said in what runs give back
 pub record RunComes (s : Shape) (im events : List ℕ) (i : Task) (most : ℕ) : Type 0 where

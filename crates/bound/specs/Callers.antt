@@ -1,37 +1,18 @@
 -- The theorem for callers: of `event`, called again and again, and of `run`, in what each gives back. Assumes nothing.
 use mathlib.Core.Path.{_≡_, refl, sym, ap, _∙_}
 use mathlib.Core.List.{List, _++_, append-assoc}
-use mathlib.Core.Logic.{_⊎_, ⊎-elim}
 use Prim.Native.Nat.{ℕ, _+_, _*_, _≤_}
 use native.Mathlib.Omega.{arith}
 use lib.ListN.{length, length-append}
-use Rattle.paper.specs.Image.{shape-of}
-use Rattle.paper.specs.Events.{event-of, happening}
 use Rattle.paper.specs.Numbers.{number, verdict-number, check}
-use Rattle.paper.specs.Calls.{event-if, event, Ran, run-from, run}
+use Rattle.paper.specs.Calls.{Ran, run-from, run}
 use Rattle.paper.specs.declared.Task.{Task}
 use Rattle.paper.specs.declared.Shape.{Shape}
-use Rattle.paper.specs.declared.Refusal.{Refusal}
-use Rattle.paper.specs.declared.Reply.{Reply}
 use Rattle.paper.specs.declared.Verdict.{Verdict}
-use Rattle.laws.specs.Replies.{Accepted}
-use Rattle.bound.specs.Bound.{InLine, most-ticks, ticks, Comes, calls, accepted-ticks, first-events, RunComes}
-use Rattle.bound.specs.Nearer.{replies, calls-come}
+use Rattle.bound.specs.Bound.{InLine, most-ticks, ticks, Comes, calls, accepted-ticks, RunComes}
+use Rattle.bound.specs.Nearer.{calls-come}
 use Rattle.bound.specs.Turn.{line-good, comes-as, turn-comes}
-use Rattle.bound.specs.Runs.{events-after, events-length, events-whole, prefix-taken, run-whole, run-taken}
-
--- a refused call of `event` changes nothing, on whatever words
-pub refused-unchanged : (im : List ℕ) (kind device character : ℕ) (r : Refusal) → event im kind device character .reply ≡ Reply.Refused r
-    → event im kind device character .image ≡ im
-unfolding event
-refused-unchanged im kind device character r = go (check im)
-  where
-    go : (v : Verdict) → event-if v im kind device character .reply ≡ Reply.Refused r → event-if v im kind device character .image ≡ im
-    go Verdict.Fine e =
-        ⊎-elim (λ (h : Accepted (happening (shape-of im) im (event-of (shape-of im) kind device character))).
-        let t = h .told in
-        absurd (let z : _≡_ {A = ℕ} 0 1 = cc in omega arith)) (λ h. h .1 .unchanged) (replies (shape-of im) im (event-of (shape-of im) kind device character))
-    go (Verdict.Refused q) e = refl
+use Rattle.laws.specs.Taken.{first-events, events-after, events-length, events-whole, prefix-taken, run-whole, run-taken}
 
 -- calls of `event`, refused ones between accepted ones, with accepted ticks enough: the turn comes after as few accepted ones
 pub calls-turn-comes : (s : Shape) (im : List ℕ) (i : Task) (k : ℕ) → InLine s im i k → (events : List ℕ) → most-ticks s im k ≤ accepted-ticks im events

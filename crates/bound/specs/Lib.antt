@@ -7,5 +7,4 @@ pub mod Line
 pub mod Falls
 pub mod Nearer
 pub mod Turn
-pub mod Runs
 pub mod Callers

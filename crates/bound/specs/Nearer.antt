@@ -1,7 +1,7 @@
 -- Call by call of `event`, refused ones among them, a task comes nearer to its turn till it is first. Assumes nothing.
 use mathlib.Core.Path.{_≡_, refl, ap, _∙_}
 use mathlib.Core.List.{List, [], _∷_, _++_}
-use mathlib.Core.Logic.{_⊎_, inl, inr, ⊎-elim}
+use mathlib.Core.Logic.{_⊎_, ⊎-elim}
 use Prim.Native.Nat.{ℕ, zero, suc, _+_, _-_, _*_, _≤_}
 use native.Mathlib.Nat.{le-trans}
 use native.Mathlib.Omega.{arith}
@@ -14,12 +14,10 @@ use Rattle.paper.specs.Rules.{Good}
 use Rattle.paper.specs.Calls.{event}
 use Rattle.paper.specs.declared.Task.{Task}
 use Rattle.paper.specs.declared.Shape.{Shape}
-use Rattle.paper.specs.declared.Event.{Event}
 use Rattle.paper.specs.declared.Refusal.{Refusal}
-use Rattle.laws.specs.Layout.{shape-is}
-use Rattle.laws.specs.Checked.{good-checked}
 use Rattle.laws.specs.Stays.{happening-good, event-formed}
-use Rattle.laws.specs.Replies.{Accepted, RefusedFor, tick-accepted, input-accepted, output-done-accepted}
+use Rattle.laws.specs.Replies.{Accepted, RefusedFor, replies}
+use Rattle.laws.specs.Folded.{event-is}
 use Rattle.bound.specs.Bound.{Behind, most-ticks, tick-count, Prefix, Untouched, Comes, calls, if-accepted, accepted-ticks}
 use Rattle.bound.specs.Measure.{measure, Nears}
 use Rattle.bound.specs.Pace.{pace-some, pace-most}
@@ -39,29 +37,15 @@ untouched-then s im m n i u v =
       segment = λ a p e. v .segment a p (u .lies a ∙ e) ∙ u .segment a p e;
     }
 
--- an event is accepted, or refused and changes nothing
-pub replies : (s : Shape) (im : List ℕ) (e : Event) → Accepted (happening s im e) ⊎ ((r : Refusal) × RefusedFor im (happening s im e) r)
-unfolding happening
-replies s im Event.Tick = ⊎-elim (λ h. inl h) (λ h. inr (Refusal.ReadyFull, h .0)) (tick-accepted s im)
-replies s im (Event.Input i c) =
-    ⊎-elim (λ h. inr (Refusal.InputFull, h .0)) (λ k. ⊎-elim (λ h. inl h) (λ h. inr (Refusal.ReadyFull, h .0)) k) (input-accepted s im i c)
-replies s im (Event.OutputDone i) =
-    ⊎-elim (λ h. inr (Refusal.PortIdle, h .0)) (λ k. ⊎-elim (λ h. inl h) (λ h. inr (Refusal.ReadyFull, h .0)) k) (output-done-accepted s im i)
-replies s im Event.Malformed = inr (Refusal.MalformedEvent, record { told = refl; unchanged = refl })
-
 -- a call of `event` on a good image
 module _ (s : Shape) (im : List ℕ) (g : Good s im) (kind device character : ℕ) where
-  pub event-is : event im kind device character ≡ happening s im (event-of s kind device character)
-  unfolding event
-  event-is = rw (good-checked s im g, shape-is s im (g .laid))
-
   pub call-good : Good s (event im kind device character .image)
-  call-good = rw event-is (happening-good s im g _ (event-formed s kind device character))
+  call-good = rw (event-is s im g kind device character) (happening-good s im g _ (event-formed s kind device character))
 
   -- accepted or refused, it does what the step says
   module _ (i : Task) (k : ℕ) (b : Behind s im i (suc k)) where
     call-nears : Nears s im (event im kind device character .image) i (suc k) (if-accepted (event im kind device character .reply) (tick-count kind device character))
-    call-nears = rw event-is (⊎-elim taken-up refused (replies s im (event-of s kind device character)))
+    call-nears = rw (event-is s im g kind device character) (⊎-elim taken-up refused (replies s im (event-of s kind device character)))
       where
         o : Outcome
         o = happening s im (event-of s kind device character)
@@ -73,7 +57,7 @@ module _ (s : Shape) (im : List ℕ) (g : Good s im) (kind device character : �
         refused h = rw (h .1 .told, h .1 .unchanged) record { ahead = suc k; stands = b; falls = omega arith }
 
     call-untouched : Untouched s im (event im kind device character .image) i
-    call-untouched = rw event-is (⊎-elim taken-up refused (replies s im (event-of s kind device character)))
+    call-untouched = rw (event-is s im g kind device character) (⊎-elim taken-up refused (replies s im (event-of s kind device character)))
       where
         o : Outcome
         o = happening s im (event-of s kind device character)

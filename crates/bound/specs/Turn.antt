@@ -13,8 +13,9 @@ use Rattle.paper.specs.declared.Reply.{Reply}
 use Rattle.paper.specs.declared.Verdict.{Verdict}
 use Rattle.laws.specs.Checked.{checked-good}
 use Rattle.laws.specs.Stays.{happening-good, event-formed}
+use Rattle.laws.specs.Folded.{event-is}
 use Rattle.bound.specs.Bound.{InLine, most-ticks, tick-count, ticks, Prefix, Comes, calls, if-accepted, accepted-ticks}
-use Rattle.bound.specs.Nearer.{event-is, calls-come}
+use Rattle.bound.specs.Nearer.{calls-come}
 
 -- an image that passes the check is good
 pub line-good : (s : Shape) (im : List ℕ) (i : Task) (k : ℕ) → InLine s im i k → Good s im

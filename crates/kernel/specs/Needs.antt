@@ -12,7 +12,7 @@ use lib.ListN.{length, getD}
 use Rattle.paper.specs.Image.{shape-of}
 use Rattle.paper.specs.Events.{event-of, happening}
 use Rattle.paper.specs.Numbers.{verdict-number, reply-number, reply-values, and-then, refused-if, check}
-use Rattle.paper.specs.Calls.{Ran, stopped-at, run-from, check-run, event, run}
+use Rattle.paper.specs.Calls.{stopped-at, run-from, check-run, event, run}
 use Rattle.paper.specs.Promises.{Happens, Runs}
 use Rattle.paper.specs.declared.Ended.{Ended}
 use Rattle.paper.specs.declared.Shape.{Shape}

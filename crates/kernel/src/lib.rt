@@ -13,18 +13,17 @@ ghost use Rattle.paper.specs.declared.Verdict.the-variants.{Fine};
 ghost use Rattle.laws.specs.Stays.{Lawful};
 ghost use Rattle.shapes.specs.Entries.{Shapes};
 ghost use Rattle.kernel.specs.Lists.{nth-event};
+pub use builds::build;
 use happening::step;
+pub use inspect::check;
 use inspect::inspect;
 use paper::Ended;
 use paper::Refusal;
 use paper::Reply;
 use paper::Shape;
 use paper::Verdict;
-use shapes::order_shapes;
-
-pub use builds::build;
-pub use inspect::check;
 pub use plans::size;
+use shapes::order_shapes;
 
 // The words of an event.
 const EVENT_WORDS: usize = 3;

@@ -315,7 +315,7 @@ number-some Refusal.ReadyFull = omega arith
 number-some Refusal.BadPlan = omega arith
 number-some Refusal.WrongTarget = omega arith
 
-zero-is : (v : Verdict) → (verdict-number v ≡ 0) ↔ (v ≡ Verdict.Fine)
+pub zero-is : (v : Verdict) → (verdict-number v ≡ 0) ↔ (v ≡ Verdict.Fine)
 zero-is Verdict.Fine = (λ _. refl, λ _. refl)
 zero-is (Verdict.Refused r) =
     (λ e. absurd (omega (arith, number-some r)), λ e. absurd (let z : _≡_ {A = ℕ} 0 1 = cc in omega arith))

@@ -27,3 +27,4 @@ pub mod Touches
 pub mod Delivery
 pub mod Replies
 pub mod Folded
+pub mod Taken

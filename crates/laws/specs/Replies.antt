@@ -2,7 +2,7 @@
 use mathlib.Core.Path.{_≡_, refl}
 use mathlib.Core.List.{List}
 use mathlib.Core.Bool.{Bool, true, false, not, cond}
-use mathlib.Core.Logic.{_⊎_, inl, inr}
+use mathlib.Core.Logic.{_⊎_, inl, inr, ⊎-elim}
 use Prim.Native.Nat.{ℕ}
 use native.Mathlib.Omega.{arith}
 use borrow.Author.Tests.{eqb-true}
@@ -124,25 +124,21 @@ module _ (s : Shape) (im : List ℕ) where
   unfolding happening
   malformed-refused = record { told = refl; unchanged = refl }
 
--- a refusal alters nothing, whatever the event
-module _ (im : List ℕ) (o : Outcome) (r : Refusal) (told : o .reply ≡ Reply.Refused r) where
-  not-accepted : Accepted o → o .image ≡ im
-  not-accepted a = absurd (clash (o .reply) (a .told) told)
-    where
-      clash : (x : Reply) → x ≡ Reply.Accepted (a .answer) → x ≡ Reply.Refused r → ⊥
-      clash x e f = let z : _≡_ {A = ℕ} 0 1 = cc in omega arith
-
-  perhaps : {B : Type 0} {q : Refusal} → Accepted o ⊎ (RefusedFor im o q × B) → o .image ≡ im
-  perhaps (inl a) = not-accepted a
-  perhaps (inr x) = x .0 .unchanged
-
-  perhaps-two : {A B : Type 0} {p q : Refusal} → (RefusedFor im o p × A) ⊎ (Accepted o ⊎ (RefusedFor im o q × B)) → o .image ≡ im
-  perhaps-two (inl x) = x .0 .unchanged
-  perhaps-two (inr x) = perhaps x
-
-pub happening-unchanged : (s : Shape) (im : List ℕ) (e : Event) (r : Refusal) → happening s im e .reply ≡ Reply.Refused r → happening s im e .image ≡ im
+-- an event is accepted, or refused and changes nothing
+pub replies : (s : Shape) (im : List ℕ) (e : Event) → Accepted (happening s im e) ⊎ ((r : Refusal) × RefusedFor im (happening s im e) r)
 unfolding happening
-happening-unchanged s im Event.Tick r told = perhaps im (tick s im) r told (tick-accepted s im)
-happening-unchanged s im (Event.Input i c) r told = perhaps-two im (input s im i c) r told (input-accepted s im i c)
-happening-unchanged s im (Event.OutputDone i) r told = perhaps-two im (output-done s im i) r told (output-done-accepted s im i)
-happening-unchanged s im Event.Malformed r told = refl
+replies s im Event.Tick = ⊎-elim (λ h. inl h) (λ h. inr (Refusal.ReadyFull, h .0)) (tick-accepted s im)
+replies s im (Event.Input i c) =
+    ⊎-elim (λ h. inr (Refusal.InputFull, h .0)) (λ k. ⊎-elim (λ h. inl h) (λ h. inr (Refusal.ReadyFull, h .0)) k) (input-accepted s im i c)
+replies s im (Event.OutputDone i) =
+    ⊎-elim (λ h. inr (Refusal.PortIdle, h .0)) (λ k. ⊎-elim (λ h. inl h) (λ h. inr (Refusal.ReadyFull, h .0)) k) (output-done-accepted s im i)
+replies s im Event.Malformed = inr (Refusal.MalformedEvent, malformed-refused s im)
+
+-- a refusal alters nothing
+pub happening-unchanged : (s : Shape) (im : List ℕ) (e : Event) (r : Refusal) → happening s im e .reply ≡ Reply.Refused r → happening s im e .image ≡ im
+happening-unchanged s im e r told = ⊎-elim never (λ h. h .1 .unchanged) (replies s im e)
+  where
+    never : Accepted (happening s im e) → happening s im e .image ≡ im
+    never h =
+        let t : happening s im e .reply ≡ Reply.Accepted (h .answer) = h .told in
+        absurd (let z : _≡_ {A = ℕ} 0 1 = cc in omega arith)

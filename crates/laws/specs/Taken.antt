@@ -1,7 +1,7 @@
 -- What a run takes: the first events of its list, and by themselves they leave the image that it left. Assumes nothing.
 use mathlib.Core.Path.{_≡_, refl, ap, _∙_}
 use mathlib.Core.List.{List, [], _∷_, _++_}
-use mathlib.Core.Logic.{_≢_, _⊎_, ⊎-elim}
+use mathlib.Core.Logic.{_≢_}
 use Prim.Native.Nat.{ℕ, zero, suc, _+_, _*_, _%_, _≤_}
 use native.Mathlib.Decide.{ℕ-discrete}
 use native.Mathlib.Numerals.{one-add}
@@ -10,15 +10,26 @@ use borrow.Author.Tests.{eq-eqb, ne-eqb}
 use lib.ListN.{length}
 use Rattle.paper.specs.Image.{shape-of}
 use Rattle.paper.specs.Events.{event-of, happening}
-use Rattle.paper.specs.Numbers.{number, verdict-number, check}
-use Rattle.paper.specs.Calls.{stopped-at, goes-on, run-from, run}
+use Rattle.paper.specs.Numbers.{verdict-number, check}
+use Rattle.paper.specs.Calls.{Ran, stopped-at, goes-on, run-from, run}
 use Rattle.paper.specs.declared.Shape.{Shape}
 use Rattle.paper.specs.declared.Refusal.{Refusal}
 use Rattle.paper.specs.declared.Reply.{Reply}
 use Rattle.paper.specs.declared.Verdict.{Verdict}
-use Rattle.laws.specs.Replies.{Accepted}
-use Rattle.bound.specs.Bound.{first-events, all-taken}
-use Rattle.bound.specs.Nearer.{replies}
+use Rattle.laws.specs.Checked.{zero-is}
+use Rattle.laws.specs.Replies.{happening-unchanged}
+
+-- the first n events of a list
+abbrev pub first-events : ℕ → List ℕ → List ℕ
+first-events zero events = []
+first-events (suc n) [] = []
+first-events (suc n) (k ∷ []) = []
+first-events (suc n) (k ∷ d ∷ []) = []
+first-events (suc n) (k ∷ d ∷ c ∷ later) = k ∷ d ∷ c ∷ first-events n later
+
+-- a run with all of its events taken
+abbrev pub all-taken : Ran → Ran
+all-taken r = record { taken = r .taken; stop = Verdict.Fine; image = r .image }
 
 -- the first n events and the rest are the list
 pub events-after : (n : ℕ) (events : List ℕ) → (rest : List ℕ) × (first-events n events ++ rest ≡ events)
@@ -46,16 +57,6 @@ events-whole (suc n) (x ∷ []) = refl
 events-whole (suc n) (x ∷ y ∷ []) = refl
 events-whole (suc n) (x ∷ y ∷ z ∷ later) = omega (arith, events-whole n later)
 
--- a refused event leaves the image as it was
-refused-image : (s : Shape) (im : List ℕ) (x y z : ℕ) (r : Refusal) → happening s im (event-of s x y z) .reply ≡ Reply.Refused r
-    → happening s im (event-of s x y z) .image ≡ im
-refused-image s im x y z r e = ⊎-elim never (λ h. h .1 .unchanged) (replies s im (event-of s x y z))
-  where
-    never : Accepted (happening s im (event-of s x y z)) → happening s im (event-of s x y z) .image ≡ im
-    never h =
-        let t : happening s im (event-of s x y z) .reply ≡ Reply.Accepted (h .answer) = h .told in
-        absurd (let z : _≡_ {A = ℕ} 0 1 = cc in omega arith)
-
 module _ (s : Shape) where
   -- the events that were taken, alone
   pub taken-first : (events im : List ℕ) → run-from s im (first-events (run-from s im events .taken) events) ≡ all-taken (run-from s im events)
@@ -71,7 +72,7 @@ module _ (s : Shape) where
           → run-from s im (first-events (goes-on r (happening s im (event-of s x y z) .image) (λ next. run-from s next later) .taken) (x ∷ y ∷ z ∷ later))
           ≡ all-taken (goes-on r (happening s im (event-of s x y z) .image) (λ next. run-from s next later))
       go (Reply.Accepted a) e ih = rw (one-add, e, ih, one-add)
-      go (Reply.Refused r) e ih = rw (refused-image s im x y z r e)
+      go (Reply.Refused r) e ih = rw (happening-unchanged s im (event-of s x y z) r e)
 
   -- where all events are accepted, those of a prefix are, and are taken
   pub prefix-taken : (part rest im : List ℕ) (n : ℕ) → run-from s im (part ++ rest) .stop ≡ Verdict.Fine → length part ≡ 3 * n
@@ -107,25 +108,6 @@ module _ (s : Shape) where
       go (Reply.Accepted a) f ih = rw (one-add, ih f)
       go (Reply.Refused r) f ih = absurd (let z : _≡_ {A = ℕ} 0 1 = cc in omega arith)
 
--- the number 0 is that of a run without a refusal
-pub number-fine : (v : Verdict) → verdict-number v ≡ 0 → v ≡ Verdict.Fine
-number-fine Verdict.Fine e = refl
-number-fine (Verdict.Refused r) e = absurd (go r e)
-  where
-    go : (r : Refusal) → number r ≡ 0 → ⊥
-    go Refusal.TooShort e = omega arith
-    go Refusal.NotMarked e = omega arith
-    go Refusal.OutOfRange e = omega arith
-    go Refusal.NotPacked e = omega arith
-    go Refusal.WrongSegments e = omega arith
-    go Refusal.RuleBroken e = omega arith
-    go Refusal.MalformedEvent e = omega arith
-    go Refusal.InputFull e = omega arith
-    go Refusal.PortIdle e = omega arith
-    go Refusal.ReadyFull e = omega arith
-    go Refusal.BadPlan e = omega arith
-    go Refusal.WrongTarget e = omega arith
-
 -- a run on an image that passes the check goes over its list, where that is of whole events
 pub run-whole : (im : List ℕ) → check im ≡ Verdict.Fine → (events : List ℕ) → length events % 3 ≡ 0 → run im events ≡ run-from (shape-of im) im events
 unfolding run
@@ -153,7 +135,7 @@ module _ (im : List ℕ) (fine : check im ≡ Verdict.Fine) (events : List ℕ) 
   run-all e = go (ℕ-discrete (length events % 3) 0)
     where
       f : run im events .stop ≡ Verdict.Fine
-      f = number-fine (run im events .stop) e
+      f = zero-is (run im events .stop) .0 e
 
       go : Dec (length events % 3 ≡ 0) → first-events (run im events .taken) events ≡ events
       go (yes w) = rw (run-whole im fine events w) (taken-all (shape-of im) events im (rw (run-whole im fine events w) at f))
