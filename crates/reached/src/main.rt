@@ -1,0 +1,147 @@
+// Shows that the bound on turns is reached: for each k from 1 to 15, an image on which a task with k others ahead is first after exactly as many ticks.
+use kernel::build;
+use kernel::event;
+use kernel::size;
+use libc::STDOUT_FILENO;
+use numbers::task_of;
+use paper::Reply;
+use paper::Size;
+ghost use mathlib.Core.Path.{_≡_};
+ghost use Prim.Native.Nat.{_≤_};
+ghost use lib.ListN.{length};
+
+// The most others that can be ahead.
+const MOST_AHEAD: usize = 15;
+
+// The slice of every plan.
+const SLICE: u16 = 2;
+
+// The clock of the image from which ticks are counted.
+const CLOCK: usize = 1;
+
+// The ticks of a task's first turn, after which its next send is pending: an order and a service twice.
+const FIRST_TURN: usize = 4;
+
+// Two ticks more, a service and an order, and the clock of the first task has fallen to 1 with its send pending.
+const SERVICE_AND_ORDER: usize = 2;
+
+// The first word of a plan's pairs.
+const PAIRS: usize = 5;
+
+// The words of a pair.
+const PAIR: usize = 2;
+
+// The words of a program, which fill its segment.
+const PROGRAM: usize = 16;
+
+// The words of the longest plan.
+const PLAN_WORDS: usize = 293;
+
+// The most words of an image.
+const IMAGE_WORDS: usize = 32768;
+
+// The order of every program: send R3 to task 0.
+const SEND: u16 = 4624;
+
+// The capacity of message buffers, more than a program sends.
+const MESSAGES: u16 = 32;
+
+// More ticks than any turn is waited for.
+const TICKS_END: usize = 1000;
+
+// A plan of so many tasks whose programs send word after word.
+fn plan_of(tasks: usize) -> [u16; PLAN_WORDS]
+    requires { ⌜ tasks ≤ 16 ⌝ }
+    ensures { λ r. ⌜ 293 ≡ length r ⌝ }
+{
+    let mut plan = [SEND; PLAN_WORDS];
+    plan[0] = tasks as u16;
+    plan[1] = SLICE;
+    plan[2] = 1;
+    plan[3] = 1;
+    plan[4] = MESSAGES;
+    for i in 0..PAIR * tasks {
+        plan[PAIRS + i] = PROGRAM as u16;
+    }
+    plan
+}
+
+// Whether a tick finds a task first: its answer names the one that was.
+fn is_first(im: &mut [u16], task: usize) -> bool {
+    let reply = event(im, 0, 0, 0);
+    match reply {
+        Reply::Accepted(a) => task_of(a) as usize == task,
+        Reply::Refused(_) => false,
+    }
+}
+
+// So many ticks.
+fn tick(im: &mut [u16], ticks: usize) {
+    for _ in 0..ticks {
+        event(im, 0, 0, 0);
+    }
+}
+
+// How many ticks pass before one finds a task first.
+fn waited(im: &mut [u16], task: usize) -> usize {
+    for ticks in 0..TICKS_END {
+        if is_first(im, task) {
+            return ticks;
+        }
+    }
+    TICKS_END
+}
+
+// How many ticks task k of a plan waits for its turn, from where the first task has its send pending and the clock is 1; the image is built in its place.
+fn ticks_on(plan: &[u16], im: &mut [u16], k: usize) -> usize
+    requires { do ⌜ k ≤ (← ⟦MOST_AHEAD⟧) ⌝ }
+{
+    build(plan, im);
+    tick(im, FIRST_TURN * (k + 1) + SERVICE_AND_ORDER);
+    waited(im, k)
+}
+
+// The same, with room for the image.
+fn ticks_in(plan: &[u16], room: &mut [u16], k: usize) -> usize
+    requires { do ⌜ k ≤ (← ⟦MOST_AHEAD⟧) ⌝ }
+{
+    let needed = size(plan);
+    match needed {
+        Size::Words(total) => {
+            if total > room.len() {
+                return TICKS_END;
+            }
+            ticks_on(plan, &mut room[..total], k)
+        }
+        Size::Refused(_) => TICKS_END,
+    }
+}
+
+// How many ticks a task with k others ahead waits for its turn.
+fn ticks_of(k: usize) -> usize
+    requires { do ⌜ k ≤ (← ⟦MOST_AHEAD⟧) ⌝ }
+{
+    let tasks = k + 1;
+    let plan = plan_of(tasks);
+    let words = PAIRS + (PAIR + PROGRAM) * tasks;
+    let mut room = [0u16; IMAGE_WORDS];
+    ticks_in(&plan[..words], &mut room, k)
+}
+
+// Prints a number after a text.
+fn print(text: &[u8], n: usize) {
+    io::write_all(STDOUT_FILENO, text);
+    io::print_decimal(STDOUT_FILENO, n as u64);
+}
+
+// Prints the bound and how many ticks passed, for each k.
+fn main() {
+    let slice = SLICE as usize;
+    for i in 0..MOST_AHEAD {
+        let k = i + 1;
+        print(b"k ", k);
+        print(b": bound ", 2 * CLOCK + 1 + i * (2 * slice + 1));
+        print(b", first after ", ticks_of(k));
+        io::write_all(STDOUT_FILENO, b" ticks\n");
+    }
+}
