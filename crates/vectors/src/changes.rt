@@ -9,20 +9,20 @@ use crate::images::is_image;
 use crate::tally::Answer;
 use crate::tally::compared;
 
-// The most changes that a record may list.
+// The most changes that a record of orders may list.
 pub const MOST_CHANGES: usize = 16;
 
 // The words of a change: a place, and the word that it then holds.
 const CHANGE_SIZE: usize = 2;
 
-// The place of a change's place.
-const PLACE_AT: usize = 0;
-
-// The place of the word that a change leaves.
-const WORD_AT: usize = 1;
-
 // The words of as many changes.
 pub const CHANGE_WORDS: usize = CHANGE_SIZE * MOST_CHANGES;
+
+// Where the place stands in a change.
+const PLACE_AT: usize = 0;
+
+// Where the word stands that the place then holds.
+const WORD_AT: usize = 1;
 
 // A word as a place or a count.
 pub fn as_count(word: u16) -> usize
@@ -61,7 +61,7 @@ fn after(image: &[u16], changes: &[u16; CHANGE_WORDS], count: usize, at: usize) 
     for i in 0..count {
         let low = CHANGE_SIZE * i;
         if as_count(changes[low]) == at {
-            return changes[low + 1];
+            return changes[low + WORD_AT];
         }
     }
     image[at]
