@@ -1,29 +1,19 @@
 // Replays a record of an event on the image that stands.
 ghost use mathlib.Core.Path.{_≡_};
-ghost use Prim.Native.Nat.{_≤_};
 ghost use lib.ListN.{length};
-ghost use Rattle.shapes.specs.Entries.{Shapes};
 use crate::replies::ACCEPTED;
 use crate::replies::EventWords;
-use crate::replies::Outcome;
 use crate::replies::Said;
 use crate::replies::are_same;
-use crate::replies::outcome_of;
-use vectors::changes::CHANGE_WORDS;
-use vectors::changes::MOST_CHANGES;
-use vectors::changes::are_places;
-use vectors::changes::is_changed;
-use vectors::changes::make_changes;
-use vectors::changes::read_changes;
+use crate::replies::said_to;
+use vectors::changes::changed_answer;
 use vectors::files::Found;
 use vectors::files::Head;
 use vectors::files::read_words;
 use vectors::images::lay_out;
-use vectors::tally::Answer;
 use vectors::tally::EVENT_NUMBERS;
 use vectors::tally::Tally;
 use vectors::tally::answered;
-use vectors::tally::compared;
 use vectors::tally::listed;
 use vectors::tally::spoiled;
 
@@ -82,98 +72,32 @@ fn read_case(fd: i32, head: Head) -> Asked {
     })
 }
 
-// The answer to an event on an image.
-fn event_answer(
-    shapes: &[u8; 256],
-    trial: &mut [u16],
-    image: &[u16],
-    changes: &[u16; CHANGE_WORDS],
-    case: Case,
-) -> Answer
-    requires { ⌜ Shapes (now shapes) ⌝ }
-    requires { ⌜ length (now trial) ≡ length (now image) ⌝ }
-    requires { do ⌜ case .changes ≤ (← ⟦MOST_CHANGES⟧) ⌝ }
-{
-    lay_out(trial, image);
-    let outcome = outcome_of(trial, shapes, case.event);
-    match outcome {
-        Outcome::Of(said) => {
-            let same = is_changed(trial, image, changes, case.changes);
-            compared(are_same(said, case.expected) && same)
-        }
-        Outcome::Bad => Answer::Bad,
-    }
-}
-
-// Whether the changes of a case lie in an image of so many words, and an event may have its number and as many changes.
-fn is_right(changes: &[u16; CHANGE_WORDS], case: Case, words: usize) -> bool
-    requires { do ⌜ case .changes ≤ (← ⟦MOST_CHANGES⟧) ⌝ }
-{
+// Whether an event may have the number of a case and as many changes.
+fn is_right(case: Case) -> bool {
     let number = case.expected.number;
-    are_places(changes, case.changes, words)
-        && listed(&EVENT_NUMBERS, number)
-        && (number == ACCEPTED || case.changes == 0)
+    listed(&EVENT_NUMBERS, number) && (number == ACCEPTED || case.changes == 0)
 }
 
-// The tally with a case whose changes are read, unless the record is bad. The image takes the changes.
-fn checked_tally(
-    shapes: &[u8; 256],
-    trial: &mut [u16],
-    image: &mut [u16],
-    changes: &[u16; CHANGE_WORDS],
-    case: Case,
-    tally: Tally,
-) -> Tally
-    requires { ⌜ Shapes (now shapes) ⌝ }
+// The tally with a case, unless the record is bad. The image takes the changes that follow in the file.
+fn case_tally(fd: i32, trial: &mut [u16], image: &mut [u16], case: Case, tally: Tally) -> Tally
     requires { ⌜ length (now trial) ≡ length (now image) ⌝ }
-    requires { do ⌜ case .changes ≤ (← ⟦MOST_CHANGES⟧) ⌝ }
 {
-    if !is_right(changes, case, image.len()) {
+    if !is_right(case) {
         return spoiled(tally);
     }
-    let answer = event_answer(shapes, trial, image, changes, case);
-    make_changes(image, changes, case.changes);
+    lay_out(trial, image);
+    let same = are_same(said_to(trial, case.event), case.expected);
+    let answer = changed_answer(fd, trial, image, case.changes, same);
     answered(tally, case.expected.number, answer)
 }
 
-// The tally with a case, its changes read from the file.
-fn case_tally(
-    fd: i32,
-    shapes: &[u8; 256],
-    trial: &mut [u16],
-    image: &mut [u16],
-    case: Case,
-    tally: Tally,
-) -> Tally
-    requires { ⌜ Shapes (now shapes) ⌝ }
-    requires { ⌜ length (now trial) ≡ length (now image) ⌝ }
-{
-    if case.changes > MOST_CHANGES {
-        return spoiled(tally);
-    }
-    let mut changes = [0u16; CHANGE_WORDS];
-    let found = read_changes(fd, &mut changes, case.changes);
-    let Found::All = found else {
-        return spoiled(tally);
-    };
-    checked_tally(shapes, trial, image, &changes, case, tally)
-}
-
 // The tally with a record of an event on the image that stands.
-pub fn event_tally(
-    fd: i32,
-    shapes: &[u8; 256],
-    trial: &mut [u16],
-    image: &mut [u16],
-    head: Head,
-    tally: Tally,
-) -> Tally
-    requires { ⌜ Shapes (now shapes) ⌝ }
+pub fn event_tally(fd: i32, trial: &mut [u16], image: &mut [u16], head: Head, tally: Tally) -> Tally
     requires { ⌜ length (now trial) ≡ length (now image) ⌝ }
 {
     let asked = read_case(fd, head);
     match asked {
-        Asked::Replay(case) => case_tally(fd, shapes, trial, image, case, tally),
+        Asked::Replay(case) => case_tally(fd, trial, image, case, tally),
         Asked::Bad => spoiled(tally),
     }
 }

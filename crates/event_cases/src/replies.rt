@@ -1,12 +1,9 @@
-// What one event on an image comes to, in the paper's numbers.
-ghost use Rattle.shapes.specs.Entries.{Shapes};
-use happening::step;
-use inspect::inspect;
+// What is said to one event on an image, in the paper's numbers.
+use kernel::event;
 use numbers::kind_of;
 use numbers::number_of;
 use numbers::task_of;
 use paper::Reply;
-use paper::Verdict;
 
 // The number of an event that is accepted.
 pub const ACCEPTED: u16 = 0;
@@ -26,12 +23,6 @@ pub struct Said {
     pub number: u16,
     pub kind: u16,
     pub task: u16,
-}
-
-// What is said to an event on an image, or that the image allows none.
-pub enum Outcome {
-    Of(Said),
-    Bad,
 }
 
 // A reply in the paper's numbers.
@@ -55,16 +46,7 @@ pub fn are_same(a: Said, b: Said) -> bool {
     a.number == b.number && a.kind == b.kind && a.task == b.task
 }
 
-// Carries out one event on an image, and answers what is said to it.
-pub fn outcome_of(im: &mut [u16], shapes: &[u8; 256], event: EventWords) -> Outcome
-    requires { ⌜ Shapes (now shapes) ⌝ }
-{
-    let found = inspect(im);
-    let verdict = found.verdict;
-    let Verdict::Fine = verdict else {
-        return Outcome::Bad;
-    };
-    let s = found.shape;
-    let reply = step(s, im, shapes, event.kind, event.device, event.character);
-    Outcome::Of(in_numbers(reply))
+// Has one event happen on an image, and answers what is said to it.
+pub fn said_to(im: &mut [u16], words: EventWords) -> Said {
+    in_numbers(event(im, words.kind, words.device, words.character))
 }

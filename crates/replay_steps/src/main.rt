@@ -1,6 +1,7 @@
-// Replays the stored orders and events and prints how many cases each number has and how many differ.
+// Replays the stored orders, events and runs and prints how many cases each number has and how many differ.
 use event_cases::cases::event_tally;
 use order_cases::cases::orders_tally;
+use run_cases::cases::run_tally;
 use shapes::order_shapes;
 use vectors::files::Head;
 use vectors::files::Next;
@@ -13,6 +14,7 @@ use vectors::images::nothing_replayed;
 use vectors::images::replay_image;
 use vectors::tally::EVENT_NUMBERS;
 use vectors::tally::ORDER_NUMBERS;
+use vectors::tally::RUN_NUMBERS;
 use vectors::tally::Tally;
 use vectors::tally::print_tally;
 use vectors::tally::spoiled;
@@ -26,6 +28,9 @@ const KIND_ORDERS: u16 = 4;
 
 // The kind of a record that has an event happen on the image to go by.
 const KIND_EVENT: u16 = 5;
+
+// The kind of a record that has a run on the image to go by.
+const KIND_RUN: u16 = 6;
 
 // The tally with a record on the image to go by.
 fn record_tally(
@@ -43,7 +48,10 @@ fn record_tally(
         return orders_tally(fd, shapes, trial, image, head, tally);
     }
     if head.kind == KIND_EVENT {
-        return event_tally(fd, shapes, trial, image, head, tally);
+        return event_tally(fd, trial, image, head, tally);
+    }
+    if head.kind == KIND_RUN {
+        return run_tally(fd, trial, image, head, tally);
     }
     spoiled(tally)
 }
@@ -116,9 +124,10 @@ fn replay_path(path: &[u8], name: &[u8], numbers: &[u16], shapes: &[u8; 256])
     print_tally(name, numbers, tally);
 }
 
-// Replays the file of orders and the file of events.
+// Replays the file of orders, the file of events and the file of runs.
 fn main() {
     let shapes = order_shapes();
     replay_path(b"order.bin", b"order ", &ORDER_NUMBERS, &shapes);
     replay_path(b"event.bin", b"event ", &EVENT_NUMBERS, &shapes);
+    replay_path(b"run.bin", b"run ", &RUN_NUMBERS, &shapes);
 }

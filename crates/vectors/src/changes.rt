@@ -5,8 +5,11 @@ ghost use lib.ListN.{length};
 use crate::files::Found;
 use crate::files::WORD_END;
 use crate::files::read_words;
+use crate::images::is_image;
+use crate::tally::Answer;
+use crate::tally::compared;
 
-// The most changes that a record may list.
+// The most changes that a record of orders may list.
 pub const MOST_CHANGES: usize = 16;
 
 // The words of a change: a place, and the word that it then holds.
@@ -14,6 +17,12 @@ const CHANGE_SIZE: usize = 2;
 
 // The words of as many changes.
 pub const CHANGE_WORDS: usize = CHANGE_SIZE * MOST_CHANGES;
+
+// Where the place stands in a change.
+const PLACE_AT: usize = 0;
+
+// Where the word stands that the place then holds.
+const WORD_AT: usize = 1;
 
 // A word as a place or a count.
 pub fn as_count(word: u16) -> usize
@@ -52,7 +61,7 @@ fn after(image: &[u16], changes: &[u16; CHANGE_WORDS], count: usize, at: usize) 
     for i in 0..count {
         let low = CHANGE_SIZE * i;
         if as_count(changes[low]) == at {
-            return changes[low + 1];
+            return changes[low + WORD_AT];
         }
     }
     image[at]
@@ -71,12 +80,31 @@ pub fn is_changed(words: &[u16], image: &[u16], changes: &[u16; CHANGE_WORDS], c
     true
 }
 
-// Makes count changes in an image.
-pub fn make_changes(image: &mut [u16], changes: &[u16; CHANGE_WORDS], count: usize)
-    requires { do ⌜ count ≤ (← ⟦MOST_CHANGES⟧) ⌝ }
-{
-    for i in 0..image.len() {
-        let word = after(image, changes, count, i);
-        image[i] = word;
+// Makes the next count changes of a file in an image, and answers whether their places ascend and lie in it.
+fn make_changes(fd: i32, image: &mut [u16], count: usize) -> bool {
+    let mut least: usize = 0;
+    for _ in 0..count {
+        let mut change = [0u16; CHANGE_SIZE];
+        let found = read_words(fd, &mut change, CHANGE_SIZE);
+        let Found::All = found else {
+            return false;
+        };
+        let place = as_count(change[PLACE_AT]);
+        if place < least || place >= image.len() {
+            return false;
+        }
+        image[place] = change[WORD_AT];
+        least = place + 1;
     }
+    true
+}
+
+// Makes the next count changes of a file in an image, and answers whether the words are then its own and what was said is the same.
+pub fn changed_answer(fd: i32, words: &[u16], image: &mut [u16], count: usize, same: bool) -> Answer
+    requires { ⌜ length (now words) ≡ length (now image) ⌝ }
+{
+    if !make_changes(fd, image, count) {
+        return Answer::Bad;
+    }
+    compared(same && is_image(words, image))
 }

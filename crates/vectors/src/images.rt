@@ -63,3 +63,15 @@ pub fn lay_out(trial: &mut [u16], image: &[u16])
         trial[i] = image[i];
     }
 }
+
+// Whether the words are those of an image.
+pub fn is_image(words: &[u16], image: &[u16]) -> bool
+    requires { ⌜ length (now words) ≡ length (now image) ⌝ }
+{
+    for i in 0..words.len() {
+        if words[i] != image[i] {
+            return false;
+        }
+    }
+    true
+}

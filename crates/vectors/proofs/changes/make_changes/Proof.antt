@@ -7,10 +7,10 @@ use Rattle.vectors.proofs.changes.make_changes.Statement.{statement}
 use Rattle.vectors.proofs.changes.make_changes.Tie as tie
 
 abbrev Inv-loop : tie.InvT-loop
-Inv-loop image₀ changes count i₀ i-end image i = (i ≤ i-end) × (length image ≡ length image₀)
+Inv-loop fd image₀ count least₀ i₀ image least i = (i ≤ count) × (length image ≡ length image₀)
 
 abbrev μ-loop : tie.MeasureT-loop
-μ-loop image₀ changes count i₀ i-end image i = i-end - i
+μ-loop fd image₀ count least₀ i₀ image least i = count - i
 
 pub make-changes-spec : {M : Type 1} → statement M
 make-changes-spec =
@@ -19,7 +19,17 @@ make-changes-spec =
     Inv-loop
     μ-loop
     (λ c. search needs)
+    (λ c. search needs)
     (λ c κs. search needs)
+    (λ c. search needs)
+    (λ c. search needs)
+    (λ c. search needs)
+    (λ c. search needs)
+    (λ c κs. search needs)
+    (λ c. search needs)
+    (λ c. search needs)
+    (λ c. search needs)
+    (λ c. search needs)
     (λ c. search needs)
     (λ c. search needs)
     (λ c. search needs)

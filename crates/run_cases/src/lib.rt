@@ -1,0 +1,2 @@
+// The model's runs, run and compared.
+pub mod cases;
