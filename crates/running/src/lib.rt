@@ -1,0 +1,135 @@
+// One run: reads a plan's file and a file of events, and prints a line for each event.
+use builds::build;
+use feeding::EVENT_BYTES;
+use feeding::Fed;
+use feeding::feed;
+use files::file_verdict;
+use files::put_words;
+use libc::STDOUT_FILENO;
+use lines::put_line;
+use paper::Refusal;
+use paper::Reply;
+use paper::Shape;
+use paper::Verdict;
+use plans::shape_of_plan;
+use plans::total_of;
+use shapes::order_shapes;
+
+// Longer than any plan that is accepted, and even.
+const PLAN_BYTES: usize = 65612;
+
+// The words of a plan's first bytes.
+const PLAN_WORDS: usize = 32806;
+
+// The most words of an image.
+const IMAGE_WORDS: usize = 32768;
+
+// The events that are read at a time.
+const EVENTS: usize = 4096;
+
+const EVENTS_BYTES: usize = EVENT_BYTES * EVENTS;
+
+// The most bytes of a line.
+const LINE_BYTES: usize = 32;
+
+// A line for each event, and one for a short last one.
+const TEXT_BYTES: usize = LINE_BYTES * (EVENTS + 1);
+
+// More buffers than any file fills.
+const BUFFERS_END: u64 = 1125899906842624;
+
+// The number of the first event.
+const FIRST_EVENT: u64 = 1;
+
+// Prints the line of a refused plan.
+fn print_refused(r: Refusal) {
+    let mut text = [0u8; LINE_BYTES];
+    let end = put_line(&mut text, 0, 0, Reply::Refused(r));
+    io::write_all(STDOUT_FILENO, &text[..end]);
+}
+
+// Whether a refusal ends the run.
+fn is_refused(fed: Fed) -> bool {
+    let stop = fed.stop;
+    match stop {
+        Verdict::Fine => false,
+        Verdict::Refused(_) => true,
+    }
+}
+
+// Reads events a buffer at a time and prints their lines, up to the end or a refusal.
+fn run_events(s: Shape, im: &mut [u16], fd: i32) {
+    let shapes = order_shapes();
+    let mut bytes = [0u8; EVENTS_BYTES];
+    let mut text = [0u8; TEXT_BYTES];
+    let mut n = FIRST_EVENT;
+    let mut turns = BUFFERS_END;
+    while turns > 0 {
+        let got = io::read_full(fd, &mut bytes);
+        let fed = feed(s, im, &shapes, &bytes[..got], n, &mut text);
+        io::write_all(STDOUT_FILENO, &text[..fed.text]);
+        if got < EVENTS_BYTES || is_refused(fed) {
+            return;
+        }
+        n += fed.taken as u64;
+        turns -= 1;
+    }
+}
+
+// Builds the image of an accepted plan and runs the events of a file on it.
+fn run_plan(plan: &[u16], fd: i32) {
+    let s = shape_of_plan(plan);
+    let mut image = [0u16; IMAGE_WORDS];
+    let size = total_of(s);
+    let target = &mut image[..size];
+    build(plan, target);
+    run_events(s, target, fd);
+}
+
+// Whether a file has an odd count of bytes left, read to its end.
+fn rest_is_odd(fd: i32) -> bool {
+    let mut bytes = io::large_buffer();
+    let mut is_odd = false;
+    let mut turns = BUFFERS_END;
+    while turns > 0 {
+        let got = io::read_full(fd, &mut bytes);
+        if got % 2 != 0 {
+            is_odd = !is_odd;
+        }
+        if got < bytes.len() {
+            return is_odd;
+        }
+        turns -= 1;
+    }
+    is_odd
+}
+
+// Runs the events of one open file on the plan of another.
+fn run(plan_fd: i32, events_fd: i32) {
+    let mut bytes = [0u8; PLAN_BYTES];
+    let got = io::read_full(plan_fd, &mut bytes);
+    let rest_odd = rest_is_odd(plan_fd);
+    let mut words = [0u16; PLAN_WORDS];
+    let count = put_words(&bytes[..got], &mut words);
+    let found = file_verdict(&bytes[..got], &words[..count], rest_odd);
+    match found {
+        Verdict::Fine => run_plan(&words[..count], events_fd),
+        Verdict::Refused(r) => print_refused(r),
+    }
+}
+
+// Closes a file that was opened.
+fn close(fd: i32) {
+    if fd >= 0 {
+        libc::close(fd);
+    }
+}
+
+// Runs the events of a file on the plan of another; a missing file counts as empty.
+pub fn run_files(plan_path: &[u8], events_path: &[u8]) {
+    let plan_fd = os::open_read(plan_path);
+    let events_fd = os::open_read(events_path);
+    run(plan_fd, events_fd);
+    close(plan_fd);
+    close(events_fd);
+}
