@@ -3,7 +3,7 @@ ghost use mathlib.Core.Path.{_≡_};
 ghost use mathlib.Core.List.{[], _∷_, _++_};
 ghost use Prim.Native.Nat.{_+_, _<_, _≤_};
 ghost use lib.ListN.{length};
-ghost use Rattle.paper.specs.Runner.{decimal, space, newline, refused-word, line};
+ghost use Rattle.paper.specs.Runner.{decimal, space, line};
 ghost use Rattle.writes.specs.Written.{written};
 ghost use Rattle.lines.specs.Lines.{answer-text, refusal-text};
 use numbers::kind_of;
@@ -45,6 +45,20 @@ pub fn put_decimal(out: &mut [u8], at: usize, n: u64) -> usize
     put_byte(out, last, ZERO + (n % TEN) as u8)
 }
 
+// Writes a text.
+fn put_text(out: &mut [u8], at: usize, text: &[u8]) -> usize
+    requires { ⌜ at + length (now text) ≤ length (now out) ⌝ }
+    ensures { λ r. ⌜ r ≡ at + length (now (text .entry)) ⌝ }
+    ensures { λ _. ⌜ now (out .exit) ≡ written (now (out .entry)) at (now (text .entry)) ⌝ }
+{
+    let mut k: usize = 0;
+    while k < text.len() {
+        out[at + k] = text[k];
+        k += 1;
+    }
+    at + k
+}
+
 // Writes a space and the decimal digits of a number.
 fn put_field(out: &mut [u8], at: usize, n: u16) -> usize
     requires { ⌜ at + length (space ++ decimal n) ≤ length (now out) ⌝ }
@@ -59,6 +73,7 @@ fn put_field(out: &mut [u8], at: usize, n: u16) -> usize
 fn put_answer(out: &mut [u8], at: usize, a: Answer) -> usize
     requires { ⌜ at + 12 ≤ length (now out) ⌝ }
     ensures { λ r. ⌜ r ≡ at + length (answer-text a) ⌝ }
+    ensures { λ r. ⌜ r ≤ at + 12 ⌝ }
     ensures { λ _. ⌜ now (out .exit) ≡ written (now (out .entry)) at (answer-text a) ⌝ }
 {
     let task = put_field(out, at, kind_of(a));
@@ -66,28 +81,14 @@ fn put_answer(out: &mut [u8], at: usize, a: Answer) -> usize
     put_byte(out, end, NEWLINE)
 }
 
-// Writes the word "refused" after a space.
-fn put_refused(out: &mut [u8], at: usize) -> usize
-    requires { ⌜ at + 8 ≤ length (now out) ⌝ }
-    ensures { λ r. ⌜ r ≡ at + 8 ⌝ }
-    ensures { λ _. ⌜ now (out .exit) ≡ written (now (out .entry)) at (space ++ refused-word) ⌝ }
-{
-    let word = b" refused";
-    let mut k: usize = 0;
-    while k < 8 {
-        out[at + k] = word[k];
-        k += 1;
-    }
-    at + k
-}
-
 // Writes `refused` and the number after an event's number, and ends the line.
 fn put_refusal(out: &mut [u8], at: usize, r: Refusal) -> usize
     requires { ⌜ at + 12 ≤ length (now out) ⌝ }
     ensures { λ q. ⌜ q ≡ at + length (refusal-text r) ⌝ }
+    ensures { λ q. ⌜ q ≤ at + 12 ⌝ }
     ensures { λ _. ⌜ now (out .exit) ≡ written (now (out .entry)) at (refusal-text r) ⌝ }
 {
-    let number = put_refused(out, at);
+    let number = put_text(out, at, b" refused");
     let end = put_field(out, number, number_of(r));
     put_byte(out, end, NEWLINE)
 }
