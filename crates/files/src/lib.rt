@@ -1,11 +1,10 @@
 // A plan's file: its words, and the verdict on it.
 ghost use mathlib.Core.Path.{_≡_};
-ghost use mathlib.Core.List.{List, _++_};
-ghost use Prim.Native.Nat.{ℕ, _+_, _*_, _<_, _≤_};
+ghost use Prim.Native.Nat.{_+_, _*_, _<_};
 ghost use lib.ListN.{length};
-ghost use Rattle.paper.specs.Runner.{word as word-by, words-of, check-file};
+ghost use Rattle.paper.specs.Runner.{word as word-by, words-of};
 ghost use Rattle.writes.specs.Written.{written};
-ghost use Rattle.files.specs.Needs.{Rest};
+ghost use Rattle.files.specs.Bytes.{Decides};
 use paper::Refusal;
 use paper::Verdict;
 use plans::verdict;
@@ -39,13 +38,13 @@ pub fn put_words(bytes: &[u8], words: &mut [u16]) -> usize
     k
 }
 
-// The verdict on a plan's file that begins with some bytes, of which the words are given; of the rest it asks only whether its length is odd.
-pub fn file_verdict(bytes: &[u8], words: &[u16], rest_is_odd: bool) -> Verdict
+// The verdict on a plan's file that begins with some bytes, of which the words are given; of the rest it asks only whether it has an odd count of bytes.
+pub fn file_verdict(bytes: &[u8], words: &[u16], odd: bool) -> Verdict
     requires { ⌜ now words ≡ words-of (now bytes) ⌝ }
-    ensures { λ r. ⌜ (rest : List ℕ) → Rest (now (bytes .entry)) rest rest_is_odd → r ≡ check-file (now (bytes .entry) ++ rest) ⌝ }
+    ensures { λ r. ⌜ Decides (now (bytes .entry)) odd r ⌝ }
 {
-    let is_odd = bytes.len() % WORD_BYTES != 0;
-    if is_odd != rest_is_odd {
+    let first_odd = bytes.len() % WORD_BYTES != 0;
+    if first_odd != odd {
         return Verdict::Refused(Refusal::BadPlan);
     }
     verdict(words)

@@ -1,0 +1,21 @@
+use mathlib.Core.Path.{_∙_, ap}
+use Rattle.paper.specs.Numbers.{check-plan}
+use Rattle.files.specs.Bytes.{differ, agree, odd-file, even-file}
+use borrow.Author.Needs.{needs}
+use Rattle.files.proofs.file_verdict.Statement.{statement}
+use Rattle.files.proofs.file_verdict.Tie as tie
+
+
+returns : tie.Need-returns
+returns c = odd-file _ _ (differ _ _ (c .if1 .taken))
+
+returns-2 : tie.Need-returns-2
+returns-2 c = even-file _ _ (agree _ (c .before .before .before .before .args .odd) (c .before .if1 .left)) _ (c .verdict .ensures ∙ ap check-plan (c .before .before .before .before .pre))
+
+pub file-verdict-spec : {M : Type 1} → statement M
+file-verdict-spec =
+    tie.close
+    (tie.spec
+    returns
+    (λ c κs. search needs)
+    returns-2)
