@@ -1,7 +1,12 @@
 // Events from a buffer of bytes, one after another, and the lines that are printed for them.
 ghost use mathlib.Core.Path.{_≡_};
-ghost use Prim.Native.Nat.{_+_, _*_, _<_, _≤_};
+ghost use Prim.Native.Nat.{_+_, _<_, _≤_};
 ghost use lib.ListN.{length};
+ghost use Rattle.paper.specs.Events.{happening};
+ghost use Rattle.laws.specs.Stays.{Lawful};
+ghost use Rattle.shapes.specs.Entries.{Shapes};
+ghost use Rattle.feeding.specs.Printing.{event-at};
+ghost use Rattle.feeding.specs.Needs.{text-room, Feeds};
 use files::word;
 use happening::step;
 use lines::put_line;
@@ -22,6 +27,12 @@ pub struct Fed {
 
 // Carries out the event whose bytes start at a place.
 fn step_at(s: Shape, im: &mut [u16], shapes: &[u8; 256], bytes: &[u8], at: usize) -> Reply
+    requires { ⌜ Lawful s (now im) ⌝ }
+    requires { ⌜ Shapes (now shapes) ⌝ }
+    requires { ⌜ at + 6 ≤ length (now bytes) ⌝ }
+    ensures { λ r. ⌜ r ≡ happening s (now (im .entry)) (event-at s (now (bytes .entry)) at) .reply ⌝ }
+    ensures { λ _. ⌜ now (im .exit) ≡ happening s (now (im .entry)) (event-at s (now (bytes .entry)) at) .image ⌝ }
+    ensures { λ _. ⌜ Lawful s (now (im .exit)) ⌝ }
 {
     let kind = word(bytes[at], bytes[at + 1]);
     let device = word(bytes[at + 2], bytes[at + 3]);
@@ -31,6 +42,11 @@ fn step_at(s: Shape, im: &mut [u16], shapes: &[u8; 256], bytes: &[u8], at: usize
 
 // Takes the events of a buffer, the first of which has the number n, and writes their lines.
 pub fn feed(s: Shape, im: &mut [u16], shapes: &[u8; 256], bytes: &[u8], n: u64, out: &mut [u8]) -> Fed
+    requires { ⌜ Lawful s (now im) ⌝ }
+    requires { ⌜ Shapes (now shapes) ⌝ }
+    requires { ⌜ n + length (now bytes) < 18446744073709551616 ⌝ }
+    requires { ⌜ text-room (now bytes) ≤ length (now out) ⌝ }
+    ensures { λ r. ⌜ Feeds s (now (im .entry)) n (now (bytes .entry)) (now (out .entry)) (now (im .exit)) (now (out .exit)) (r .text) (r .taken) (r .stop) ⌝ }
 {
     let mut at: usize = 0;
     let mut text: usize = 0;
@@ -39,14 +55,18 @@ pub fn feed(s: Shape, im: &mut [u16], shapes: &[u8; 256], bytes: &[u8], n: u64, 
         let reply = step_at(s, im, shapes, bytes, at);
         text = put_line(out, text, n + taken as u64, reply);
         match reply {
-            Reply::Accepted(_) => taken += 1,
-            Reply::Refused(r) => return Fed {
-                text: text,
-                taken: taken,
-                stop: Verdict::Refused(r),
-            },
+            Reply::Accepted(_) => {
+                taken += 1;
+                at += EVENT_BYTES;
+            }
+            Reply::Refused(r) => {
+                return Fed {
+                    text: text,
+                    taken: taken,
+                    stop: Verdict::Refused(r),
+                };
+            }
         }
-        at += EVENT_BYTES;
     }
     if at == bytes.len() {
         return Fed {

@@ -17,6 +17,13 @@ use Rattle.paper.specs.declared.Refusal.{Refusal}
 use Rattle.paper.specs.declared.Reply.{Reply}
 use Rattle.writes.specs.Written.{written, written-one, written-on, kept-length}
 
+-- the most bytes of a line, and of its part after an event's number
+abbrev pub most-line : ℕ
+most-line = 32
+
+abbrev pub most-end : ℕ
+most-end = 12
+
 -- the text of a line after an event's number
 unfoldable pub answer-text : Answer → List ℕ
 answer-text a = ((space ++ decimal (kind a)) ++ (space ++ decimal (answer-task a))) ++ newline

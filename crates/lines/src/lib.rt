@@ -5,7 +5,7 @@ ghost use Prim.Native.Nat.{_+_, _<_, _≤_};
 ghost use lib.ListN.{length};
 ghost use Rattle.paper.specs.Runner.{decimal, space, line};
 ghost use Rattle.writes.specs.Written.{written};
-ghost use Rattle.lines.specs.Lines.{answer-text, refusal-text};
+ghost use Rattle.lines.specs.Lines.{most-line, most-end, answer-text, refusal-text};
 use numbers::kind_of;
 use numbers::number_of;
 use numbers::task_of;
@@ -17,6 +17,9 @@ use paper::Reply;
 const TEN: u64 = 10;
 
 const ZERO: u8 = 48;
+
+// The most bytes of a line.
+pub const MOST_LINE: usize = 32;
 
 const SPACE: u8 = 32;
 
@@ -71,9 +74,9 @@ fn put_field(out: &mut [u8], at: usize, n: u16) -> usize
 
 // Writes kind and task after an event's number, and ends the line.
 fn put_answer(out: &mut [u8], at: usize, a: Answer) -> usize
-    requires { ⌜ at + 12 ≤ length (now out) ⌝ }
+    requires { ⌜ at + most-end ≤ length (now out) ⌝ }
     ensures { λ r. ⌜ r ≡ at + length (answer-text a) ⌝ }
-    ensures { λ r. ⌜ r ≤ at + 12 ⌝ }
+    ensures { λ r. ⌜ r ≤ at + most-end ⌝ }
     ensures { λ _. ⌜ now (out .exit) ≡ written (now (out .entry)) at (answer-text a) ⌝ }
 {
     let task = put_field(out, at, kind_of(a));
@@ -83,9 +86,9 @@ fn put_answer(out: &mut [u8], at: usize, a: Answer) -> usize
 
 // Writes `refused` and the number after an event's number, and ends the line.
 fn put_refusal(out: &mut [u8], at: usize, r: Refusal) -> usize
-    requires { ⌜ at + 12 ≤ length (now out) ⌝ }
+    requires { ⌜ at + most-end ≤ length (now out) ⌝ }
     ensures { λ q. ⌜ q ≡ at + length (refusal-text r) ⌝ }
-    ensures { λ q. ⌜ q ≤ at + 12 ⌝ }
+    ensures { λ q. ⌜ q ≤ at + most-end ⌝ }
     ensures { λ _. ⌜ now (out .exit) ≡ written (now (out .entry)) at (refusal-text r) ⌝ }
 {
     let number = put_text(out, at, b" refused");
@@ -95,9 +98,9 @@ fn put_refusal(out: &mut [u8], at: usize, r: Refusal) -> usize
 
 // Writes a line: an event's number, then kind and task, or `refused` and the number.
 pub fn put_line(out: &mut [u8], at: usize, n: u64, reply: Reply) -> usize
-    requires { ⌜ at + 32 ≤ length (now out) ⌝ }
+    requires { ⌜ at + most-line ≤ length (now out) ⌝ }
     ensures { λ r. ⌜ r ≡ at + length (line n reply) ⌝ }
-    ensures { λ r. ⌜ r ≤ at + 32 ⌝ }
+    ensures { λ r. ⌜ r ≤ at + most-line ⌝ }
     ensures { λ _. ⌜ now (out .exit) ≡ written (now (out .entry)) at (line n reply) ⌝ }
 {
     let next = put_decimal(out, at, n);

@@ -6,6 +6,7 @@ use feeding::feed;
 use files::file_verdict;
 use files::put_words;
 use libc::STDOUT_FILENO;
+use lines::MOST_LINE;
 use lines::put_line;
 use paper::Refusal;
 use paper::Reply;
@@ -29,11 +30,8 @@ const EVENTS: usize = 4096;
 
 const EVENTS_BYTES: usize = EVENT_BYTES * EVENTS;
 
-// The most bytes of a line.
-const LINE_BYTES: usize = 32;
-
 // A line for each event, and one for a short last one.
-const TEXT_BYTES: usize = LINE_BYTES * (EVENTS + 1);
+const TEXT_BYTES: usize = MOST_LINE * (EVENTS + 1);
 
 // More buffers than any file fills.
 const BUFFERS_END: u64 = 1125899906842624;
@@ -43,7 +41,7 @@ const FIRST_EVENT: u64 = 1;
 
 // Prints the line of a refused plan.
 fn print_refused(r: Refusal) {
-    let mut text = [0u8; LINE_BYTES];
+    let mut text = [0u8; MOST_LINE];
     let end = put_line(&mut text, 0, 0, Reply::Refused(r));
     io::write_all(STDOUT_FILENO, &text[..end]);
 }
