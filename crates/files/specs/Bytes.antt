@@ -163,3 +163,7 @@ even-file bytes is-odd e v ev rest r =
     go false l =
         let f = words-first bytes rest in
         rw (f .1) (sym (long-plan (words-of bytes) (f .0) (omega (arith, ltb-false (length bytes) (2 * longest + 2) l, words-length bytes))))
+
+-- a refusal is not fine
+pub never-fine : (r : Refusal) {A : Type 0} → Verdict.Refused r ≡ Verdict.Fine → A
+never-fine r e = absurd (let z : _≡_ {A = ℕ} 0 1 = cc in omega arith)

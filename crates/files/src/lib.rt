@@ -3,6 +3,8 @@ ghost use mathlib.Core.Path.{_≡_};
 ghost use Prim.Native.Nat.{_+_, _*_, _<_};
 ghost use lib.ListN.{length};
 ghost use Rattle.paper.specs.Runner.{word as word-by, words-of};
+ghost use Rattle.paper.specs.Numbers.{check-plan as verdict-on-plan};
+ghost use Rattle.paper.specs.declared.Verdict.the-variants.{Fine};
 ghost use Rattle.writes.specs.Written.{written};
 ghost use Rattle.files.specs.Bytes.{Decides};
 use paper::Refusal;
@@ -10,7 +12,7 @@ use paper::Verdict;
 use plans::verdict;
 
 // The bytes of a word.
-const WORD_BYTES: usize = 2;
+pub const WORD_BYTES: usize = 2;
 
 // A byte is less than this.
 const BYTE_END: u16 = 256;
@@ -42,6 +44,7 @@ pub fn put_words(bytes: &[u8], words: &mut [u16]) -> usize
 pub fn file_verdict(bytes: &[u8], words: &[u16], odd: bool) -> Verdict
     requires { ⌜ now words ≡ words-of (now bytes) ⌝ }
     ensures { λ r. ⌜ Decides (now (bytes .entry)) odd r ⌝ }
+    ensures { λ r. ⌜ (r ≡ Fine → verdict-on-plan (now (words .entry)) ≡ Fine) ⌝ }
 {
     let first_odd = bytes.len() % WORD_BYTES != 0;
     if first_odd != odd {

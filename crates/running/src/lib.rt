@@ -1,8 +1,16 @@
 // One run: reads a plan's file and a file of events, and prints a line for each event.
+ghost use mathlib.Core.Path.{_≡_};
+ghost use lib.ListN.{length};
+ghost use Rattle.paper.specs.Image.{total};
+ghost use Rattle.paper.specs.Numbers.{check-plan};
+ghost use Rattle.paper.specs.declared.Verdict.the-variants.{Fine};
+ghost use Rattle.laws.specs.Stays.{Lawful};
+ghost use Rattle.parts.specs.Needs.{Plan};
 use builds::build;
 use feeding::EVENT_BYTES;
 use feeding::Fed;
 use feeding::feed;
+use files::WORD_BYTES;
 use files::file_verdict;
 use files::put_words;
 use libc::STDOUT_FILENO;
@@ -56,7 +64,9 @@ fn is_refused(fed: Fed) -> bool {
 }
 
 // Reads events a buffer at a time and prints their lines, up to the end or a refusal.
-fn run_events(s: Shape, im: &mut [u16], fd: i32) {
+fn run_events(s: Shape, im: &mut [u16], fd: i32)
+    requires { ⌜ Lawful s (now im) ⌝ }
+{
     let shapes = order_shapes();
     let mut bytes = [0u8; EVENTS_BYTES];
     let mut text = [0u8; TEXT_BYTES];
@@ -65,7 +75,10 @@ fn run_events(s: Shape, im: &mut [u16], fd: i32) {
     while turns > 0 {
         let got = io::read_full(fd, &mut bytes);
         let fed = feed(s, im, &shapes, &bytes[..got], n, &mut text);
-        io::write_all(STDOUT_FILENO, &text[..fed.text]);
+        let end = fed.text;
+        if !io::write_all(STDOUT_FILENO, &text[..end]) {
+            return;
+        }
         if got < EVENTS_BYTES || is_refused(fed) {
             return;
         }
@@ -74,14 +87,23 @@ fn run_events(s: Shape, im: &mut [u16], fd: i32) {
     }
 }
 
-// Builds the image of an accepted plan and runs the events of a file on it.
-fn run_plan(plan: &[u16], fd: i32) {
+// Builds the image of an accepted plan in its place and runs the events of a file on it.
+fn run_fresh(s: Shape, plan: &[u16], im: &mut [u16], fd: i32)
+    requires { ⌜ Plan s (now plan) ⌝ }
+    requires { ⌜ length (now im) ≡ total s ⌝ }
+{
+    build(plan, im);
+    run_events(s, im, fd);
+}
+
+// Runs the events of a file on an accepted plan.
+fn run_plan(plan: &[u16], fd: i32)
+    requires { ⌜ check-plan (now plan) ≡ Fine ⌝ }
+{
     let s = shape_of_plan(plan);
-    let mut image = [0u16; IMAGE_WORDS];
     let size = total_of(s);
-    let target = &mut image[..size];
-    build(plan, target);
-    run_events(s, target, fd);
+    let mut image = [0u16; IMAGE_WORDS];
+    run_fresh(s, plan, &mut image[..size], fd);
 }
 
 // Whether a file has an odd count of bytes left, read to its end.
@@ -91,7 +113,7 @@ fn rest_is_odd(fd: i32) -> bool {
     let mut turns = BUFFERS_END;
     while turns > 0 {
         let got = io::read_full(fd, &mut bytes);
-        if got % 2 != 0 {
+        if got % WORD_BYTES != 0 {
             is_odd = !is_odd;
         }
         if got < bytes.len() {

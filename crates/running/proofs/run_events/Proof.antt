@@ -1,0 +1,58 @@
+use mathlib.Core.Path.{_≡_, refl, sym, _∙_}
+use Prim.Native.Nat.{_+_, _*_, _≤_}
+use native.Mathlib.Omega.{arith}
+use lib.ListN.{length}
+use lib.Seq.{length-take-le}
+use Rattle.laws.specs.Stays.{Lawful}
+use borrow.Author.Needs.{needs}
+use Rattle.running.proofs.run_events.Statement.{statement}
+use Rattle.running.proofs.run_events.Tie as tie
+
+abbrev Inv-loop : tie.InvT-loop
+Inv-loop s im₀ fd shapes bytes₀ text₀ n₀ turns₀ im bytes text n turns =
+    (Lawful s im × (length im ≡ length im₀)) × ((length bytes ≡ 24576) × (length text ≡ 131104)) × (n + 4096 * turns ≤ 4611686018427387905)
+
+abbrev μ-loop : tie.MeasureT-loop
+μ-loop s im₀ fd shapes bytes₀ text₀ n₀ turns₀ im bytes text n turns = turns
+
+
+loop-holds : tie.Need-loop-holds Inv-loop μ-loop
+loop-holds c = ((c .before .before .pre, refl), (search needs, search needs), omega arith)
+
+feed-requires : tie.Need-feed-requires Inv-loop μ-loop
+feed-requires c κs = (c .before .before .before .before .before .before .before .before .loop .inv .0 .0, (c .before .before .before .before .before .before .before .before .before .order-shapes .ensures, (omega (arith, c .before .before .before .before .before .read-full .ensures .0, c .before .before .before .before .before .read-full .ensures .1, c .before .before .before .before .before .before .before .before .loop .inv .1, c .before .before .before .before .before .before .before .before .loop .inv .2), omega (arith, c .before .before .before .before .before .read-full .ensures .0, c .before .before .before .before .before .read-full .ensures .1, c .before .before .before .before .before .before .before .before .loop .inv .1))))
+
+slice-aggregate-write-all : tie.Need-slice-aggregate-write-all Inv-loop μ-loop
+slice-aggregate-write-all c = sym (length-take-le _ _ (omega (arith, c .before .before .before .before .feed .ensures .fits)))
+
+loop-again : tie.Need-loop-again Inv-loop μ-loop
+loop-again c = ((c .before .before .before .before .before .before .before .before .before .feed .ensures .good, c .before .before .before .before .before .before .before .before .before .feed .kept .1 .0 ∙ c .before .before .before .before .before .before .before .before .before .before .before .before .before .before .before .before .before .before .loop .inv .0 .1), (search needs, search needs), omega (arith, c .before .before .before .before .before .before .before .before .before .feed .ensures .few, c .before .before .before .before .before .before .before .before .before .before .before .before .before .before .before .read-full .ensures .0, c .before .before .before .before .before .before .before .before .before .before .before .before .before .before .before .read-full .ensures .1, c .before .before .before .before .before .before .before .before .before .before .before .before .before .before .before .before .before .before .loop .inv .1, c .before .before .before .before .before .before .before .before .before .before .before .before .before .before .before .before .before .before .loop .inv .2))
+
+pub run-events-spec : {M : Type 1} → statement M
+run-events-spec =
+    tie.close
+    (tie.spec
+    Inv-loop
+    μ-loop
+    (λ c κs. search needs)
+    loop-holds
+    (λ c. search needs)
+    (λ c κs. search needs)
+    (λ c. search needs)
+    (λ c. search needs)
+    (λ c. search needs)
+    feed-requires
+    (λ c. search needs)
+    slice-aggregate-write-all
+    (λ c κs. search needs)
+    (λ c. search needs)
+    (λ c. search needs)
+    (λ c κs. search needs)
+    (λ c. search needs)
+    (λ c. search needs)
+    (λ c. search needs)
+    (λ c. search needs)
+    (λ c. search needs)
+    loop-again
+    (λ c. search needs)
+    (λ c. search needs))
