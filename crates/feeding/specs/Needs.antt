@@ -1,10 +1,11 @@
 -- What the calls of this crate ask and make, as laws over values. Assumes nothing.
 use mathlib.Core.Path.{_≡_, refl, sym, ap, _∙_}
 use mathlib.Core.List.{List}
-use Prim.Native.Nat.{ℕ, _+_, _*_, _/_, _<_, _≤_}
+use Prim.Native.Nat.{ℕ, _+_, _*_, _/_, _%_, _<_, _≤_}
 use native.Mathlib.Nat.{add-zero}
 use native.Mathlib.Omega.{arith}
-use lib.ListN.{length, getD, drop}
+use lib.ListN.{length, getD, take, drop}
+use lib.Seq.{length-take-le}
 use Rattle.paper.specs.Events.{event-of, happening}
 use Rattle.paper.specs.Runner.{word, line, last-line, after-line, prints-on, printed-from}
 use Rattle.paper.specs.declared.Shape.{Shape}
@@ -15,7 +16,11 @@ use Rattle.paper.specs.declared.Verdict.{Verdict}
 use Rattle.laws.specs.Stays.{Lawful}
 use Rattle.writes.specs.Written.{written, written-length}
 use Rattle.lines.specs.Lines.{most-line}
-use Rattle.feeding.specs.Printing.{event-at, printed-step, printed-none, printed-short, Joins, Prints, joins-start, joins-line, joins-end, joins-last}
+use Rattle.feeding.specs.Printing.{event-at, printed-step, printed-none, printed-short, Joins, Prints, joins-start, joins-line, joins-end, joins-last, ForAnyRest, any-rest}
+
+-- a number of an event is less than this
+abbrev pub number-end : ℕ
+number-end = 18446744073709551616
 
 -- bytes for a line of each event, and of a short last one
 abbrev pub text-room : List ℕ → ℕ
@@ -53,7 +58,7 @@ module _ (s : Shape) (first : List ℕ) (n : ℕ) (bytes o : List ℕ) where
     pub line-room : at < length bytes → text-room bytes ≤ length o → text + most-line ≤ length out
     line-room h r = omega (arith, g .kept, g .place, g .room)
 
-    pub number-room : at ≤ length bytes → n + length bytes < 18446744073709551616 → n + taken < 18446744073709551616
+    pub number-room : at ≤ length bytes → n + length bytes < number-end → n + taken < number-end
     number-room h r = omega (arith, g .place)
 
     -- no events are left
@@ -121,3 +126,25 @@ module _ (s : Shape) (bytes : List ℕ) (at k d c : ℕ) (ek : k ≡ word (getD 
   pub event-read : event-of s k d c ≡ event-at s bytes at
   unfolding event-at
   event-read = rw (ek, ed, ec)
+
+-- a buffer for whole events, of which some bytes were found, with room for the lines
+pub record Buffered (buffer : List ℕ) (found n : ℕ) (out : List ℕ) : Type 0 where
+  pub inside : found ≤ length buffer
+  pub whole : length buffer % 6 ≡ 0
+  pub numbers : n + length buffer < number-end
+  pub room : text-room buffer ≤ length out
+
+module _ (buffer : List ℕ) (found n : ℕ) (out : List ℕ) (b : Buffered buffer found n out) where
+  pub found-length : length (take found buffer) ≡ found
+  found-length = length-take-le found buffer (b .inside)
+
+  pub found-numbers : n + length (take found buffer) < number-end
+  found-numbers = rw found-length (omega (arith, b .inside, b .numbers))
+
+  pub found-room : text-room (take found buffer) ≤ length out
+  found-room = rw found-length (omega (arith, b .inside, b .room))
+
+  pub found-rest : (s : Shape) (first im after : List ℕ) (text taken : ℕ) (stop : Verdict) → Feeds s first n (take found buffer) out im after text taken stop
+      → ForAnyRest s first n (length buffer) (take found buffer) im taken stop
+  found-rest s first im after text taken stop f =
+      any-rest s first n (length buffer) (take found buffer) out after im text taken stop (b .whole) (rw found-length (b .inside)) (f .prints)

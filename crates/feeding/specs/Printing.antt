@@ -1,10 +1,13 @@
 -- What is printed for the events of some bytes, event by event and buffer by buffer. Assumes nothing.
 use mathlib.Core.Path.{_≡_, refl, sym, ap, _∙_}
-use mathlib.Core.List.{List, [], _∷_, _++_, append-assoc}
+use mathlib.Core.List.{List, [], _∷_, _++_, append-nil, append-assoc}
+use mathlib.Core.Bool.{Bool, true, false}
 use mathlib.Core.Logic.{_≢_}
 use Prim.Native.Nat.{ℕ, zero, suc, _+_, _*_, _%_, _<_, _≤_}
 use native.Mathlib.Nat.{add-zero, zero-add}
 use native.Mathlib.Omega.{arith}
+use borrow.Author.Tests.{ltb-true, ltb-false}
+use lib.Dec.{ltb}
 use lib.ListN.{length, getD, drop, length-append, length-drop}
 use lib.Seq.{drop-cons}
 use Rattle.paper.specs.Events.{event-of, happening}
@@ -124,6 +127,11 @@ module _ (o out : List ℕ) (text taken : ℕ) (all : Printed) where
   joins-last n r im j =
       record { made = j .made; counted = j .counted; number = omega (arith, j .number); stops = j .stops; leaves = j .leaves }
 
+-- where it stopped, a refusal
+abbrev pub is-refusal : Verdict → Bool
+is-refusal Verdict.Fine = false
+is-refusal (Verdict.Refused r) = true
+
 -- a refusal is not fine
 never-fine : (r : Refusal) → Verdict.Refused r ≡ Verdict.Fine → ⊥
 never-fine r e = let z : _≡_ {A = ℕ} 0 1 = cc in omega arith
@@ -193,3 +201,28 @@ refusal-ends s im n (x ∷ y ∷ z ∷ u ∷ v ∷ w ∷ a) b e ne =
         → prints-on n r next (λ m. printed-from s m (1 + n) (a ++ b)) ≡ prints-on n r next (λ m. printed-from s m (1 + n) a)
     go (Reply.Accepted x) next h f = ap (after-line (line n (Reply.Accepted x))) (h next f)
     go (Reply.Refused r) next h f = refl
+
+-- what the lines of a buffer are for the whole file: where all of its events are accepted, the lines of the rest follow, on the image that it
+-- leaves and with the numbers that follow; where one is refused, they are all
+pub record Continues (s : Shape) (im : List ℕ) (n : ℕ) (bytes rest after : List ℕ) (taken : ℕ) (stop : Verdict) : Type 0 where
+  pub goes-on : stop ≡ Verdict.Fine
+      → printed-from s im n (bytes ++ rest) ≡ followed (printed-from s im n bytes) (printed-from s after (n + taken) rest)
+  pub ends : stop ≢ Verdict.Fine → printed-from s im n (bytes ++ rest) ≡ printed-from s im n bytes
+
+-- so many bytes are asked for at a time, and where fewer are found nothing follows
+abbrev pub ForAnyRest : Shape → List ℕ → ℕ → ℕ → List ℕ → List ℕ → ℕ → Verdict → Type 0
+ForAnyRest s im n asked bytes after taken stop = (rest : List ℕ) → (length bytes < asked → rest ≡ []) → Continues s im n bytes rest after taken stop
+
+pub any-rest : (s : Shape) (im : List ℕ) (n asked : ℕ) (bytes o out after : List ℕ) (text taken : ℕ) (stop : Verdict) → asked % 6 ≡ 0
+    → length bytes ≤ asked → Prints o out text taken stop after (printed-from s im n bytes) → ForAnyRest s im n asked bytes after taken stop
+any-rest s im n asked bytes o out after text taken stop whole h p rest ended =
+    record {
+      goes-on = λ e. rw (p .leaves, p .number) (buffers-follow s im n bytes rest (sym (p .stops) ∙ e));
+      ends = λ ne. go (ltb (length bytes) asked) refl (λ e. ne (p .stops ∙ e));
+    }
+  where
+    go : (b : Bool) → ltb (length bytes) asked ≡ b → (printed-from s im n bytes .stop ≢ Verdict.Fine) → printed-from s im n (bytes ++ rest) ≡ printed-from s im n bytes
+    go true l ne = rw (ended (ltb-true (length bytes) asked l), append-nil bytes)
+    go false l ne =
+        let e : length bytes ≡ asked = omega (arith, ltb-false (length bytes) asked l) in
+        refusal-ends s im n bytes rest (rw e whole) ne

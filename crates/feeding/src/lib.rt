@@ -1,12 +1,12 @@
 // Events from a buffer of bytes, one after another, and the lines that are printed for them.
 ghost use mathlib.Core.Path.{_≡_};
 ghost use Prim.Native.Nat.{_+_, _<_, _≤_};
-ghost use lib.ListN.{length};
+ghost use lib.ListN.{length, take};
 ghost use Rattle.paper.specs.Events.{happening};
 ghost use Rattle.laws.specs.Stays.{Lawful};
 ghost use Rattle.shapes.specs.Entries.{Shapes};
-ghost use Rattle.feeding.specs.Printing.{event-at};
-ghost use Rattle.feeding.specs.Needs.{text-room, Feeds};
+ghost use Rattle.feeding.specs.Printing.{event-at, ForAnyRest, is-refusal};
+ghost use Rattle.feeding.specs.Needs.{number-end, text-room, Feeds, Buffered};
 use files::word;
 use happening::step;
 use lines::put_line;
@@ -41,10 +41,10 @@ fn step_at(s: Shape, im: &mut [u16], shapes: &[u8; 256], bytes: &[u8], at: usize
 }
 
 // Takes the events of a buffer, the first of which has the number n, and writes their lines.
-pub fn feed(s: Shape, im: &mut [u16], shapes: &[u8; 256], bytes: &[u8], n: u64, out: &mut [u8]) -> Fed
+fn feed(s: Shape, im: &mut [u16], shapes: &[u8; 256], bytes: &[u8], n: u64, out: &mut [u8]) -> Fed
     requires { ⌜ Lawful s (now im) ⌝ }
     requires { ⌜ Shapes (now shapes) ⌝ }
-    requires { ⌜ n + length (now bytes) < 18446744073709551616 ⌝ }
+    requires { ⌜ n + length (now bytes) < number-end ⌝ }
     requires { ⌜ text-room (now bytes) ≤ length (now out) ⌝ }
     ensures { λ r. ⌜ Feeds s (now (im .entry)) n (now (bytes .entry)) (now (out .entry)) (now (im .exit)) (now (out .exit)) (r .text) (r .taken) (r .stop) ⌝ }
 {
@@ -79,5 +79,34 @@ pub fn feed(s: Shape, im: &mut [u16], shapes: &[u8; 256], bytes: &[u8], n: u64, 
         text: put_line(out, text, n + taken as u64, Reply::Refused(Refusal::MalformedEvent)),
         taken: taken,
         stop: Verdict::Refused(Refusal::MalformedEvent),
+    }
+}
+
+// Takes the events of the bytes that were found for a buffer, the first of which has the number n, and writes their lines.
+pub fn feed_buffer(
+    s: Shape,
+    im: &mut [u16],
+    shapes: &[u8; 256],
+    buffer: &[u8],
+    found: usize,
+    n: u64,
+    out: &mut [u8],
+) -> Fed
+    requires { ⌜ Lawful s (now im) ⌝ }
+    requires { ⌜ Shapes (now shapes) ⌝ }
+    requires { ⌜ Buffered (now buffer) found n (now out) ⌝ }
+    ensures { λ r. ⌜ Feeds s (now (im .entry)) n (take found (now (buffer .entry))) (now (out .entry)) (now (im .exit)) (now (out .exit)) (r .text) (r .taken) (r .stop) ⌝ }
+    ensures { λ r. ⌜ ForAnyRest s (now (im .entry)) n (length (now (buffer .entry))) (take found (now (buffer .entry))) (now (im .exit)) (r .taken) (r .stop) ⌝ }
+{
+    feed(s, im, shapes, &buffer[..found], n, out)
+}
+
+// Whether a run ends with a refusal.
+pub fn is_refused(stop: Verdict) -> bool
+    ensures { λ r. ⌜ r ≡ is-refusal stop ⌝ }
+{
+    match stop {
+        Verdict::Fine => false,
+        Verdict::Refused(_) => true,
     }
 }

@@ -1,10 +1,9 @@
 -- The words of bytes, and plans of which only the first bytes are at hand. Assumes nothing.
 use mathlib.Core.Path.{_≡_, refl, sym, ap, _∙_}
 use mathlib.Core.List.{List, [], _∷_, _++_, append-nil}
-use mathlib.Core.Bool.{Bool, true, false, not, Bool·beq, true≢false}
-use mathlib.Core.Logic.{_≢_}
+use mathlib.Core.Bool.{Bool, true, false, not, Bool·beq}
 use Prim.Native.Nat.{ℕ, zero, suc, _+_, _*_, _%_, _<_, _≤_}
-use native.Mathlib.Nat.{le-refl}
+use native.Mathlib.Nat.{le-refl, add-comm}
 use native.Mathlib.Numerals.{add-one}
 use native.Mathlib.Omega.{arith}
 use borrow.Author.Tests.{eqb-true, eqb-false, ltb-true, ltb-false, le-ltb}
@@ -102,67 +101,60 @@ long-plan p q h =
 abbrev pub odd : ℕ → Bool
 odd n = not (eqb (n % 2) 0)
 
-odd-is : (n : ℕ) → n % 2 ≡ 1 → odd n ≡ true
-odd-is n e = rw e
+-- whether a count is odd, with so many more, where it was odd before or not
+abbrev pub OddAfter : Bool → ℕ → Bool → Type 0
+OddAfter before k after = (m : ℕ) → odd m ≡ before → odd (m + k) ≡ after
 
-even-is : (n : ℕ) → n % 2 ≡ 0 → odd n ≡ false
-even-is n e = rw e
-
--- by two counts, what their sum is
-pub odd-sum : (x y : ℕ) (b : Bool) → odd y ≡ b → odd x ≢ b → odd (x + y) ≡ true
-odd-sum x y b e ne = go (eqb (x % 2) 0) refl (eqb (y % 2) 0) refl (λ z. ne (z ∙ e))
+pub odd-after : (before : Bool) (k : ℕ) → OddAfter before k (not (Bool·beq (odd k) before))
+odd-after before k m e = rw (← e) (go (eqb (m % 2) 0) refl (eqb (k % 2) 0) refl)
   where
-    go : (a : Bool) → eqb (x % 2) 0 ≡ a → (c : Bool) → eqb (y % 2) 0 ≡ c → (odd x ≡ odd y → ⊥) → odd (x + y) ≡ true
-    go true p true q n = absurd (n (rw (p, q)))
-    go true p false q n = odd-is (x + y) (omega (arith, eqb-true (x % 2) 0 p, eqb-false (y % 2) 0 q))
-    go false p true q n = odd-is (x + y) (omega (arith, eqb-false (x % 2) 0 p, eqb-true (y % 2) 0 q))
-    go false p false q n = absurd (n (rw (p, q)))
+    to-odd : (m + k) % 2 ≡ 1 → odd (m + k) ≡ true
+    to-odd f = rw f
 
-pub even-sum : (x y : ℕ) (b : Bool) → odd y ≡ b → odd x ≡ b → odd (x + y) ≡ false
-even-sum x y b e f = go (eqb (x % 2) 0) refl (eqb (y % 2) 0) refl (f ∙ sym e)
-  where
-    go : (a : Bool) → eqb (x % 2) 0 ≡ a → (c : Bool) → eqb (y % 2) 0 ≡ c → odd x ≡ odd y → odd (x + y) ≡ false
-    go true p true q n = even-is (x + y) (omega (arith, eqb-true (x % 2) 0 p, eqb-true (y % 2) 0 q))
-    go true p false q n = absurd (true≢false (sym (rw (p, q) at n)))
-    go false p true q n = absurd (true≢false (rw (p, q) at n))
-    go false p false q n = even-is (x + y) (omega (arith, eqb-false (x % 2) 0 p, eqb-false (y % 2) 0 q))
+    to-even : (m + k) % 2 ≡ 0 → odd (m + k) ≡ false
+    to-even f = rw f
 
--- what follows the first bytes of a file: an odd count of bytes or not, and none where the first are no more than an accepted plan may have
-pub record Rest (bytes rest : List ℕ) (is-odd : Bool) : Type 0 where
+    go : (a : Bool) → eqb (m % 2) 0 ≡ a → (b : Bool) → eqb (k % 2) 0 ≡ b → odd (m + k) ≡ not (Bool·beq (not b) (not a))
+    go true p true q = to-even (omega (arith, eqb-true (m % 2) 0 p, eqb-true (k % 2) 0 q))
+    go true p false q = to-odd (omega (arith, eqb-true (m % 2) 0 p, eqb-false (k % 2) 0 q))
+    go false p true q = to-odd (omega (arith, eqb-false (m % 2) 0 p, eqb-true (k % 2) 0 q))
+    go false p false q = to-even (omega (arith, eqb-false (m % 2) 0 p, eqb-false (k % 2) 0 q))
+
+-- what follows the first bytes of a file, of which so many were asked for: an odd count of bytes or not, and none where fewer were found
+pub record Rest (asked : ℕ) (bytes rest : List ℕ) (is-odd : Bool) : Type 0 where
   pub parity : odd (length rest) ≡ is-odd
-  pub ended : length bytes < 2 * longest + 2 → rest ≡ []
+  pub ended : length bytes < asked → rest ≡ []
 
 -- the verdict on every file that begins with these bytes
-abbrev pub Decides : List ℕ → Bool → Verdict → Type 0
-Decides bytes is-odd v = (rest : List ℕ) → Rest bytes rest is-odd → v ≡ check-file (bytes ++ rest)
+abbrev pub Decides : ℕ → List ℕ → Bool → Verdict → Type 0
+Decides asked bytes is-odd v = (rest : List ℕ) → Rest asked bytes rest is-odd → v ≡ check-file (bytes ++ rest)
 
--- a test whether two truths differ
-pub differ : (a b : Bool) → not (Bool·beq a b) ≡ true → a ≢ b
-differ true true e f = true≢false (sym e)
-differ true false e f = true≢false f
-differ false true e f = true≢false (sym f)
-differ false false e f = true≢false (sym e)
+-- as many bytes as tell a plan that is too long
+abbrev pub enough : ℕ
+enough = 2 * longest + 2
 
-pub agree : (a b : Bool) → not (Bool·beq a b) ≡ false → a ≡ b
-agree true true e = refl
-agree true false e = absurd (true≢false e)
-agree false true e = absurd (true≢false e)
-agree false false e = refl
+module _ (bytes : List ℕ) (is-odd all-odd : Bool) (h : OddAfter is-odd (length bytes) all-odd) where
+  -- whether the whole file has an odd count of bytes
+  file-odd : (rest : List ℕ) → Rest enough bytes rest is-odd → odd (length (bytes ++ rest)) ≡ all-odd
+  file-odd rest r = rw (length-append, add-comm (length bytes) (length rest)) (h (length rest) (r .parity))
 
-pub odd-file : (bytes : List ℕ) (is-odd : Bool) → odd (length bytes) ≢ is-odd → Decides bytes is-odd (Verdict.Refused Refusal.BadPlan)
-unfolding check-file
-odd-file bytes is-odd ne rest r = rw (length-append, odd-sum (length bytes) (length rest) is-odd (r .parity) ne)
+  pub odd-file : all-odd ≡ true → Decides enough bytes is-odd (Verdict.Refused Refusal.BadPlan)
+  unfolding check-file
+  odd-file e rest r = rw (file-odd rest r, e)
 
-pub even-file : (bytes : List ℕ) (is-odd : Bool) → odd (length bytes) ≡ is-odd → (v : Verdict) → v ≡ check-plan (words-of bytes) → Decides bytes is-odd v
-unfolding check-file
-even-file bytes is-odd e v ev rest r =
-    rw (length-append, even-sum (length bytes) (length rest) is-odd (r .parity) e) (ev ∙ go (ltb (length bytes) (2 * longest + 2)) refl)
-  where
-    go : (b : Bool) → ltb (length bytes) (2 * longest + 2) ≡ b → check-plan (words-of bytes) ≡ check-plan (words-of (bytes ++ rest))
-    go true l = rw (r .ended (ltb-true (length bytes) (2 * longest + 2) l), append-nil bytes)
-    go false l =
-        let f = words-first bytes rest in
-        rw (f .1) (sym (long-plan (words-of bytes) (f .0) (omega (arith, ltb-false (length bytes) (2 * longest + 2) l, words-length bytes))))
+  pub even-file : all-odd ≡ false → (v : Verdict) → v ≡ check-plan (words-of bytes) → Decides enough bytes is-odd v
+  unfolding check-file
+  even-file e v ev rest r = rw (file-odd rest r, e) (ev ∙ go (ltb (length bytes) enough) refl)
+    where
+      go : (b : Bool) → ltb (length bytes) enough ≡ b → check-plan (words-of bytes) ≡ check-plan (words-of (bytes ++ rest))
+      go true l = rw (r .ended (ltb-true (length bytes) enough l), append-nil bytes)
+      go false l =
+          let f = words-first bytes rest in
+          rw (f .1) (sym (long-plan (words-of bytes) (f .0) (omega (arith, ltb-false (length bytes) enough l, words-length bytes))))
+
+-- asking for more bytes decides as much
+pub decides-more : (asked : ℕ) → enough ≤ asked → (bytes : List ℕ) (is-odd : Bool) (v : Verdict) → Decides enough bytes is-odd v → Decides asked bytes is-odd v
+decides-more asked h bytes is-odd v d rest r = d rest (record { parity = r .parity; ended = λ l. r .ended (omega arith) })
 
 -- a refusal is not fine
 pub never-fine : (r : Refusal) {A : Type 0} → Verdict.Refused r ≡ Verdict.Fine → A

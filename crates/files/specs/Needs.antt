@@ -1,12 +1,17 @@
 -- What the calls of this crate ask and make, as laws over values. Assumes nothing.
 use mathlib.Core.Path.{_≡_, refl, sym, ap, _∙_}
-use mathlib.Core.List.{List, [], _∷_}
+use mathlib.Core.List.{List, [], _∷_, _++_}
+use mathlib.Core.Bool.{Bool}
 use Prim.Native.Nat.{ℕ, _+_, _*_, _<_, _≤_}
+use native.Mathlib.Nat.{zero-add}
 use native.Mathlib.Omega.{arith}
-use lib.ListN.{length, getD, set, drop, length-set}
+use lib.ListN.{length, getD, set, take, drop, length-set}
+use lib.Seq.{length-take-le, take-append-seam, sets-eq}
+use Rattle.paper.specs.Numbers.{check-plan}
 use Rattle.paper.specs.Runner.{word, words-of}
-use Rattle.writes.specs.Written.{written, written-none, written-one, written-on}
-use Rattle.files.specs.Bytes.{words-step, words-end, words-length}
+use Rattle.paper.specs.declared.Verdict.{Verdict}
+use Rattle.writes.specs.Written.{written, written-none, written-one, written-on, kept-length}
+use Rattle.files.specs.Bytes.{words-step, words-end, words-length, Decides, enough, decides-more}
 
 -- k words are written, of the bytes before place at; what is left to write makes the whole
 pub record Words (o bytes out : List ℕ) (k at : ℕ) : Type 0 where
@@ -41,3 +46,33 @@ module _ (o bytes : List ℕ) where
     words-done h =
         let s = words-end bytes at h in
         (omega (arith, w .counted, ap length s), sym (written-none out k) ∙ ap (written out k) (sym s) ∙ w .made)
+
+-- what is promised of a plan's file: its first words, at the start of the target, and the verdict on all of it
+pub record ReadsPlan (asked : ℕ) (bytes : List ℕ) (is-odd : Bool) (target after : List ℕ) (count : ℕ) (v : Verdict) : Type 0 where
+  pub counted : count ≡ length (words-of bytes)
+  pub made : after ≡ written target 0 (words-of bytes)
+  pub decides : Decides asked bytes is-odd v
+  pub inside : count ≤ length after
+  pub passes : v ≡ Verdict.Fine → check-plan (take count after) ≡ Verdict.Fine
+
+-- the bytes found are no more than the target holds as words
+pub few-bytes : (buffer : List ℕ) (found : ℕ) (target : List ℕ) → found ≤ length buffer → length buffer < 2 * length target + 2
+    → length (take found buffer) < 2 * length target + 2
+few-bytes buffer found target h room = rw (length-take-le found buffer h) (omega arith)
+
+module _ (buffer : List ℕ) (found : ℕ) (target after : List ℕ) (count : ℕ) (h : found ≤ length buffer) (room : length buffer < 2 * length target + 2)
+    (ec : count ≡ length (words-of (take found buffer))) (ea : after ≡ written target 0 (words-of (take found buffer))) where
+  pub words-inside : count ≤ length after
+  words-inside = omega (arith, few-bytes buffer found target h room, words-length (take found buffer), kept-length target after 0 (words-of (take found buffer)) ea)
+
+  pub words-taken : take count after ≡ words-of (take found buffer)
+  unfolding written
+  words-taken =
+      let vs = words-of (take found buffer) in
+      let e : after ≡ vs ++ drop (length vs) target = rw (ea, sets-eq vs target 0 (omega (arith, few-bytes buffer found target h room, words-length (take found buffer))), zero-add) refl in
+      rw (e, ec) (take-append-seam vs (drop (length vs) target))
+
+  pub plan-read : (is-odd : Bool) (v : Verdict) → enough ≤ length buffer → Decides enough (take found buffer) is-odd v
+      → (v ≡ Verdict.Fine → check-plan (take count after) ≡ Verdict.Fine) → ReadsPlan (length buffer) (take found buffer) is-odd target after count v
+  plan-read is-odd v l d f =
+      record { counted = ec; made = ea; decides = decides-more (length buffer) l (take found buffer) is-odd v d; inside = words-inside; passes = f }

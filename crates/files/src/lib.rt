@@ -1,21 +1,28 @@
 // A plan's file: its words, and the verdict on it.
 ghost use mathlib.Core.Path.{_≡_};
-ghost use Prim.Native.Nat.{_+_, _*_, _<_};
-ghost use lib.ListN.{length};
+ghost use Prim.Native.Nat.{_+_, _*_, _<_, _≤_};
+ghost use lib.ListN.{length, take};
 ghost use Rattle.paper.specs.Runner.{word as word-by, words-of};
-ghost use Rattle.paper.specs.Numbers.{check-plan as verdict-on-plan};
+ghost use Rattle.paper.specs.Numbers.{check-plan};
 ghost use Rattle.paper.specs.declared.Verdict.the-variants.{Fine};
 ghost use Rattle.writes.specs.Written.{written};
-ghost use Rattle.files.specs.Bytes.{Decides};
+ghost use Rattle.files.specs.Bytes.{OddAfter, enough, Decides};
+ghost use Rattle.files.specs.Needs.{ReadsPlan};
 use paper::Refusal;
 use paper::Verdict;
 use plans::verdict;
 
 // The bytes of a word.
-pub const WORD_BYTES: usize = 2;
+const WORD_BYTES: usize = 2;
 
 // A byte is less than this.
 const BYTE_END: u16 = 256;
+
+// What a plan's file comes to: how many words were read, and the verdict.
+pub struct PlanRead {
+    pub words: usize,
+    pub verdict: Verdict,
+}
 
 // A word from its two bytes, the low one first.
 pub fn word(low: u8, high: u8) -> u16
@@ -25,7 +32,7 @@ pub fn word(low: u8, high: u8) -> u16
 }
 
 // Writes the whole words of some bytes, and answers how many there are.
-pub fn put_words(bytes: &[u8], words: &mut [u16]) -> usize
+fn put_words(bytes: &[u8], words: &mut [u16]) -> usize
     requires { ⌜ length (now bytes) < 2 * length (now words) + 2 ⌝ }
     ensures { λ r. ⌜ r ≡ length (words-of (now (bytes .entry))) ⌝ }
     ensures { λ _. ⌜ now (words .exit) ≡ written (now (words .entry)) 0 (words-of (now (bytes .entry))) ⌝ }
@@ -40,15 +47,37 @@ pub fn put_words(bytes: &[u8], words: &mut [u16]) -> usize
     k
 }
 
-// The verdict on a plan's file that begins with some bytes, of which the words are given; of the rest it asks only whether it has an odd count of bytes.
-pub fn file_verdict(bytes: &[u8], words: &[u16], odd: bool) -> Verdict
-    requires { ⌜ now words ≡ words-of (now bytes) ⌝ }
-    ensures { λ r. ⌜ Decides (now (bytes .entry)) odd r ⌝ }
-    ensures { λ r. ⌜ (r ≡ Fine → verdict-on-plan (now (words .entry)) ≡ Fine) ⌝ }
+// Whether a count of bytes is odd with so many more, where it was odd before or not.
+pub fn is_odd(before: bool, more: usize) -> bool
+    ensures { λ r. ⌜ OddAfter before more r ⌝ }
 {
-    let first_odd = bytes.len() % WORD_BYTES != 0;
-    if first_odd != odd {
+    (more % WORD_BYTES != 0) != before
+}
+
+// The verdict on a plan's file that begins with some bytes, of which the words are given; of the rest it asks only whether it has an odd count of bytes.
+fn file_verdict(bytes: &[u8], words: &[u16], odd: bool) -> Verdict
+    requires { ⌜ now words ≡ words-of (now bytes) ⌝ }
+    ensures { λ r. ⌜ Decides enough (now (bytes .entry)) odd r ⌝ }
+    ensures { λ r. ⌜ (r ≡ Fine → check-plan (now (words .entry)) ≡ Fine) ⌝ }
+{
+    if is_odd(odd, bytes.len()) {
         return Verdict::Refused(Refusal::BadPlan);
     }
     verdict(words)
+}
+
+// Reads a plan's file: the words of the bytes that were found for the buffer, and the verdict on the whole file.
+pub fn read_plan(buffer: &[u8], found: usize, odd: bool, words: &mut [u16]) -> PlanRead
+    requires { ⌜ found ≤ length (now buffer) ⌝ }
+    requires { ⌜ enough ≤ length (now buffer) ⌝ }
+    requires { ⌜ length (now buffer) < 2 * length (now words) + 2 ⌝ }
+    ensures { λ r. ⌜ ReadsPlan (length (now (buffer .entry))) (take found (now (buffer .entry))) odd (now (words .entry)) (now (words .exit)) (r .words) (r .verdict) ⌝ }
+{
+    let bytes = &buffer[..found];
+    let count = put_words(bytes, words);
+    let verdict = file_verdict(bytes, &words[..count], odd);
+    PlanRead {
+        words: count,
+        verdict: verdict,
+    }
 }

@@ -8,11 +8,10 @@ ghost use Rattle.laws.specs.Stays.{Lawful};
 ghost use Rattle.parts.specs.Needs.{Plan};
 use builds::build;
 use feeding::EVENT_BYTES;
-use feeding::Fed;
-use feeding::feed;
-use files::WORD_BYTES;
-use files::file_verdict;
-use files::put_words;
+use feeding::feed_buffer;
+use feeding::is_refused;
+use files::is_odd;
+use files::read_plan;
 use libc::STDOUT_FILENO;
 use lines::MOST_LINE;
 use lines::put_line;
@@ -54,32 +53,24 @@ fn print_refused(r: Refusal) {
     io::write_all(STDOUT_FILENO, &text[..end]);
 }
 
-// Whether a refusal ends the run.
-fn is_refused(fed: Fed) -> bool {
-    let stop = fed.stop;
-    match stop {
-        Verdict::Fine => false,
-        Verdict::Refused(_) => true,
-    }
-}
-
 // Reads events a buffer at a time and prints their lines, up to the end or a refusal.
 fn run_events(s: Shape, im: &mut [u16], fd: i32)
     requires { ⌜ Lawful s (now im) ⌝ }
 {
     let shapes = order_shapes();
-    let mut bytes = [0u8; EVENTS_BYTES];
+    let mut buffer = [0u8; EVENTS_BYTES];
     let mut text = [0u8; TEXT_BYTES];
     let mut n = FIRST_EVENT;
     let mut turns = BUFFERS_END;
     while turns > 0 {
-        let got = io::read_full(fd, &mut bytes);
-        let fed = feed(s, im, &shapes, &bytes[..got], n, &mut text);
+        let found = io::read_full(fd, &mut buffer);
+        let fed = feed_buffer(s, im, &shapes, &buffer, found, n, &mut text);
         let end = fed.text;
+        let stop = fed.stop;
         if !io::write_all(STDOUT_FILENO, &text[..end]) {
             return;
         }
-        if got < EVENTS_BYTES || is_refused(fed) {
+        if found < EVENTS_BYTES || is_refused(stop) {
             return;
         }
         n += fed.taken as u64;
@@ -108,31 +99,30 @@ fn run_plan(plan: &[u16], fd: i32)
 
 // Whether a file has an odd count of bytes left, read to its end.
 fn rest_is_odd(fd: i32) -> bool {
-    let mut bytes = io::large_buffer();
-    let mut is_odd = false;
+    let mut buffer = io::large_buffer();
+    let mut odd = false;
     let mut turns = BUFFERS_END;
     while turns > 0 {
-        let got = io::read_full(fd, &mut bytes);
-        if got % WORD_BYTES != 0 {
-            is_odd = !is_odd;
-        }
-        if got < bytes.len() {
-            return is_odd;
+        let found = io::read_full(fd, &mut buffer);
+        odd = is_odd(odd, found);
+        if found < buffer.len() {
+            return odd;
         }
         turns -= 1;
     }
-    is_odd
+    odd
 }
 
 // Runs the events of one open file on the plan of another.
 fn run(plan_fd: i32, events_fd: i32) {
-    let mut bytes = [0u8; PLAN_BYTES];
-    let got = io::read_full(plan_fd, &mut bytes);
-    let rest_odd = rest_is_odd(plan_fd);
+    let mut buffer = [0u8; PLAN_BYTES];
+    let found = io::read_full(plan_fd, &mut buffer);
+    let odd = rest_is_odd(plan_fd);
     let mut words = [0u16; PLAN_WORDS];
-    let count = put_words(&bytes[..got], &mut words);
-    let found = file_verdict(&bytes[..got], &words[..count], rest_odd);
-    match found {
+    let plan = read_plan(&buffer, found, odd, &mut words);
+    let count = plan.words;
+    let verdict = plan.verdict;
+    match verdict {
         Verdict::Fine => run_plan(&words[..count], events_fd),
         Verdict::Refused(r) => print_refused(r),
     }

@@ -5,10 +5,10 @@ use Rattle.running.proofs.rest_is_odd.Statement.{statement}
 use Rattle.running.proofs.rest_is_odd.Tie as tie
 
 abbrev Inv-loop : tie.InvT-loop
-Inv-loop fd bytes₀ is-odd₀ turns₀ bytes is-odd turns = length bytes ≡ 65536
+Inv-loop fd buffer₀ odd₀ turns₀ buffer odd turns = length buffer ≡ 65536
 
 abbrev μ-loop : tie.MeasureT-loop
-μ-loop fd bytes₀ is-odd₀ turns₀ bytes is-odd turns = turns
+μ-loop fd buffer₀ odd₀ turns₀ buffer odd turns = turns
 
 
 
@@ -21,6 +21,7 @@ rest-is-odd-spec =
     (λ c κs. search needs)
     (λ c. search needs)
     (λ c. search needs)
+    (λ c κs. search needs)
     (λ c κs. search needs)
     (λ c. search needs)
     (λ c. search needs)

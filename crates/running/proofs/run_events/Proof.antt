@@ -9,24 +9,24 @@ use Rattle.running.proofs.run_events.Statement.{statement}
 use Rattle.running.proofs.run_events.Tie as tie
 
 abbrev Inv-loop : tie.InvT-loop
-Inv-loop s im₀ fd shapes bytes₀ text₀ n₀ turns₀ im bytes text n turns =
-    (Lawful s im × (length im ≡ length im₀)) × ((length bytes ≡ 24576) × (length text ≡ 131104)) × (n + 4096 * turns ≤ 4611686018427387905)
+Inv-loop s im₀ fd shapes buffer₀ text₀ n₀ turns₀ im buffer text n turns =
+    (Lawful s im × (length im ≡ length im₀)) × ((length buffer ≡ 24576) × (length text ≡ 131104)) × (n + 4096 * turns ≤ 4611686018427387905)
 
 abbrev μ-loop : tie.MeasureT-loop
-μ-loop s im₀ fd shapes bytes₀ text₀ n₀ turns₀ im bytes text n turns = turns
+μ-loop s im₀ fd shapes buffer₀ text₀ n₀ turns₀ im buffer text n turns = turns
 
 
 loop-holds : tie.Need-loop-holds Inv-loop μ-loop
 loop-holds c = ((c .before .before .pre, refl), (search needs, search needs), omega arith)
 
-feed-requires : tie.Need-feed-requires Inv-loop μ-loop
-feed-requires c κs = (c .before .before .before .before .before .before .before .before .loop .inv .0 .0, (c .before .before .before .before .before .before .before .before .before .order-shapes .ensures, (omega (arith, c .before .before .before .before .before .read-full .ensures .0, c .before .before .before .before .before .read-full .ensures .1, c .before .before .before .before .before .before .before .before .loop .inv .1, c .before .before .before .before .before .before .before .before .loop .inv .2), omega (arith, c .before .before .before .before .before .read-full .ensures .0, c .before .before .before .before .before .read-full .ensures .1, c .before .before .before .before .before .before .before .before .loop .inv .1))))
+feed-buffer-requires : tie.Need-feed-buffer-requires Inv-loop μ-loop
+feed-buffer-requires c κs = (c .before .before .before .before .before .before .before .before .loop .inv .0 .0, (c .before .before .before .before .before .before .before .before .before .order-shapes .ensures, record { inside = c .before .before .before .before .before .read-full .ensures .0; whole = search needs; numbers = omega (arith, c .before .before .before .before .before .before .before .before .loop .inv .1, c .before .before .before .before .before .before .before .before .loop .inv .2); room = omega (arith, c .before .before .before .before .before .before .before .before .loop .inv .1) }))
 
 slice-aggregate-write-all : tie.Need-slice-aggregate-write-all Inv-loop μ-loop
-slice-aggregate-write-all c = sym (length-take-le _ _ (omega (arith, c .before .before .before .before .feed .ensures .fits)))
+slice-aggregate-write-all c = sym (length-take-le _ _ (omega (arith, c .before .before .before .before .feed-buffer .ensures .0 .fits)))
 
 loop-again : tie.Need-loop-again Inv-loop μ-loop
-loop-again c = ((c .before .before .before .before .before .before .before .before .before .feed .ensures .good, c .before .before .before .before .before .before .before .before .before .feed .kept .1 .0 ∙ c .before .before .before .before .before .before .before .before .before .before .before .before .before .before .before .before .before .before .loop .inv .0 .1), (search needs, search needs), omega (arith, c .before .before .before .before .before .before .before .before .before .feed .ensures .few, c .before .before .before .before .before .before .before .before .before .before .before .before .before .before .before .read-full .ensures .0, c .before .before .before .before .before .before .before .before .before .before .before .before .before .before .before .read-full .ensures .1, c .before .before .before .before .before .before .before .before .before .before .before .before .before .before .before .before .before .before .loop .inv .1, c .before .before .before .before .before .before .before .before .before .before .before .before .before .before .before .before .before .before .loop .inv .2))
+loop-again c = ((c .before .before .before .before .before .before .before .before .before .feed-buffer .ensures .0 .good, c .before .before .before .before .before .before .before .before .before .feed-buffer .kept .1 .0 ∙ c .before .before .before .before .before .before .before .before .before .before .before .before .before .before .before .before .before .before .loop .inv .0 .1), (search needs, search needs), omega (arith, c .before .before .before .before .before .before .before .before .before .feed-buffer .ensures .0 .few, c .before .before .before .before .before .before .before .before .before .before .before .before .before .before .before .read-full .ensures .0, c .before .before .before .before .before .before .before .before .before .before .before .before .before .before .before .read-full .ensures .1, c .before .before .before .before .before .before .before .before .before .before .before .before .before .before .before .before .before .before .loop .inv .1, c .before .before .before .before .before .before .before .before .before .before .before .before .before .before .before .before .before .before .loop .inv .2))
 
 pub run-events-spec : {M : Type 1} → statement M
 run-events-spec =
@@ -40,8 +40,7 @@ run-events-spec =
     (λ c κs. search needs)
     (λ c. search needs)
     (λ c. search needs)
-    (λ c. search needs)
-    feed-requires
+    feed-buffer-requires
     (λ c. search needs)
     slice-aggregate-write-all
     (λ c κs. search needs)
