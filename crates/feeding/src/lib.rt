@@ -76,7 +76,12 @@ fn feed(s: Shape, im: &mut [u16], shapes: &[u8; 256], bytes: &[u8], n: u64, out:
         };
     }
     Fed {
-        text: put_line(out, text, n + taken as u64, Reply::Refused(Refusal::MalformedEvent)),
+        text: put_line(
+            out,
+            text,
+            n + taken as u64,
+            Reply::Refused(Refusal::MalformedEvent),
+        ),
         taken: taken,
         stop: Verdict::Refused(Refusal::MalformedEvent),
     }

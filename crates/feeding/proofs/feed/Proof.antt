@@ -1,3 +1,4 @@
+-- The lines that are written, and what is left to print, make the whole; the image is as long as before. Assumes nothing.
 use mathlib.Core.Path.{_≡_, refl, _∙_}
 use Prim.Native.Nat.{_-_}
 use native.Mathlib.Omega.{arith}
@@ -13,7 +14,6 @@ Inv-loop s im₀ shapes bytes n out₀ at₀ text₀ taken₀ im out at text tak
 
 abbrev μ-loop : tie.MeasureT-loop
 μ-loop s im₀ shapes bytes n out₀ at₀ text₀ taken₀ im out at text taken = length bytes - at
-
 
 loop-holds : tie.Need-loop-holds Inv-loop μ-loop
 loop-holds c = (going-start _ _ _ _ _ (c .before .before .before .pre .0), refl)

@@ -1,9 +1,9 @@
+-- Assumes nothing.
 use mathlib.Core.Path.{sym}
 use Rattle.feeding.specs.Needs.{found-length, found-numbers, found-room, found-rest}
 use borrow.Author.Needs.{needs}
 use Rattle.feeding.proofs.feed_buffer.Statement.{statement}
 use Rattle.feeding.proofs.feed_buffer.Tie as tie
-
 
 slice-aggregate-feed : tie.Need-slice-aggregate-feed
 slice-aggregate-feed c = sym (found-length _ _ _ _ (c .before .before .before .before .before .pre .1 .1))

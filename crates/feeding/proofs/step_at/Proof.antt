@@ -1,8 +1,8 @@
+-- Assumes nothing.
 use Rattle.feeding.specs.Needs.{event-read}
 use borrow.Author.Needs.{needs}
 use Rattle.feeding.proofs.step_at.Statement.{statement}
 use Rattle.feeding.proofs.step_at.Tie as tie
-
 
 returns : tie.Need-returns
 returns c =

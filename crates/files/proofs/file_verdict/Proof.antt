@@ -1,3 +1,4 @@
+-- Assumes nothing.
 use mathlib.Core.Path.{sym, _∙_, ap}
 use Rattle.paper.specs.Numbers.{check-plan}
 use Rattle.paper.specs.declared.Refusal.{Refusal}
@@ -5,7 +6,6 @@ use Rattle.files.specs.Bytes.{odd-file, even-file, never-fine}
 use borrow.Author.Needs.{needs}
 use Rattle.files.proofs.file_verdict.Statement.{statement}
 use Rattle.files.proofs.file_verdict.Tie as tie
-
 
 returns : tie.Need-returns
 returns c = (odd-file _ _ _ (c .before .is-odd .ensures) (c .if1 .taken), never-fine Refusal.BadPlan)

@@ -1,8 +1,8 @@
+-- Assumes nothing.
 use Rattle.files.specs.Bytes.{odd-after}
 use borrow.Author.Needs.{needs}
 use Rattle.files.proofs.is_odd.Statement.{statement}
 use Rattle.files.proofs.is_odd.Tie as tie
-
 
 returns : tie.Need-returns
 returns c = odd-after _ _

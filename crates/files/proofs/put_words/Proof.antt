@@ -1,3 +1,4 @@
+-- What is written, and the words of the bytes that are left, make the whole. Assumes nothing.
 use Prim.Native.Nat.{_-_}
 use native.Mathlib.Omega.{arith}
 use lib.ListN.{length}
@@ -11,7 +12,6 @@ Inv-loop bytes words₀ k₀ at₀ words k at = Words words₀ bytes words k at
 
 abbrev μ-loop : tie.MeasureT-loop
 μ-loop bytes words₀ k₀ at₀ words k at = length bytes - at
-
 
 loop-holds : tie.Need-loop-holds Inv-loop μ-loop
 loop-holds c = no-words _ _

@@ -1,3 +1,4 @@
+-- Assumes nothing.
 use mathlib.Core.Path.{sym}
 use native.Mathlib.Omega.{arith}
 use lib.Seq.{length-take-le}
@@ -5,7 +6,6 @@ use Rattle.files.specs.Needs.{few-bytes, words-inside, words-taken, plan
 use borrow.Author.Needs.{needs}
 use Rattle.files.proofs.read_plan.Statement.{statement}
 use Rattle.files.proofs.read_plan.Tie as tie
-
 
 slice-aggregate-bytes : tie.Need-slice-aggregate-bytes
 slice-aggregate-bytes c = sym (length-take-le _ _ (c .before .before .before .pre .0))

@@ -1,10 +1,10 @@
+-- Assumes nothing.
 use native.Mathlib.Omega.{arith}
 use Rattle.writes.specs.Written.{kept-length}
 use Rattle.lines.specs.Lines.{kind-short, task-short, answer-made}
 use borrow.Author.Needs.{needs}
 use Rattle.lines.proofs.put_answer.Statement.{statement}
 use Rattle.lines.proofs.put_answer.Tie as tie
-
 
 put-field-requires : tie.Need-put-field-requires
 put-field-requires c κs = omega (arith, kind-short (c .before .before .before .args .a) _ (c .kind-of .ensures))

@@ -1,10 +1,10 @@
+-- Assumes nothing.
 use native.Mathlib.Omega.{arith}
 use Rattle.writes.specs.Written.{kept-length}
 use Rattle.lines.specs.Lines.{event-short, accepted-made, refused-made}
 use borrow.Author.Needs.{needs}
 use Rattle.lines.proofs.put_line.Statement.{statement}
 use Rattle.lines.proofs.put_line.Tie as tie
-
 
 put-decimal-requires : tie.Need-put-decimal-requires
 put-decimal-requires c κs = omega (arith, event-short _ (c .before .before .fits .n .fits))

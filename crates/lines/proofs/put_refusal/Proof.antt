@@ -1,10 +1,10 @@
+-- Assumes nothing.
 use native.Mathlib.Omega.{arith}
 use Rattle.writes.specs.Written.{kept-length}
 use Rattle.lines.specs.Lines.{number-short, refusal-made}
 use borrow.Author.Needs.{needs}
 use Rattle.lines.proofs.put_refusal.Statement.{statement}
 use Rattle.lines.proofs.put_refusal.Tie as tie
-
 
 put-field-requires : tie.Need-put-field-requires
 put-field-requires c κs = omega (arith, number-short (c .before .before .before .before .before .before .before .before .args .r) _ (c .number-of .ensures), kept-length _ _ _ _ (c .before .before .before .before .put-text .ensures .1))

@@ -1,3 +1,4 @@
+-- k bytes of the text are written. Assumes nothing.
 use mathlib.Core.Path.{_≡_, refl, sym}
 use Prim.Native.Nat.{_-_, _≤_}
 use native.Mathlib.Omega.{arith}
@@ -13,7 +14,6 @@ Inv-loop out₀ at text k₀ out k = (out ≡ written out₀ at (take k text)) �
 
 abbrev μ-loop : tie.MeasureT-loop
 μ-loop out₀ at text k₀ out k = length text - k
-
 
 loop-holds : tie.Need-loop-holds Inv-loop μ-loop
 loop-holds c = (sym (written-none _ _), omega arith)

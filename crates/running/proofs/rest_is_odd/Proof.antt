@@ -1,3 +1,4 @@
+-- The buffer keeps its length, and has a turn less each time. Assumes nothing.
 use mathlib.Core.Path.{_≡_}
 use lib.ListN.{length}
 use borrow.Author.Needs.{needs}
@@ -9,8 +10,6 @@ Inv-loop fd buffer₀ odd₀ turns₀ buffer odd turns = length buffer ≡ 65536
 
 abbrev μ-loop : tie.MeasureT-loop
 μ-loop fd buffer₀ odd₀ turns₀ buffer odd turns = turns
-
-
 
 pub rest-is-odd-spec : {M : Type 1} → statement M
 rest-is-odd-spec =

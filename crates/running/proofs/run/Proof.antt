@@ -1,10 +1,10 @@
+-- Assumes nothing.
 use mathlib.Core.Path.{sym}
 use native.Mathlib.Omega.{arith}
 use lib.Seq.{length-take-le}
 use borrow.Author.Needs.{needs}
 use Rattle.running.proofs.run.Statement.{statement}
 use Rattle.running.proofs.run.Tie as tie
-
 
 read-plan-requires : tie.Need-read-plan-requires
 read-plan-requires c κs = (c .before .before .before .before .read-full .ensures .0, (omega arith, omega arith))

@@ -1,3 +1,4 @@
+-- The image stays good, the buffers keep their lengths, and there are numbers left for the events of the buffers to come. Assumes nothing.
 use mathlib.Core.Path.{_≡_, refl, sym, _∙_}
 use Prim.Native.Nat.{_+_, _*_, _≤_}
 use native.Mathlib.Omega.{arith}
@@ -14,7 +15,6 @@ Inv-loop s im₀ fd shapes buffer₀ text₀ n₀ turns₀ im buffer text n turn
 
 abbrev μ-loop : tie.MeasureT-loop
 μ-loop s im₀ fd shapes buffer₀ text₀ n₀ turns₀ im buffer text n turns = turns
-
 
 loop-holds : tie.Need-loop-holds Inv-loop μ-loop
 loop-holds c = ((c .before .before .pre, refl), (search needs, search needs), omega arith)

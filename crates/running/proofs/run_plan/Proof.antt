@@ -1,3 +1,4 @@
+-- Assumes nothing.
 use mathlib.Core.Path.{sym, _∙_}
 use native.Mathlib.Omega.{arith}
 use lib.Seq.{length-take-le}
@@ -6,7 +7,6 @@ use Rattle.running.specs.Needs.{image-fits}
 use borrow.Author.Needs.{needs}
 use Rattle.running.proofs.run_plan.Statement.{statement}
 use Rattle.running.proofs.run_plan.Tie as tie
-
 
 shape-of-plan-requires : tie.Need-shape-of-plan-requires
 shape-of-plan-requires c κs = fine-ranged _ (c .before .pre)
