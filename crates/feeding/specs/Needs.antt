@@ -16,7 +16,7 @@ use Rattle.paper.specs.declared.Verdict.{Verdict}
 use Rattle.laws.specs.Stays.{Lawful}
 use Rattle.writes.specs.Written.{written, written-length}
 use Rattle.lines.specs.Lines.{most-line}
-use Rattle.feeding.specs.Printing.{event-at, printed-step, printed-none, printed-short, Joins, Prints, joins-start, joins-line, joins-end, joins-last, ForAnyRest, any-rest}
+use Rattle.feeding.specs.Printing.{event-bytes, event-at, printed-step, printed-none, printed-short, Joins, Prints, joins-start, joins-line, joins-end, joins-last, ForAnyRest, any-rest}
 
 -- a number of an event is less than this
 abbrev pub number-end : ℕ
@@ -24,7 +24,7 @@ number-end = 18446744073709551616
 
 -- bytes for a line of each event, and of a short last one
 abbrev pub text-room : List ℕ → ℕ
-text-room bytes = most-line * (length bytes / 6 + 1)
+text-room bytes = most-line * (length bytes / event-bytes + 1)
 
 -- events so far: the bytes before place at are taken, and their lines are written
 pub record Going (s : Shape) (first : List ℕ) (n : ℕ) (bytes o im out : List ℕ) (at text taken : ℕ) : Type 0 where
@@ -34,6 +34,14 @@ pub record Going (s : Shape) (first : List ℕ) (n : ℕ) (bytes o im out : List
   pub inside : at ≤ length bytes
   pub room : text ≤ most-line * taken
   pub good : Lawful s im
+
+-- what is promised of a short last event
+pub record FeedsShort (text taken n : ℕ) (o out : List ℕ) (text′ taken′ : ℕ) (stop : Verdict) : Type 0 where
+  pub counted : text′ ≡ text + length (line (n + taken) (Reply.Refused Refusal.MalformedEvent))
+  pub small : text′ ≤ text + most-line
+  pub made : out ≡ written o text (line (n + taken) (Reply.Refused Refusal.MalformedEvent))
+  pub same : taken′ ≡ taken
+  pub stopped : stop ≡ Verdict.Refused Refusal.MalformedEvent
 
 -- what is promised of a buffer
 pub record Feeds (s : Shape) (first : List ℕ) (n : ℕ) (bytes o im out : List ℕ) (text taken : ℕ) (stop : Verdict) : Type 0 where
@@ -72,21 +80,19 @@ module _ (s : Shape) (first : List ℕ) (n : ℕ) (bytes o : List ℕ) where
         }
 
     -- a short one is left
-    module _ (m : ℕ) (em : m ≡ n + taken) (out′ : List ℕ) (text′ : ℕ) where
-      pub short-left : at < length bytes → length bytes < at + 6 → text-room bytes ≤ length o
-          → text′ ≡ text + length (line m (Reply.Refused Refusal.MalformedEvent)) → text′ ≤ text + most-line
-          → out′ ≡ written out text (line m (Reply.Refused Refusal.MalformedEvent))
-          → Feeds s first n bytes o im out′ text′ taken (Verdict.Refused Refusal.MalformedEvent)
-      short-left h l r et small eo =
-          record {
-            prints =
-                rw (et, eo, em) (joins-last o out text taken _ (n + taken) Refusal.MalformedEvent im
-                (rw (printed-short s im (n + taken) bytes at h l) at (g .joins)));
-            good = g .good;
-            fits = omega (arith, line-room h r, g .kept);
-            few = omega (arith, g .place);
-          }
+    pub short-left : (out′ : List ℕ) (text′ taken′ : ℕ) (stop : Verdict) → at < length bytes → length bytes < at + 6 → text-room bytes ≤ length o
+        → FeedsShort text taken n out out′ text′ taken′ stop → Feeds s first n bytes o im out′ text′ taken′ stop
+    short-left out′ text′ taken′ stop h l r f =
+        record {
+          prints =
+              rw (f .counted, f .made, f .same, f .stopped) (joins-last o out text taken _ (n + taken) Refusal.MalformedEvent im
+              (rw (printed-short s im (n + taken) bytes at h l) at (g .joins)));
+          good = g .good;
+          fits = omega (arith, f .small, line-room h r, g .kept);
+          few = omega (arith, f .same, g .place);
+        }
 
+    module _ (m : ℕ) (em : m ≡ n + taken) (out′ : List ℕ) (text′ : ℕ) where
       -- one more is carried out
       module _ (im′ : List ℕ) (reply : Reply) (h : at + 6 ≤ length bytes) (er : reply ≡ happening s im (event-at s bytes at) .reply)
           (ei : im′ ≡ happening s im (event-at s bytes at) .image) (good : Lawful s im′) (et : text′ ≡ text + length (line m reply))
@@ -130,7 +136,7 @@ module _ (s : Shape) (bytes : List ℕ) (at k d c : ℕ) (ek : k ≡ word (getD 
 -- a buffer for whole events, of which some bytes were found, with room for the lines
 pub record Buffered (buffer : List ℕ) (found n : ℕ) (out : List ℕ) : Type 0 where
   pub inside : found ≤ length buffer
-  pub whole : length buffer % 6 ≡ 0
+  pub whole : length buffer % event-bytes ≡ 0
   pub numbers : n + length buffer < number-end
   pub room : text-room buffer ≤ length out
 

@@ -19,7 +19,11 @@ use Rattle.paper.specs.declared.Reply.{Reply}
 use Rattle.paper.specs.declared.Verdict.{Verdict}
 use Rattle.writes.specs.Written.{written, written-none, written-on}
 
--- the event whose six bytes start at a place
+-- an event has six bytes
+abbrev pub event-bytes : ℕ
+event-bytes = 6
+
+-- the event whose bytes start at a place
 unfoldable pub event-at : Shape → List ℕ → ℕ → Event
 event-at s bytes at =
     event-of s (word (getD bytes at 0) (getD bytes (at + 1) 0)) (word (getD bytes (at + 2) 0) (getD bytes (at + 3) 0))
@@ -182,7 +186,7 @@ buffers-follow s im n (x ∷ y ∷ z ∷ u ∷ v ∷ w ∷ a) b e =
     go (Reply.Refused r) next h f = absurd (never-fine r f)
 
 -- and why reading may stop at a refusal: where an event of the first bytes is refused, and these are whole events, nothing more is printed.
-pub refusal-ends : (s : Shape) (im : List ℕ) (n : ℕ) (a b : List ℕ) → length a % 6 ≡ 0 → printed-from s im n a .stop ≢ Verdict.Fine
+pub refusal-ends : (s : Shape) (im : List ℕ) (n : ℕ) (a b : List ℕ) → length a % event-bytes ≡ 0 → printed-from s im n a .stop ≢ Verdict.Fine
     → printed-from s im n (a ++ b) ≡ printed-from s im n a
 unfolding printed-from
 refusal-ends s im n [] b e ne = absurd (ne refl)
@@ -213,7 +217,7 @@ pub record Continues (s : Shape) (im : List ℕ) (n : ℕ) (bytes rest after : L
 abbrev pub ForAnyRest : Shape → List ℕ → ℕ → ℕ → List ℕ → List ℕ → ℕ → Verdict → Type 0
 ForAnyRest s im n asked bytes after taken stop = (rest : List ℕ) → (length bytes < asked → rest ≡ []) → Continues s im n bytes rest after taken stop
 
-pub any-rest : (s : Shape) (im : List ℕ) (n asked : ℕ) (bytes o out after : List ℕ) (text taken : ℕ) (stop : Verdict) → asked % 6 ≡ 0
+pub any-rest : (s : Shape) (im : List ℕ) (n asked : ℕ) (bytes o out after : List ℕ) (text taken : ℕ) (stop : Verdict) → asked % event-bytes ≡ 0
     → length bytes ≤ asked → Prints o out text taken stop after (printed-from s im n bytes) → ForAnyRest s im n asked bytes after taken stop
 any-rest s im n asked bytes o out after text taken stop whole h p rest ended =
     record {

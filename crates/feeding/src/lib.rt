@@ -5,8 +5,9 @@ ghost use lib.ListN.{length, take};
 ghost use Rattle.paper.specs.Events.{happening};
 ghost use Rattle.laws.specs.Stays.{Lawful};
 ghost use Rattle.shapes.specs.Entries.{Shapes};
-ghost use Rattle.feeding.specs.Printing.{event-at, ForAnyRest, is-refusal};
-ghost use Rattle.feeding.specs.Needs.{number-end, text-room, Feeds, Buffered};
+ghost use Rattle.lines.specs.Lines.{most-line};
+ghost use Rattle.feeding.specs.Printing.{event-bytes, event-at, ForAnyRest, is-refusal};
+ghost use Rattle.feeding.specs.Needs.{number-end, text-room, FeedsShort, Feeds, Buffered};
 use files::word;
 use happening::step;
 use lines::put_line;
@@ -29,7 +30,7 @@ pub struct Fed {
 fn step_at(s: Shape, im: &mut [u16], shapes: &[u8; 256], bytes: &[u8], at: usize) -> Reply
     requires { ⌜ Lawful s (now im) ⌝ }
     requires { ⌜ Shapes (now shapes) ⌝ }
-    requires { ⌜ at + 6 ≤ length (now bytes) ⌝ }
+    requires { ⌜ at + event-bytes ≤ length (now bytes) ⌝ }
     ensures { λ r. ⌜ r ≡ happening s (now (im .entry)) (event-at s (now (bytes .entry)) at) .reply ⌝ }
     ensures { λ _. ⌜ now (im .exit) ≡ happening s (now (im .entry)) (event-at s (now (bytes .entry)) at) .image ⌝ }
     ensures { λ _. ⌜ Lawful s (now (im .exit)) ⌝ }
@@ -38,6 +39,20 @@ fn step_at(s: Shape, im: &mut [u16], shapes: &[u8; 256], bytes: &[u8], at: usize
     let device = word(bytes[at + 2], bytes[at + 3]);
     let character = word(bytes[at + 4], bytes[at + 5]);
     step(s, im, shapes, kind, device, character)
+}
+
+// Writes the line of a last event of under six bytes, after those of the events taken.
+fn feed_short(text: usize, taken: usize, n: u64, out: &mut [u8]) -> Fed
+    requires { ⌜ n + taken < number-end ⌝ }
+    requires { ⌜ text + most-line ≤ length (now out) ⌝ }
+    ensures { λ r. ⌜ FeedsShort text taken n (now (out .entry)) (now (out .exit)) (r .text) (r .taken) (r .stop) ⌝ }
+{
+    let short = Reply::Refused(Refusal::MalformedEvent);
+    Fed {
+        text: put_line(out, text, n + taken as u64, short),
+        taken: taken,
+        stop: Verdict::Refused(Refusal::MalformedEvent),
+    }
 }
 
 // Takes the events of a buffer, the first of which has the number n, and writes their lines.
@@ -75,16 +90,7 @@ fn feed(s: Shape, im: &mut [u16], shapes: &[u8; 256], bytes: &[u8], n: u64, out:
             stop: Verdict::Fine,
         };
     }
-    Fed {
-        text: put_line(
-            out,
-            text,
-            n + taken as u64,
-            Reply::Refused(Refusal::MalformedEvent),
-        ),
-        taken: taken,
-        stop: Verdict::Refused(Refusal::MalformedEvent),
-    }
+    feed_short(text, taken, n, out)
 }
 
 // Takes the events of the bytes that were found for a buffer, the first of which has the number n, and writes their lines.

@@ -13,7 +13,7 @@ use paper::Verdict;
 use plans::verdict;
 
 // The bytes of a word.
-const WORD_BYTES: usize = 2;
+pub const WORD_BYTES: usize = 2;
 
 // A byte is less than this.
 const BYTE_END: u16 = 256;

@@ -10,6 +10,7 @@ use builds::build;
 use feeding::EVENT_BYTES;
 use feeding::feed_buffer;
 use feeding::is_refused;
+use files::WORD_BYTES;
 use files::is_odd;
 use files::read_plan;
 use libc::STDOUT_FILENO;
@@ -23,11 +24,10 @@ use plans::shape_of_plan;
 use plans::total_of;
 use shapes::order_shapes;
 
-// Longer than any plan that is accepted, and even.
-const PLAN_BYTES: usize = 65612;
-
-// The words of a plan's first bytes.
+// The words that are read of a plan: more than any has that is accepted.
 const PLAN_WORDS: usize = 32806;
+
+const PLAN_BYTES: usize = WORD_BYTES * PLAN_WORDS;
 
 // The most words of an image.
 const IMAGE_WORDS: usize = 32768;

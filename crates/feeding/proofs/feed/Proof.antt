@@ -39,14 +39,11 @@ returns c = event-refused _ _ _ _ _ _ _ _ _ _ (c .before .before .before .before
 returns-2 : tie.Need-returns-2 Inv-loop μ-loop
 returns-2 c = events-end _ _ _ _ _ _ _ _ _ _ (c .before .before .loop .inv .0) (c .if1 .taken) (c .before .before .before .before .before .before .pre .1 .1 .1)
 
-add-put-line-2 : tie.Need-add-put-line-2 Inv-loop μ-loop
-add-put-line-2 c = record { fits = number-room _ _ _ _ _ _ _ _ _ _ (c .before .before .before .loop .inv .0) (c .before .before .before .loop .inv .0 .inside) (c .before .before .before .before .before .before .before .pre .1 .1 .0) }
-
-put-line-requires-2 : tie.Need-put-line-requires-2 Inv-loop μ-loop
-put-line-requires-2 c κs = line-room _ _ _ _ _ _ _ _ _ _ (c .before .before .before .loop .inv .0) (omega (arith, c .before .before .before .loop .inv .0 .inside)) (c .before .before .before .before .before .before .before .pre .1 .1 .1)
+feed-short-requires : tie.Need-feed-short-requires Inv-loop μ-loop
+feed-short-requires c κs = (number-room _ _ _ _ _ _ _ _ _ _ (c .before .before .before .loop .inv .0) (c .before .before .before .loop .inv .0 .inside) (c .before .before .before .before .before .before .before .pre .1 .1 .0), line-room _ _ _ _ _ _ _ _ _ _ (c .before .before .before .loop .inv .0) (omega (arith, c .before .before .before .loop .inv .0 .inside)) (c .before .before .before .before .before .before .before .pre .1 .1 .1))
 
 returns-3 : tie.Need-returns-3 Inv-loop μ-loop
-returns-3 c = short-left _ _ _ _ _ _ _ _ _ _ (c .before .before .before .before .before .before .loop .inv .0) _ refl _ _ (omega (arith, c .before .before .before .before .before .before .loop .inv .0 .inside)) (omega arith) (c .before .before .before .before .before .before .before .before .before .before .pre .1 .1 .1) (c .before .before .put-line2 .ensures .0) (c .before .before .put-line2 .ensures .1 .0) (c .before .before .put-line2 .ensures .1 .1)
+returns-3 c = short-left _ _ _ _ _ _ _ _ _ _ (c .before .before .before .before .before .before .loop .inv .0) _ _ _ _ (omega (arith, c .before .before .before .before .before .before .loop .inv .0 .inside)) (omega arith) (c .before .before .before .before .before .before .before .before .before .before .pre .1 .1 .1) (c .before .before .feed-short .ensures)
 
 pub feed-spec : {M : Type 1} → statement M
 feed-spec =
@@ -71,8 +68,7 @@ feed-spec =
     (λ c. search needs)
     (λ c. search needs)
     returns-2
-    add-put-line-2
-    put-line-requires-2
+    feed-short-requires
     (λ c. search needs)
     (λ c. search needs)
     returns-3)
