@@ -79,8 +79,10 @@ fn put_answer(out: &mut [u8], at: usize, a: Answer) -> usize
     ensures { λ r. ⌜ r ≤ at + most-end ⌝ }
     ensures { λ _. ⌜ now (out .exit) ≡ written (now (out .entry)) at (answer-text a) ⌝ }
 {
-    let task = put_field(out, at, kind_of(a));
-    let end = put_field(out, task, task_of(a));
+    let kind = kind_of(a);
+    let task = task_of(a);
+    let next = put_field(out, at, kind);
+    let end = put_field(out, next, task);
     put_byte(out, end, NEWLINE)
 }
 
