@@ -3,7 +3,7 @@ use mathlib.Core.Path.{_≡_, refl, sym, ap, _∙_}
 use mathlib.Core.List.{List, [], _∷_, _++_, append-nil, append-assoc}
 use mathlib.Core.Bool.{Bool, true, false}
 use mathlib.Core.Logic.{_≢_}
-use Prim.Native.Nat.{ℕ, zero, suc, _+_, _*_, _%_, _<_, _≤_}
+use Prim.Native.Nat.{ℕ, suc, _+_, _%_, _<_, _≤_}
 use native.Mathlib.Nat.{add-zero, zero-add}
 use native.Mathlib.Omega.{arith}
 use borrow.Author.Tests.{ltb-true, ltb-false}
@@ -137,7 +137,7 @@ is-refusal Verdict.Fine = false
 is-refusal (Verdict.Refused r) = true
 
 -- a refusal is not fine
-never-fine : (r : Refusal) → Verdict.Refused r ≡ Verdict.Fine → ⊥
+pub never-fine : (r : Refusal) → Verdict.Refused r ≡ Verdict.Fine → ⊥
 never-fine r e = let z : _≡_ {A = ℕ} 0 1 = cc in omega arith
 
 -- what is printed for one buffer, followed by what is printed for the next

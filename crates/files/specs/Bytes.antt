@@ -4,22 +4,18 @@ use mathlib.Core.List.{List, [], _∷_, _++_, append-nil}
 use mathlib.Core.Bool.{Bool, true, false, not, Bool·beq}
 use Prim.Native.Nat.{ℕ, zero, suc, _+_, _*_, _%_, _<_, _≤_}
 use native.Mathlib.Nat.{le-refl, add-comm}
-use native.Mathlib.Numerals.{add-one}
 use native.Mathlib.Omega.{arith}
 use borrow.Author.Tests.{eqb-true, eqb-false, ltb-true, ltb-false, le-ltb}
 use lib.Dec.{eqb, ltb}
 use lib.ListN.{length, getD, drop, length-append, length-drop, List·getD-append}
 use lib.Seq.{drop-cons}
-use Rattle.paper.specs.Image.{most-words, begin, start, total}
 use Rattle.paper.specs.Plans.{plan-tasks, segment-length, program-length, program-start, segment-words, plan-shape}
 use Rattle.paper.specs.Numbers.{refused-if, out-of-range, plan-broken, check-plan}
 use Rattle.paper.specs.Runner.{word, words-of, check-file}
-use Rattle.paper.specs.declared.Part.{Part}
-use Rattle.paper.specs.declared.Shape.{Shape}
 use Rattle.paper.specs.declared.Refusal.{Refusal}
 use Rattle.paper.specs.declared.Verdict.{Verdict}
 use Rattle.laws.specs.Layout.{total-is}
-use Rattle.laws.specs.Fresh.{Planned, planned}
+use Rattle.laws.specs.Fresh.{planned}
 
 -- two bytes are a word, fewer are none
 pub words-step : (bytes : List ℕ) (k : ℕ) → k + 2 ≤ length bytes

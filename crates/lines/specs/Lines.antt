@@ -3,11 +3,10 @@ use mathlib.Core.Path.{_≡_, refl, sym, ap, _∙_}
 use mathlib.Core.List.{List, [], _∷_, _++_, append-assoc}
 use mathlib.Core.Bool.{Bool, true, false, cond}
 use Prim.Native.Nat.{ℕ, zero, suc, _+_, _*_, _/_, _%_, _<_, _≤_}
-use native.Mathlib.Nat.{le-refl}
 use native.Mathlib.Numerals.{add-one}
 use native.Mathlib.Omega.{arith}
 use borrow.Author.Tests.{ltb-true, ltb-false, lt-ltb, le-ltb}
-use lib.Dec.{ltb, lit<}
+use lib.Dec.{ltb}
 use lib.ListN.{length, getD, set, take, length-append}
 use lib.Seq.{length-take-le, take-suc, take-all}
 use Rattle.paper.specs.Numbers.{number, kind, answer-task}
@@ -15,7 +14,7 @@ use Rattle.paper.specs.Runner.{digit, last-digits, decimal, space, newline, ref
 use Rattle.paper.specs.declared.Answer.{Answer}
 use Rattle.paper.specs.declared.Refusal.{Refusal}
 use Rattle.paper.specs.declared.Reply.{Reply}
-use Rattle.writes.specs.Written.{written, written-one, written-on, kept-length}
+use Rattle.writes.specs.Written.{written, written-one, written-on}
 
 -- the most bytes of a line, and of its part after an event's number
 abbrev pub most-line : ℕ

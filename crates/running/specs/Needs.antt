@@ -6,11 +6,10 @@ use borrow.Author.Tests.{eq-eqb}
 use lib.ListN.{length}
 use Rattle.paper.specs.Image.{total}
 use Rattle.paper.specs.Plans.{plan-shape, fresh}
-use Rattle.paper.specs.Numbers.{check-plan, check-build}
+use Rattle.paper.specs.Numbers.{check-build}
 use Rattle.paper.specs.Calls.{built}
 use Rattle.paper.specs.Promises.{Builds}
 use Rattle.paper.specs.declared.Shape.{Shape}
-use Rattle.paper.specs.declared.Verdict.{Verdict}
 use Rattle.laws.specs.Fresh.{planned, fresh-good}
 use Rattle.laws.specs.Stays.{Lawful, lawful}
 use Rattle.parts.specs.Needs.{Plan}

@@ -3,7 +3,6 @@ use mathlib.Core.Path.{_≡_, refl, _∙_}
 use Prim.Native.Nat.{_-_}
 use native.Mathlib.Omega.{arith}
 use lib.ListN.{length}
-use Rattle.writes.specs.Written.{kept-length}
 use Rattle.feeding.specs.Needs.{Going, going-start, line-room, number-room, events-end, short-left, event-accepted, event-refused}
 use borrow.Author.Needs.{needs}
 use Rattle.feeding.proofs.feed.Statement.{statement}

@@ -1,6 +1,5 @@
 -- Assumes nothing.
 use Rattle.files.specs.Bytes.{odd-after}
-use borrow.Author.Needs.{needs}
 use Rattle.files.proofs.is_odd.Statement.{statement}
 use Rattle.files.proofs.is_odd.Tie as tie
 

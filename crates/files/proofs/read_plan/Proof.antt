@@ -1,6 +1,5 @@
 -- Assumes nothing.
 use mathlib.Core.Path.{sym}
-use native.Mathlib.Omega.{arith}
 use lib.Seq.{length-take-le}
 use Rattle.files.specs.Needs.{few-bytes, words-inside, words-taken, plan-read}
 use borrow.Author.Needs.{needs}

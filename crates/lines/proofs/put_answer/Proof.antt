@@ -6,7 +6,6 @@ use borrow.Author.Needs.{needs}
 use Rattle.lines.proofs.put_answer.Statement.{statement}
 use Rattle.lines.proofs.put_answer.Tie as tie
 
-
 put-field-requires : tie.Need-put-field-requires
 put-field-requires c κs = omega (arith, kind-short (c .before .before .before .before .args .a) _ (c .before .before .kind-of .ensures))
 

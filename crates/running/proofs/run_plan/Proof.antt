@@ -1,6 +1,5 @@
 -- Assumes nothing.
 use mathlib.Core.Path.{sym, _∙_}
-use native.Mathlib.Omega.{arith}
 use lib.Seq.{length-take-le}
 use Rattle.plans.specs.Needs.{fine-ranged}
 use Rattle.running.specs.Needs.{image-fits}
