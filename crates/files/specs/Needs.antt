@@ -11,7 +11,7 @@ use Rattle.paper.specs.Numbers.{check-plan}
 use Rattle.paper.specs.Runner.{word, words-of}
 use Rattle.paper.specs.declared.Verdict.{Verdict}
 use Rattle.writes.specs.Written.{written, written-none, written-one, written-on, kept-length}
-use Rattle.files.specs.Bytes.{words-step, words-end, words-length, Decides, enough, decides-more}
+use Rattle.files.specs.Bytes.{words-step, words-end, words-length, accepted-length, Rest, Decides, enough, decides-more}
 
 -- k words are written, of the bytes before place at; what is left to write makes the whole
 pub record Words (o bytes out : List ℕ) (k at : ℕ) : Type 0 where
@@ -53,7 +53,9 @@ pub record ReadsPlan (asked : ℕ) (bytes : List ℕ) (is-odd : Bool) (target af
   pub made : after ≡ written target 0 (words-of bytes)
   pub decides : Decides asked bytes is-odd v
   pub inside : count ≤ length after
+  -- where it is accepted, these words are a plan, and the whole file
   pub passes : v ≡ Verdict.Fine → check-plan (take count after) ≡ Verdict.Fine
+  pub whole : v ≡ Verdict.Fine → (rest : List ℕ) → Rest asked bytes rest is-odd → rest ≡ []
 
 -- the bytes found are no more than the target holds as words
 pub few-bytes : (buffer : List ℕ) (found : ℕ) (target : List ℕ) → found ≤ length buffer → length buffer < 2 * length target + 2
@@ -75,4 +77,13 @@ module _ (buffer : List ℕ) (found : ℕ) (target after : List ℕ) (count : �
   pub plan-read : (is-odd : Bool) (v : Verdict) → enough ≤ length buffer → Decides enough (take found buffer) is-odd v
       → (v ≡ Verdict.Fine → check-plan (take count after) ≡ Verdict.Fine) → ReadsPlan (length buffer) (take found buffer) is-odd target after count v
   plan-read is-odd v l d f =
-      record { counted = ec; made = ea; decides = decides-more (length buffer) l (take found buffer) is-odd v d; inside = words-inside; passes = f }
+      record {
+        counted = ec;
+        made = ea;
+        decides = decides-more (length buffer) l (take found buffer) is-odd v d;
+        inside = words-inside;
+        passes = f;
+        whole = λ e rest r.
+            let short = accepted-length (words-of (take found buffer)) (rw words-taken at (f e)) in
+            r .ended (omega (arith, short, words-length (take found buffer)));
+      }

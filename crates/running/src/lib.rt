@@ -43,13 +43,15 @@ const TEXT_BYTES: usize = MOST_LINE * (EVENTS + 1);
 // More buffers than any file fills.
 const BUFFERS_END: u64 = 1125899906842624;
 
-// The number of the first event.
+// The number of the first event, and that of a refused plan.
 const FIRST_EVENT: u64 = 1;
+
+const REFUSED_PLAN: u64 = 0;
 
 // Prints the line of a refused plan.
 fn print_refused(r: Refusal) {
     let mut text = [0u8; MOST_LINE];
-    let end = put_line(&mut text, 0, 0, Reply::Refused(r));
+    let end = put_line(&mut text, 0, REFUSED_PLAN, Reply::Refused(r));
     io::write_all(STDOUT_FILENO, &text[..end]);
 }
 
