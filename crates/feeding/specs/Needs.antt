@@ -1,5 +1,5 @@
 -- What the calls of this crate ask and make, as laws over values. Assumes nothing.
-use mathlib.Core.Path.{_≡_, refl, _∙_}
+use mathlib.Core.Path.{_≡_, refl, sym, _∙_}
 use mathlib.Core.List.{List}
 use Prim.Native.Nat.{ℕ, _+_, _*_, _/_, _%_, _<_, _≤_}
 use native.Mathlib.Nat.{add-zero}
@@ -125,6 +125,20 @@ module _ (s : Shape) (first : List ℕ) (n : ℕ) (bytes o : List ℕ) where
               fits = omega (arith, line-room (omega arith) room, g .kept);
               few = omega (arith, g .place);
             }
+
+-- the promise allows one outcome alone
+pub feeds-once : (s : Shape) (first : List ℕ) (n : ℕ) (bytes o : List ℕ) (im im′ out out′ : List ℕ) (text text′ taken taken′ : ℕ) (stop stop′ : Verdict)
+    → Feeds s first n bytes o im out text taken stop → Feeds s first n bytes o im′ out′ text′ taken′ stop′
+    → (im ≡ im′) × (out ≡ out′) × (text ≡ text′) × (taken ≡ taken′) × (stop ≡ stop′)
+feeds-once s first n bytes o im im′ out out′ text text′ taken taken′ stop stop′ f g =
+    let p = f .prints in
+    let q = g .prints in (
+      p .leaves ∙ sym (q .leaves),
+      p .made ∙ sym (q .made),
+      p .counted ∙ sym (q .counted),
+      p .number ∙ sym (q .number),
+      p .stops ∙ sym (q .stops),
+    )
 
 -- the event whose words are read
 module _ (s : Shape) (bytes : List ℕ) (at k d c : ℕ) (ek : k ≡ word (getD bytes at 0) (getD bytes (at + 1) 0))

@@ -1,7 +1,7 @@
 -- What the calls of this crate ask and make, as laws over values. Assumes nothing.
 use mathlib.Core.Path.{_≡_, refl, sym, ap, _∙_}
 use mathlib.Core.List.{List, [], _∷_, _++_}
-use mathlib.Core.Bool.{Bool}
+use mathlib.Core.Bool.{Bool, true, false}
 use Prim.Native.Nat.{ℕ, _+_, _*_, _<_, _≤_}
 use native.Mathlib.Nat.{zero-add}
 use native.Mathlib.Omega.{arith}
@@ -87,3 +87,16 @@ module _ (buffer : List ℕ) (found : ℕ) (target after : List ℕ) (count : �
             let short = accepted-length (words-of (take found buffer)) (rw words-taken at (f e)) in
             r .ended (omega (arith, short, words-length (take found buffer)));
       }
+
+-- where the rest has an odd count of bytes only if all that were asked for were found, there is such a file
+some-rest : (asked : ℕ) (bytes : List ℕ) (is-odd : Bool) → (is-odd ≡ true → asked ≤ length bytes) → (rest : List ℕ) × Rest asked bytes rest is-odd
+some-rest asked bytes true h = (0 ∷ [], record { parity = refl; ended = λ l. absurd (omega (arith, h refl)) })
+some-rest asked bytes false h = ([], record { parity = refl; ended = λ l. refl })
+
+-- so the promise allows one outcome alone
+pub plan-once : (asked : ℕ) (bytes : List ℕ) (is-odd : Bool) → (is-odd ≡ true → asked ≤ length bytes)
+    → (target a b : List ℕ) (j k : ℕ) (v w : Verdict) → ReadsPlan asked bytes is-odd target a j v → ReadsPlan asked bytes is-odd target b k w
+    → (a ≡ b) × (j ≡ k) × (v ≡ w)
+plan-once asked bytes is-odd h target a b j k v w p q =
+    let r = some-rest asked bytes is-odd h in
+    (p .made ∙ sym (q .made), p .counted ∙ sym (q .counted), p .decides (r .0) (r .1) ∙ sym (q .decides (r .0) (r .1)))

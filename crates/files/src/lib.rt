@@ -1,5 +1,6 @@
 // A plan's file: its words, and the verdict on it.
 ghost use mathlib.Core.Path.{_≡_};
+ghost use mathlib.Core.Bool.{true};
 ghost use Prim.Native.Nat.{_+_, _*_, _<_, _≤_};
 ghost use lib.ListN.{length, take};
 ghost use Rattle.paper.specs.Runner.{word as word-by, words-of};
@@ -66,11 +67,12 @@ fn file_verdict(bytes: &[u8], words: &[u16], odd: bool) -> Verdict
     verdict(words)
 }
 
-// Reads a plan's file: the words of the bytes that were found for the buffer, and the verdict on the whole file.
+// Reads a plan's file: the words of the bytes that were found for the buffer, and the verdict on the whole file, whose rest has an odd count of bytes or not.
 pub fn read_plan(buffer: &[u8], found: usize, odd: bool, words: &mut [u16]) -> PlanRead
     requires { ⌜ found ≤ length (now buffer) ⌝ }
     requires { ⌜ enough ≤ length (now buffer) ⌝ }
     requires { ⌜ length (now buffer) < 2 * length (now words) + 2 ⌝ }
+    requires { ⌜ (odd ≡ true → length (now buffer) ≤ found) ⌝ }
     ensures { λ r. ⌜ ReadsPlan (length (now (buffer .entry))) (take found (now (buffer .entry))) odd (now (words .entry)) (now (words .exit)) (r .words) (r .verdict) ⌝ }
 {
     let bytes = &buffer[..found];

@@ -1,5 +1,7 @@
 // One run: reads a plan's file and a file of events, and prints a line for each event.
 ghost use mathlib.Core.Path.{_≡_};
+ghost use mathlib.Core.Bool.{true};
+ghost use Prim.Native.Nat.{_≤_};
 ghost use lib.ListN.{length};
 ghost use Rattle.paper.specs.Image.{total};
 ghost use Rattle.paper.specs.Numbers.{check-plan};
@@ -99,15 +101,20 @@ fn run_plan(plan: &[u16], fd: i32)
     run_fresh(s, plan, &mut image[..size], fd);
 }
 
-// Whether a file has an odd count of bytes left, read to its end.
-fn rest_is_odd(fd: i32) -> bool {
+// Whether a file has an odd count of bytes left, read to its end; it has ended where fewer bytes were found than asked for.
+fn rest_is_odd(fd: i32, found: usize, asked: usize) -> bool
+    ensures { λ r. ⌜ (r ≡ true → asked ≤ found) ⌝ }
+{
+    if found < asked {
+        return false;
+    }
     let mut buffer = io::large_buffer();
     let mut odd = false;
     let mut turns = BUFFERS_END;
     while turns > 0 {
-        let found = io::read_full(fd, &mut buffer);
-        odd = is_odd(odd, found);
-        if found < buffer.len() {
+        let more = io::read_full(fd, &mut buffer);
+        odd = is_odd(odd, more);
+        if more < buffer.len() {
             return odd;
         }
         turns -= 1;
@@ -119,7 +126,7 @@ fn rest_is_odd(fd: i32) -> bool {
 fn run(plan_fd: i32, events_fd: i32) {
     let mut buffer = [0u8; PLAN_BYTES];
     let found = io::read_full(plan_fd, &mut buffer);
-    let odd = rest_is_odd(plan_fd);
+    let odd = rest_is_odd(plan_fd, found, PLAN_BYTES);
     let mut words = [0u16; PLAN_WORDS];
     let plan = read_plan(&buffer, found, odd, &mut words);
     let count = plan.words;

@@ -7,7 +7,7 @@ use Rattle.running.proofs.run.Statement.{statement}
 use Rattle.running.proofs.run.Tie as tie
 
 read-plan-requires : tie.Need-read-plan-requires
-read-plan-requires c κs = (c .before .before .before .before .read-full .ensures .0, (omega arith, omega arith))
+read-plan-requires c κs = (c .before .before .before .before .read-full .ensures .0, (omega arith, (omega arith, λ o. omega (arith, c .before .before .rest-is-odd .ensures o))))
 
 array-share-prefix-words : tie.Need-array-share-prefix-words
 array-share-prefix-words c = c .before .before .before .read-plan .ensures .inside
