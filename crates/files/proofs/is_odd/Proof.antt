@@ -1,0 +1,13 @@
+-- Assumes nothing.
+use Rattle.files.specs.Bytes.{odd-after}
+use Rattle.files.proofs.is_odd.Statement.{statement}
+use Rattle.files.proofs.is_odd.Tie as tie
+
+returns : tie.Need-returns
+returns c = odd-after _ _
+
+pub is-odd-spec : {M : Type 1} → statement M
+is-odd-spec =
+    tie.close
+    (tie.spec
+    returns)

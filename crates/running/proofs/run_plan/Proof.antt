@@ -1,0 +1,31 @@
+-- Assumes nothing.
+use mathlib.Core.Path.{sym, _∙_}
+use lib.Seq.{length-take-le}
+use Rattle.plans.specs.Needs.{fine-ranged}
+use Rattle.running.specs.Needs.{image-fits}
+use borrow.Author.Needs.{needs}
+use Rattle.running.proofs.run_plan.Statement.{statement}
+use Rattle.running.proofs.run_plan.Tie as tie
+
+shape-of-plan-requires : tie.Need-shape-of-plan-requires
+shape-of-plan-requires c κs = fine-ranged _ (c .before .pre)
+
+array-borrow-prefix-image : tie.Need-array-borrow-prefix-image
+array-borrow-prefix-image c = image-fits _ _ (record { shape = c .before .shape-of-plan .ensures .0; fine = c .before .before .before .pre }) _ (c .total-of .ensures)
+
+slice-aggregate-run-fresh : tie.Need-slice-aggregate-run-fresh
+slice-aggregate-run-fresh c = sym (length-take-le _ _ (image-fits _ _ (record { shape = c .before .before .shape-of-plan .ensures .0; fine = c .before .before .before .before .pre }) _ (c .before .total-of .ensures)))
+
+run-fresh-requires : tie.Need-run-fresh-requires
+run-fresh-requires c κs = (record { shape = c .before .before .shape-of-plan .ensures .0; fine = c .before .before .before .before .pre }, length-take-le _ _ (image-fits _ _ (record { shape = c .before .before .shape-of-plan .ensures .0; fine = c .before .before .before .before .pre }) _ (c .before .total-of .ensures)) ∙ c .before .total-of .ensures)
+
+pub run-plan-spec : {M : Type 1} → statement M
+run-plan-spec =
+    tie.close
+    (tie.spec
+    shape-of-plan-requires
+    (λ c κs. search needs)
+    array-borrow-prefix-image
+    slice-aggregate-run-fresh
+    run-fresh-requires
+    (λ c. search needs))
