@@ -1,0 +1,4 @@
+pub mod Answers
+pub mod Promises
+pub mod Once
+pub mod Needs
