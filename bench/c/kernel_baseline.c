@@ -22,7 +22,7 @@ enum { READY, WAITS_TO_SEND, WAITS_TO_RECEIVE, WAITS_FOR_INPUT, WAITS_FOR_OUTPUT
 
 enum { SEND = 1, RECEIVE, INPUT, OUTPUT };
 
-enum { TICK, INPUT_EVENT, OUTPUT_DONE_EVENT };
+enum { INPUT_EVENT = 1, OUTPUT_DONE_EVENT };
 
 enum {
     UNDER_HEADER = 1,
@@ -67,8 +67,7 @@ struct layout {
 /* Where the parts stand for the five words N, S, CI, CO, CM, if each is in its range. */
 static inline bool lay_out(const word *frame, struct layout *l) {
     uint32_t n = frame[0], s = frame[1], ci = frame[2], co = frame[3], cm = frame[4];
-    if (n - 1 >= MOST_TASKS || s == 0 || ci - 1 >= MOST_CAPACITY || co - 1 >= MOST_CAPACITY ||
-        cm - 1 >= MOST_CAPACITY)
+    if (n - 1 >= MOST_TASKS || s == 0 || ci - 1 >= MOST_CAPACITY || co - 1 >= MOST_CAPACITY || cm - 1 >= MOST_CAPACITY)
         return false;
     l->tasks = n;
     l->slice = s;
@@ -88,9 +87,8 @@ static inline bool lay_out(const word *frame, struct layout *l) {
 }
 
 static inline bool offsets_packed(const word *o, const struct layout *l) {
-    return o[0] == l->rows && o[1] == l->ready && o[2] == l->status && o[3] == l->inputs &&
-           o[4] == l->outputs && o[5] == l->messages && o[6] == l->ports && o[7] == l->segments &&
-           o[8] == l->first_segment;
+    return o[0] == l->rows && o[1] == l->ready && o[2] == l->status && o[3] == l->inputs && o[4] == l->outputs &&
+           o[5] == l->messages && o[6] == l->ports && o[7] == l->segments && o[8] == l->first_segment;
 }
 
 /* Whether the segments follow one another to T, and the image ends there. */
@@ -135,8 +133,7 @@ static inline bool holds_characters(const word *q, uint32_t capacity) {
     if (length == 0)
         return true;
     uint32_t before = length < most ? length : most;
-    return (bits_of(q + SLOTS + head, before) | bits_of(q + SLOTS, length - before)) <=
-           LARGEST_CHARACTER;
+    return (bits_of(q + SLOTS + head, before) | bits_of(q + SLOTS, length - before)) <= LARGEST_CHARACTER;
 }
 
 static inline bool character_queues_stand(const word *q, uint32_t count, uint32_t capacity) {
@@ -384,9 +381,13 @@ static inline void leave(const struct layout *l, word *im, uint32_t first, word 
     im[CLOCK] = (word)(ready[LENGTH] == 0 ? 0 : l->slice);
 }
 
-static inline void pass_turn(const struct layout *l, word *im) {
+/* The first task is taken and appended, so that the length stays. */
+static inline void pass_turn(const struct layout *l, word *im, uint32_t first) {
     word *ready = im + l->ready;
-    append(ready, l->tasks, take(ready, l->tasks));
+    uint32_t tail = ready[TAIL];
+    ready[HEAD] = (word)step(ready[HEAD], l->tasks);
+    ready[SLOTS + tail] = (word)first;
+    ready[TAIL] = (word)step(tail, l->tasks);
     im[CLOCK] = (word)l->slice;
 }
 
@@ -474,19 +475,14 @@ static inline struct told serve(const struct layout *l, word *im, word *row, uin
     }
 }
 
-/* A tick by rules 1 to 4. */
-static inline struct told tick(const struct layout *l, word *im) {
-    const word *ready = im + l->ready;
-    if (ready[LENGTH] == 0)
-        return answered(IDLE, 0);
-    uint32_t first = ready[SLOTS + ready[HEAD]];
-    word *row = im + l->rows + ROW_WORDS * first;
+/* A tick by rules 2 to 4, for the first task. */
+static inline struct told other_tick(const struct layout *l, word *im, word *row, uint32_t first) {
     if (unlikely(row[FLAGS] / ERROR_UNIT % 8 != 0)) {
         leave(l, im, first, STOPPED, 0);
         return answered(ERROR_STOP, first);
     }
     if (im[CLOCK] == 0) {
-        pass_turn(l, im);
+        pass_turn(l, im, first);
         return answered(TURN_PASSED, first);
     }
     return serve(l, im, row, first);
@@ -519,10 +515,8 @@ static inline struct told output_done(const struct layout *l, word *im, uint32_t
     return answered(OUTPUT_DONE, device);
 }
 
-/* Any event but a tick that carries out an order. */
-static inline struct told happen(const struct layout *l, word *im, word kind, word device, word character) {
-    if ((kind | device | character) == 0)
-        return tick(l, im);
+/* Any event but a tick. */
+static inline struct told report(const struct layout *l, word *im, word kind, word device, word character) {
     if (kind == INPUT_EVENT && device < l->tasks && character <= LARGEST_CHARACTER)
         return input(l, im, device, character);
     if (kind == OUTPUT_DONE_EVENT && device < l->tasks && character == 0)
@@ -530,215 +524,210 @@ static inline struct told happen(const struct layout *l, word *im, word kind, wo
     return refused(MALFORMED_EVENT);
 }
 
-static inline bool is_tick(const word *event) {
-    return (event[0] | event[1] | event[2]) == 0;
-}
-
-/* Sets Ra to a value; R0 is where the task goes on. */
-#define RESULT(value)                        \
-    do {                                     \
-        uint32_t result = (word)(value);     \
-        row[a] = (word)result;               \
-        pc = likely(a != NEXT) ? next : result; \
+/* Carries on at the next order, unless the ticks are used up. */
+#define GO_ON()                                                                                                        \
+    do {                                                                                                               \
+        if (unlikely(taken == most))                                                                                   \
+            return taken;                                                                                              \
+        taken++;                                                                                                       \
+        if (unlikely(pc >= length))                                                                                    \
+            goto bad_address;                                                                                          \
+        order = segment[pc];                                                                                           \
+        a = order >> 4 & 7;                                                                                            \
+        b = order & 7;                                                                                                 \
+        next = pc + 1;                                                                                                 \
+        goto *SHAPES[order >> 8];                                                                                      \
     } while (0)
 
-/* Whether any of these bits of the low byte is set. */
-#define BAD_FIELDS(bits) unlikely((order & (bits)) != 0)
+/* Refuses an order in which any of these bits of the low byte is set. */
+#define UNUSED(bits)                                                                                                   \
+    do {                                                                                                               \
+        if (unlikely((order & (bits)) != 0))                                                                           \
+            goto bad_order;                                                                                            \
+    } while (0)
+
+/* Refuses an address outside the segment. */
+#define INSIDE(address)                                                                                                \
+    do {                                                                                                               \
+        if (unlikely((address) >= length))                                                                             \
+            goto bad_address;                                                                                          \
+    } while (0)
+
+/* Sets Ra and carries on, at Ra where it is R0. */
+#define RESULT(value)                                                                                                  \
+    do {                                                                                                               \
+        row[a] = (word)(value);                                                                                        \
+        if (unlikely(a == NEXT))                                                                                       \
+            goto jumped;                                                                                               \
+        pc = next;                                                                                                     \
+        GO_ON();                                                                                                       \
+    } while (0)
+
+/* Tests an order of two registers and moves R0 past it. */
+#define TWO_REGISTERS()                                                                                                \
+    do {                                                                                                               \
+        UNUSED(0x88);                                                                                                  \
+        row[NEXT] = (word)next;                                                                                        \
+    } while (0)
 
 /*
- * The orders of the first task, one a tick, while its clock runs and ticks come.
+ * The orders of the first task, one a tick, for at most so many ticks.
  * It must have no error and nothing pending. Gives how many ticks were taken.
  */
-static inline size_t orders(word *restrict row, word *restrict segment, uint32_t length, word *restrict clock,
-                            const word *restrict list, size_t count) {
-    uint32_t pc = row[NEXT], cc = row[FLAGS], error;
-    size_t most = *clock < count ? *clock : count;
-    for (size_t taken = 0; taken < most; taken++, list += EVENT_WORDS) {
-        if (unlikely(!is_tick(list)))
-            return taken;
-        (*clock)--;
-        if (unlikely(pc >= length)) {
-            row[FLAGS] = (word)(cc + ERROR_UNIT * ADDRESS_ERROR);
-            return taken + 1;
-        }
-        uint32_t order = segment[pc], a = order >> 4 & 7, b = order & 7, next = pc + 1;
-        switch (order >> 8) {
-        case 1:
-            if (BAD_FIELDS(0x8F))
-                goto bad_order;
-            if (unlikely(next >= length))
-                goto bad_address;
-            next++;
-            row[NEXT] = (word)next;
-            RESULT(segment[pc + 1]);
-            continue;
-        case 2:
-            if (BAD_FIELDS(0x88))
-                goto bad_order;
-            row[NEXT] = (word)next;
-            RESULT(row[b]);
-            continue;
-        case 3: {
-            if (BAD_FIELDS(0x88))
-                goto bad_order;
-            row[NEXT] = (word)next;
-            uint32_t address = row[b];
-            if (unlikely(address >= length))
-                goto bad_address;
-            RESULT(segment[address]);
-            continue;
-        }
-        case 4: {
-            if (BAD_FIELDS(0x88))
-                goto bad_order;
-            row[NEXT] = (word)next;
-            uint32_t address = row[b];
-            if (unlikely(address >= length))
-                goto bad_address;
-            segment[address] = row[a];
-            pc = next;
-            continue;
-        }
-        case 5:
-            if (BAD_FIELDS(0x88))
-                goto bad_order;
-            row[NEXT] = (word)next;
-            RESULT((uint32_t)row[a] + row[b]);
-            continue;
-        case 6:
-            if (BAD_FIELDS(0x88))
-                goto bad_order;
-            row[NEXT] = (word)next;
-            RESULT((uint32_t)row[a] - row[b]);
-            continue;
-        case 7:
-            if (BAD_FIELDS(0x88))
-                goto bad_order;
-            row[NEXT] = (word)next;
-            RESULT((uint32_t)row[a] * row[b]);
-            continue;
-        case 8:
-        case 9: {
-            if (BAD_FIELDS(0x88))
-                goto bad_order;
-            row[NEXT] = (word)next;
-            uint32_t left = row[a], right = row[b];
-            if (unlikely(right == 0)) {
-                error = DIVISOR_ERROR;
-                goto faulted;
-            }
-            RESULT(order >> 8 == 8 ? left / right : left % right);
-            continue;
-        }
-        case 10:
-            if (BAD_FIELDS(0x88))
-                goto bad_order;
-            row[NEXT] = (word)next;
-            RESULT(row[a] & row[b]);
-            continue;
-        case 11:
-            if (BAD_FIELDS(0x88))
-                goto bad_order;
-            row[NEXT] = (word)next;
-            RESULT(row[a] | row[b]);
-            continue;
-        case 12:
-            if (BAD_FIELDS(0x88))
-                goto bad_order;
-            row[NEXT] = (word)next;
-            RESULT(row[a] ^ row[b]);
-            continue;
-        case 13: {
-            if (BAD_FIELDS(0x88))
-                goto bad_order;
-            row[NEXT] = (word)next;
-            uint32_t left = row[a], right = row[b];
-            cc = (uint32_t)(left != right) + (left > right);
-            row[FLAGS] = (word)cc;
-            pc = next;
-            continue;
-        }
-        case 14:
-            if (BAD_FIELDS(0xFF))
-                goto bad_order;
-            if (unlikely(next >= length))
-                goto bad_address;
-            pc = segment[next];
-            row[NEXT] = (word)pc;
-            continue;
-        case 15:
-            if (BAD_FIELDS(0xCF) || unlikely(a == 3))
-                goto bad_order;
-            if (unlikely(next >= length))
-                goto bad_address;
-            if (cc == a)
-                pc = segment[next];
-            else
-                pc = next + 1;
-            row[NEXT] = (word)pc;
-            continue;
-        case 16: {
-            if (BAD_FIELDS(0xFF))
-                goto bad_order;
-            uint32_t top = (word)(row[STACK] - 1u);
-            if (unlikely(next >= length) || unlikely(top >= length))
-                goto bad_address;
-            pc = segment[next];
-            segment[top] = (word)(next + 1);
-            row[STACK] = (word)top;
-            row[NEXT] = (word)pc;
-            continue;
-        }
-        case 17: {
-            if (BAD_FIELDS(0xFF))
-                goto bad_order;
-            uint32_t top = row[STACK];
-            if (unlikely(top >= length))
-                goto bad_address;
-            pc = segment[top];
-            row[STACK] = (word)(top + 1);
-            row[NEXT] = (word)pc;
-            continue;
-        }
-        case 18: {
-            if (BAD_FIELDS(0x0F))
-                goto bad_order;
-            uint32_t service = order >> 4 & 15;
-            if (unlikely(service - SEND > OUTPUT - SEND)) {
-                error = SERVICE_ERROR;
-                goto faulted;
-            }
-            row[NEXT] = (word)next;
-            row[FLAGS] = (word)(cc + PENDING_UNIT * service);
-            return taken + 1;
-        }
-        default:
-            goto bad_order;
-        }
-    bad_address:
-        error = ADDRESS_ERROR;
-        goto faulted;
-    bad_order:
-        error = ORDER_ERROR;
-    faulted:
+static size_t orders(word *restrict row, word *restrict segment, uint32_t length, size_t most) {
+    static const void *const SHAPES[256] = {
+        &&bad_order, &&load,     &&copy,      &&fetch,   &&store,
+        &&add,       &&subtract, &&multiply,  &&divide,  &&remainder,
+        &&and_,      &&or_,      &&xor_,      &&compare, &&jump,
+        &&jump_if,   &&call,     &&give_back, &&service, [19 ... 255] = &&bad_order,
+    };
+    uint32_t pc = row[NEXT], cc = row[FLAGS], error, order, a, b, next, address, n;
+    size_t taken = 0;
+    GO_ON();
+load:
+    UNUSED(0x8F);
+    INSIDE(next);
+    n = segment[next];
+    next++;
+    row[NEXT] = (word)next;
+    RESULT(n);
+copy:
+    TWO_REGISTERS();
+    RESULT(row[b]);
+fetch:
+    TWO_REGISTERS();
+    address = row[b];
+    INSIDE(address);
+    RESULT(segment[address]);
+store:
+    TWO_REGISTERS();
+    address = row[b];
+    INSIDE(address);
+    segment[address] = row[a];
+    pc = next;
+    GO_ON();
+add:
+    TWO_REGISTERS();
+    RESULT((uint32_t)row[a] + row[b]);
+subtract:
+    TWO_REGISTERS();
+    RESULT((uint32_t)row[a] - row[b]);
+multiply:
+    TWO_REGISTERS();
+    RESULT((uint32_t)row[a] * row[b]);
+divide:
+    TWO_REGISTERS();
+    if (unlikely(row[b] == 0))
+        goto bad_divisor;
+    RESULT(row[a] / row[b]);
+remainder:
+    TWO_REGISTERS();
+    if (unlikely(row[b] == 0))
+        goto bad_divisor;
+    RESULT(row[a] % row[b]);
+and_:
+    TWO_REGISTERS();
+    RESULT(row[a] & row[b]);
+or_:
+    TWO_REGISTERS();
+    RESULT(row[a] | row[b]);
+xor_:
+    TWO_REGISTERS();
+    RESULT(row[a] ^ row[b]);
+compare:
+    TWO_REGISTERS();
+    cc = (uint32_t)(row[a] != row[b]) + (row[a] > row[b]);
+    row[FLAGS] = (word)cc;
+    pc = next;
+    GO_ON();
+jump:
+    UNUSED(0xFF);
+    INSIDE(next);
+    pc = segment[next];
+    row[NEXT] = (word)pc;
+    GO_ON();
+jump_if:
+    UNUSED(0xCF);
+    if (unlikely(a == 3))
+        goto bad_order;
+    INSIDE(next);
+    if (cc == a) {
+        pc = segment[next];
         row[NEXT] = (word)pc;
-        row[FLAGS] = (word)(cc + ERROR_UNIT * error);
-        return taken + 1;
+        GO_ON();
     }
-    return most;
+    pc = next + 1;
+    row[NEXT] = (word)pc;
+    GO_ON();
+call:
+    UNUSED(0xFF);
+    INSIDE(next);
+    address = (word)(row[STACK] - 1u);
+    INSIDE(address);
+    pc = segment[next];
+    segment[address] = (word)(next + 1);
+    row[STACK] = (word)address;
+    row[NEXT] = (word)pc;
+    GO_ON();
+give_back:
+    UNUSED(0xFF);
+    address = row[STACK];
+    INSIDE(address);
+    pc = segment[address];
+    row[STACK] = (word)(address + 1);
+    row[NEXT] = (word)pc;
+    GO_ON();
+service:
+    UNUSED(0x0F);
+    n = order >> 4 & 15;
+    error = SERVICE_ERROR;
+    if (unlikely(n - SEND > OUTPUT - SEND))
+        goto faulted;
+    row[NEXT] = (word)next;
+    row[FLAGS] = (word)(cc + PENDING_UNIT * n);
+    return taken;
+jumped:
+    pc = row[NEXT];
+    GO_ON();
+bad_address:
+    error = ADDRESS_ERROR;
+    goto faulted;
+bad_order:
+    error = ORDER_ERROR;
+    goto faulted;
+bad_divisor:
+    error = DIVISOR_ERROR;
+faulted:
+    row[NEXT] = (word)pc;
+    row[FLAGS] = (word)(cc + ERROR_UNIT * error);
+    return taken;
 }
 
-/* Takes the ticks at the head of a list that carry out orders of the first task. Gives how many. */
-static inline size_t take_orders(const struct layout *l, word *im, const word *list, size_t count, uint32_t *first) {
+/* The first task, which there must be. */
+static inline uint32_t first_of(const struct layout *l, const word *im) {
     const word *ready = im + l->ready;
-    if (ready[LENGTH] == 0)
-        return 0;
-    uint32_t task = *first = ready[SLOTS + ready[HEAD]];
-    word *row = im + l->rows + ROW_WORDS * task;
+    return ready[SLOTS + ready[HEAD]];
+}
+
+/* Orders of the first task for at most so many ticks. Gives how many, 0 where another rule applies. */
+static inline size_t take_orders(const struct layout *l, word *im, word *row, uint32_t first, size_t most) {
     if (row[FLAGS] >= ERROR_UNIT)
         return 0;
-    const word *pair = im + l->segments + 2 * task;
-    return orders(row, im + pair[0], pair[1], im + CLOCK, list, count);
+    const word *pair = im + l->segments + 2 * first;
+    size_t clock = im[CLOCK];
+    size_t taken = orders(row, im + pair[0], pair[1], most < clock ? most : clock);
+    im[CLOCK] = (word)(clock - taken);
+    return taken;
+}
+
+static inline struct told one_tick(const struct layout *l, word *im) {
+    if (im[l->ready + LENGTH] == 0)
+        return answered(IDLE, 0);
+    uint32_t first = first_of(l, im);
+    word *row = im + l->rows + ROW_WORDS * first;
+    if (take_orders(l, im, row, first, 1) == 0)
+        return other_tick(l, im, row, first);
+    return answered(row[FLAGS] / ERROR_UNIT % 8 != 0 ? ORDER_FAULTED : ORDER_DONE, first);
 }
 
 struct told c_event(uint16_t *image, size_t words, uint16_t kind, uint16_t device, uint16_t character) {
@@ -746,12 +735,40 @@ struct told c_event(uint16_t *image, size_t words, uint16_t kind, uint16_t devic
     word number = inspect(image, words, &l);
     if (number != 0)
         return refused(number);
-    const word event[] = {kind, device, character};
-    uint32_t first;
-    if (take_orders(&l, image, event, 1, &first) == 0)
-        return happen(&l, image, kind, device, character);
-    bool faulted = image[l.rows + ROW_WORDS * first + FLAGS] / ERROR_UNIT % 8 != 0;
-    return answered(faulted ? ORDER_FAULTED : ORDER_DONE, first);
+    if ((kind | device | character) == 0)
+        return one_tick(&l, image);
+    return report(&l, image, kind, device, character);
+}
+
+/* So many ticks. Gives how many were taken, and the number. */
+static inline struct ran take_ticks(const struct layout *l, word *im, size_t count) {
+    size_t left = count;
+    while (im[l->ready + LENGTH] != 0) {
+        uint32_t first = first_of(l, im);
+        word *row = im + l->rows + ROW_WORDS * first;
+        left -= take_orders(l, im, row, first, left);
+        if (left == 0)
+            break;
+        word number = other_tick(l, im, row, first).number;
+        if (unlikely(number != 0))
+            return (struct ran){count - left, number};
+        left--;
+    }
+    return (struct ran){count, 0};
+}
+
+/* How many events at the head of a list are ticks. */
+static inline size_t ticks_ahead(const word *list, size_t count) {
+    size_t ticks = 0;
+    for (uint64_t four[EVENT_WORDS]; ticks + 4 <= count; ticks += 4) {
+        memcpy(four, list + EVENT_WORDS * ticks, sizeof four);
+        if ((four[0] | four[1] | four[2]) != 0)
+            break;
+    }
+    for (const word *event = list + EVENT_WORDS * ticks; ticks < count; ticks++, event += EVENT_WORDS)
+        if ((event[0] | event[1] | event[2]) != 0)
+            break;
+    return ticks;
 }
 
 struct ran c_run(uint16_t *image, size_t words, const uint16_t *list, size_t list_words) {
@@ -763,12 +780,13 @@ struct ran c_run(uint16_t *image, size_t words, const uint16_t *list, size_t lis
         return (struct ran){0, MALFORMED_EVENT};
     size_t taken = 0, count = list_words / EVENT_WORDS;
     for (;;) {
-        uint32_t first;
-        taken += take_orders(&l, image, list + EVENT_WORDS * taken, count - taken, &first);
-        if (taken == count)
-            return (struct ran){taken, 0};
+        size_t ticks = ticks_ahead(list + EVENT_WORDS * taken, count - taken);
+        struct ran ran = take_ticks(&l, image, ticks);
+        taken += ran.taken;
+        if (unlikely(ran.number != 0) || taken == count)
+            return (struct ran){taken, ran.number};
         const word *event = list + EVENT_WORDS * taken;
-        number = happen(&l, image, event[0], event[1], event[2]).number;
+        number = report(&l, image, event[0], event[1], event[2]).number;
         if (number != 0)
             return (struct ran){taken, number};
         taken++;

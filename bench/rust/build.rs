@@ -3,7 +3,7 @@ use std::env;
 use std::path::{Path, PathBuf};
 use std::process::Command;
 
-const FLAGS: [&str; 6] = ["-std=c11", "-O3", "-Wall", "-Wextra", "-Wconversion", "-Werror"];
+const FLAGS: [&str; 6] = ["-std=gnu11", "-O3", "-Wall", "-Wextra", "-Wconversion", "-Werror"];
 const SANITIZE: [&str; 3] = ["-fsanitize=address,undefined", "-fno-sanitize-recover=all", "-g"];
 
 fn main() {
