@@ -4,6 +4,7 @@
 
 mod check;
 mod events;
+mod kernel;
 mod layout;
 mod orders;
 mod plans;

@@ -1,30 +1,15 @@
 //! One event on an image, and a run over a list of events.
 
 use crate::check::inspect;
-use crate::layout::*;
+use crate::kernel::{refused, Kernel};
 use crate::numbers;
-use crate::orders::{orders, Event};
-use crate::services::{answered, refused, Kernel};
 use crate::{Ran, Told};
+use std::hint::cold_path;
 
-impl Kernel<'_> {
-    /// Takes the ticks at the head of a list that carry out orders of the
-    /// first task. Gives how many.
-    #[inline(always)]
-    fn take_orders(&mut self, events: &[Event]) -> usize {
-        let Some(first) = self.first() else { return 0 };
-        let pair = self.layout.segment(first);
-        let [base, length] = [pair, pair + 1].map(|place| usize::from(self.image[place]));
-        let place = self.layout.row(first);
-        let (header, rest) = self.image.split_at_mut(place);
-        let (row, rest) = rest.split_first_chunk_mut().expect("a row");
-        if row[FLAGS] >= ERROR_UNIT {
-            return 0;
-        }
-        let segment = &mut rest[base - place - ROW_WORDS..][..length];
-        orders(row, segment, &mut header[CLOCK], events)
-    }
-}
+/// The three words of an event.
+type Event = [u16; 3];
+
+const TICK: Event = [0, 0, 0];
 
 /// One event: kind, device, character.
 pub fn event(image: &mut [u16], kind: u16, device: u16, character: u16) -> Told {
@@ -32,14 +17,13 @@ pub fn event(image: &mut [u16], kind: u16, device: u16, character: u16) -> Told 
         Ok(layout) => layout,
         Err(number) => return refused(number),
     };
-    let mut kernel = Kernel { layout: &layout, image };
+    let mut kernel = Kernel::new(image, &layout);
     let event = [kind, device, character];
-    let first = kernel.first().unwrap_or(0);
-    if kernel.take_orders(&[event]) == 0 {
-        return kernel.happen(event);
+    if event == TICK {
+        kernel.tick()
+    } else {
+        kernel.report(event)
     }
-    let faulted = kernel.image[layout.row(first) + FLAGS] / ERROR_UNIT % 8 != 0;
-    answered(if faulted { answer::ORDER_FAULTED } else { answer::ORDER_DONE }, first)
 }
 
 /// A run over a list of events.
@@ -52,22 +36,54 @@ pub fn run(image: &mut [u16], list: &[u16]) -> Ran {
     if !rest.is_empty() {
         return Ran { taken: 0, number: numbers::MALFORMED_EVENT };
     }
-    take_events(Kernel { layout: &layout, image }, events)
+    take_events(Kernel::new(image, &layout), events)
 }
 
 /// Takes events up to the first refused one.
-#[inline]
+#[inline(always)]
 fn take_events(mut kernel: Kernel, events: &[Event]) -> Ran {
     let mut left = events;
     loop {
-        left = &left[kernel.take_orders(left)..];
+        let ticks = ticks_ahead(left);
+        let (unused, number) = take_ticks(&mut kernel, ticks);
+        left = &left[ticks - unused..];
+        if number != 0 {
+            return Ran { taken: (events.len() - left.len()) as u64, number };
+        }
         let Some((event, later)) = left.split_first() else {
             return Ran { taken: events.len() as u64, number: 0 };
         };
-        let number = kernel.happen(*event).number;
+        let number = kernel.report(*event).number;
         if number != 0 {
             return Ran { taken: (events.len() - left.len()) as u64, number };
         }
         left = later;
     }
+}
+
+/// How many events at the head of a list are ticks.
+#[inline(always)]
+fn ticks_ahead(events: &[Event]) -> usize {
+    let blocks = events.as_chunks::<4>().0;
+    let quick = 4 * blocks.iter().take_while(|block| **block == [TICK; 4]).count();
+    quick + events[quick..].iter().take_while(|event| **event == TICK).count()
+}
+
+/// So many ticks. Gives how many were not taken, and the number.
+#[inline(always)]
+fn take_ticks(kernel: &mut Kernel, count: usize) -> (usize, u16) {
+    let mut left = count;
+    while let Some(first) = kernel.first() {
+        left -= kernel.take_orders(first, left);
+        if left == 0 {
+            break;
+        }
+        let number = kernel.other_tick(first).number;
+        if number != 0 {
+            cold_path();
+            return (left, number);
+        }
+        left -= 1;
+    }
+    (0, 0)
 }
