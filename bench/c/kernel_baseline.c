@@ -56,7 +56,7 @@ enum { ADDRESS_ERROR = 1, ORDER_ERROR, SERVICE_ERROR, DIVISOR_ERROR, TASK_ERROR,
 
 enum { GOOD_MARK = 19284, GOOD_EDITION = 1, MOST_TASKS = 16, MOST_CAPACITY = 32 };
 enum { LARGEST_TOTAL = 32768, LARGEST_CHARACTER = 255, ERROR_UNIT = 4, PENDING_UNIT = 32 };
-enum { EVENT_WORDS = 3, PLAN_WORDS = 5 };
+enum { EVENT_WORDS = 3, PLAN_WORDS = 5, MANY = 128 };
 
 /* Counts, capacities and the places of the parts. */
 struct layout {
@@ -105,23 +105,46 @@ static inline bool segments_packed(const word *im, size_t words, const struct la
     return end == total;
 }
 
-/* Head and length in range, the header's capacity, and the tail that these give. */
+/* The header's capacity, head and tail below it, length at most it, and head + length the tail, once round or not. */
 static inline bool queue_stands(const word *q, uint32_t capacity) {
-    uint32_t head = q[HEAD], length = q[LENGTH], end = head + length;
-    uint32_t tail = end >= capacity ? end - capacity : end;
-    return (head < capacity) & (length <= capacity) & (q[CAPACITY] == capacity) & (q[TAIL] == tail);
+    uint32_t head = q[HEAD], tail = q[TAIL], length = q[LENGTH], distance = head + length - tail;
+    return head < capacity && tail < capacity && length <= capacity && q[CAPACITY] == capacity &&
+           (distance == 0 || distance == capacity);
+}
+
+/* The leading words of two queues, and the same as two numbers. */
+typedef word lanes __attribute__((vector_size(16)));
+typedef uint64_t halves __attribute__((vector_size(16)));
+
+/* Whether an even count of queues stands, two at a time. */
+static inline bool pairs_stand(const word *q, uint32_t count, uint32_t capacity) {
+    const word c = (word)capacity, last = (word)(capacity - 1);
+    const lanes own = {0, 0, 0, c, 0, 0, 0, c}, limits = {last, last, c, 0, last, last, c, 0}, round = {c, 0, 0, 0, c};
+    lanes over = {0}, apart = {0};
+    size_t width = SLOTS + capacity;
+    for (const word *end = q + count * width; q < end; q += 2 * width) {
+        lanes pair;
+        memcpy(&pair, q, SLOTS * sizeof(word));
+        memcpy((word *)&pair + SLOTS, q + width, SLOTS * sizeof(word));
+        pair ^= own;
+        over |= (lanes)(pair > limits);
+        halves both = (halves)pair;
+        lanes distance = (lanes)(both + (both >> 32)) - (lanes)(both >> 16);
+        apart |= (lanes)((distance != 0) & (distance != round));
+    }
+    halves faults = (halves)over | ((halves)apart & (halves){0xFFFF, 0xFFFF});
+    return (faults[0] | faults[1]) == 0;
 }
 
 static inline bool queues_stand(const word *q, uint32_t count, uint32_t capacity) {
-    bool stand = true;
-    for (uint32_t k = 0; k < count; k++, q += SLOTS + capacity)
-        stand &= queue_stands(q, capacity);
-    return stand;
+    uint32_t even = count & ~1u;
+    return (even == 0 || pairs_stand(q, even, capacity)) &&
+           (even == count || queue_stands(q + even * (SLOTS + capacity), capacity));
 }
 
 /* The bits that are set in any of so many words. */
-static inline uint32_t bits_of(const word *w, uint32_t count) {
-    uint32_t bits = 0;
+static inline word bits_of(const word *w, uint32_t count) {
+    word bits = 0;
     for (uint32_t k = 0; k < count; k++)
         bits |= w[k];
     return bits;
@@ -136,30 +159,42 @@ static inline bool holds_characters(const word *q, uint32_t capacity) {
     return (bits_of(q + SLOTS + head, before) | bits_of(q + SLOTS, length - before)) <= LARGEST_CHARACTER;
 }
 
-static inline bool character_queues_stand(const word *q, uint32_t count, uint32_t capacity) {
+static bool all_hold_characters(const word *q, uint32_t count, uint32_t capacity) {
     for (uint32_t k = 0; k < count; k++, q += SLOTS + capacity)
-        if (!queue_stands(q, capacity) || !holds_characters(q, capacity))
+        if (!holds_characters(q, capacity))
             return false;
     return true;
 }
 
-/* The tasks that a sound ready queue holds, a bit for each; all bits where one is held twice or is none. */
-static inline uint32_t held_tasks(const word *q, uint32_t tasks) {
-    uint32_t held = 0, at = q[HEAD];
-    for (uint32_t k = 0; k < q[LENGTH]; k++) {
+/* Whether many words are characters all at once; few are looked at queue by queue. */
+static inline bool all_characters(const word *w, uint32_t count) {
+    return count >= MANY && bits_of(w, count) <= LARGEST_CHARACTER;
+}
+
+/* Whether sound input and output buffers hold characters. Free slots hold anything, but seldom do. */
+static inline bool characters_held(const struct layout *l, const word *im) {
+    return all_characters(im + l->inputs, l->messages - l->inputs) ||
+           (all_hold_characters(im + l->inputs, l->tasks, l->input_capacity) &&
+            all_hold_characters(im + l->outputs, l->tasks, l->output_capacity));
+}
+
+/* The tasks that a sound ready queue holds, a bit for each; ~0 where one is no task. */
+static inline uint64_t held_tasks(const word *q, uint32_t tasks) {
+    uint32_t at = q[HEAD], numbers = 0;
+    uint64_t held = 0;
+    for (uint32_t k = q[LENGTH]; k > 0; k--) {
         uint32_t task = q[SLOTS + at];
-        if (task >= tasks || (held >> task & 1))
-            return ~0u;
-        held |= 1u << task;
+        numbers |= task;
+        held |= UINT64_C(1) << (task & 63);
         at = at + 1 == tasks ? 0 : at + 1;
     }
-    return held;
+    return numbers < 64 ? held : ~UINT64_C(0);
 }
 
 /* cc, error and pending in range, and not both of the last two. */
 static inline bool flags_stand(uint32_t flags) {
-    uint32_t error = flags / ERROR_UNIT % 8, pending = flags / PENDING_UNIT;
-    return (flags % 4 != 3) & (error != 7) & (pending <= 4) & ((error == 0) | (pending == 0));
+    uint32_t cc = flags % 4, error = flags / ERROR_UNIT % 8, pending = flags / PENDING_UNIT;
+    return (cc != 3) & (error != 7) & (pending <= OUTPUT) & ((error == 0) | (pending == 0));
 }
 
 /* Where the message buffer between two tasks stands. */
@@ -198,34 +233,42 @@ static bool wait_stands(const struct layout *l, const word *im, uint32_t task) {
     }
 }
 
-/* The rules of one task: flags, port, status and its place in the ready queue. */
-static inline bool task_stands(const struct layout *l, const word *im, uint32_t task, bool held) {
-    const word *port = im + l->ports + 2 * task, *status = im + l->status + 2 * task;
-    if (!flags_stand(im[l->rows + ROW_WORDS * task + FLAGS]) || port[0] > 1 || port[1] > LARGEST_CHARACTER)
-        return false;
-    if (port[0] == 0 && (port[1] != 0 || im[output_at(l, task) + LENGTH] != 0))
-        return false;
-    if (held != (status[0] == READY))
-        return false;
-    return held ? status[1] == 0 : wait_stands(l, im, task);
+/* A busy port has a character; an idle one has 0 and nothing left. */
+static inline bool port_stands(const word *port, uint32_t left) {
+    return (port[0] <= 1) & (port[1] <= LARGEST_CHARACTER) & ((port[0] == 1) | ((port[1] | left) == 0));
+}
+
+/* The rules of every task, and that the tasks of status 0 are those held, of which there are so many. */
+static inline bool tasks_stand(const struct layout *l, const word *im, uint64_t held, uint32_t length) {
+    uint64_t ready = 0;
+    uint32_t count = 0;
+    const word *entry = im + l->status;
+    for (uint32_t task = 0; task < l->tasks; task++, entry += 2) {
+        if (!flags_stand(im[l->rows + ROW_WORDS * task + FLAGS]) ||
+            !port_stands(im + l->ports + 2 * task, im[output_at(l, task) + LENGTH]))
+            return false;
+        if (entry[0] != READY) {
+            if (!wait_stands(l, im, task))
+                return false;
+        } else {
+            if (entry[1] != 0)
+                return false;
+            ready |= UINT64_C(1) << task;
+            count++;
+        }
+    }
+    return ready == held && count == length;
 }
 
 /* The rules behind number 6. */
 static inline bool rules_hold(const struct layout *l, const word *im) {
     const word *ready = im + l->ready;
-    if (!queue_stands(ready, l->tasks) || im[CLOCK] > (ready[LENGTH] == 0 ? 0 : l->slice))
-        return false;
-    if (!character_queues_stand(im + l->inputs, l->tasks, l->input_capacity) ||
-        !character_queues_stand(im + l->outputs, l->tasks, l->output_capacity) ||
-        !queues_stand(im + l->messages, l->tasks * l->tasks, l->message_capacity))
-        return false;
-    uint32_t held = held_tasks(ready, l->tasks);
-    if (held == ~0u)
-        return false;
-    for (uint32_t task = 0; task < l->tasks; task++)
-        if (!task_stands(l, im, task, held >> task & 1))
-            return false;
-    return true;
+    uint32_t n = l->tasks;
+    return queue_stands(ready, n) && im[CLOCK] <= (ready[LENGTH] == 0 ? 0 : l->slice) &&
+           queues_stand(im + l->inputs, n, l->input_capacity) &&
+           queues_stand(im + l->outputs, n, l->output_capacity) &&
+           queues_stand(im + l->messages, n * n, l->message_capacity) && characters_held(l, im) &&
+           tasks_stand(l, im, held_tasks(ready, n), ready[LENGTH]);
 }
 
 /* The number of any words, and the layout of a good image. */
