@@ -20,7 +20,7 @@ pub fn inspect(image: &[u16]) -> Result<Layout, u16> {
     }
     let frame = [header[2], header[3], header[4], header[5], header[6]];
     let layout = Layout::new(frame).ok_or(numbers::OUT_OF_RANGE)?;
-    if header[7..16] != layout.offsets() {
+    if !layout.offsets().iter().zip(&header[7..16]).all(|(packed, given)| packed == given) {
         return Err(numbers::OFFSET);
     }
     if !segments_packed(image, usize::from(header[TOTAL]), &layout) {
@@ -66,43 +66,132 @@ fn rules_hold(image: &[u16], clock: u16, layout: &Layout) -> bool {
     }
     let most = if ready[LENGTH] == 0 { 0 } else { layout.slice };
     clock <= most
-        && character_queues_stand(inputs, layout.input_capacity)
-        && character_queues_stand(outputs, layout.output_capacity)
+        && queues_stand(inputs, layout.input_capacity)
+        && queues_stand(outputs, layout.output_capacity)
         && queues_stand(messages, layout.message_capacity)
-        && held_tasks(ready, layout.tasks).is_some_and(|held| tasks_stand(image, layout, held))
+        && characters_held(&image[layout.inputs..layout.messages], inputs, outputs, layout)
+        && tasks_stand(image, layout, held_tasks(ready, layout.tasks), ready[LENGTH])
 }
 
-/// Head and length in range, the header's capacity, and the tail that these
-/// give.
-#[inline]
+/// The header's capacity, head and tail below it, length at most it, and head
+/// + length the tail, once round or not.
+#[inline(always)]
 fn queue_stands(queue: &[u16], capacity: usize) -> bool {
     let Some(words) = queue.first_chunk::<SLOTS>() else {
         return false;
     };
     let capacity = capacity as u32;
     let [head, tail, length, own] = words.map(u32::from);
-    let end = head + length;
-    let wrapped = if end >= capacity { end - capacity } else { end };
-    (head < capacity) & (length <= capacity) & (own == capacity) & (tail == wrapped)
+    let distance = (head + length).wrapping_sub(tail);
+    head < capacity
+        && tail < capacity
+        && length <= capacity
+        && own == capacity
+        && (distance == 0 || distance == capacity)
 }
 
-/// Whether every queue of a part stands.
-#[inline]
+/// Whether every queue of a part stands, two queues in a turn.
+#[inline(always)]
 fn queues_stand(part: &[u16], capacity: usize) -> bool {
-    part.chunks_exact(SLOTS + capacity).fold(true, |stand, queue| stand & queue_stands(queue, capacity))
+    let width = SLOTS + capacity;
+    let mut found = Found::new(capacity as u64);
+    let mut left = part;
+    while let Some((pair, later)) = left.split_at_checked(2 * width) {
+        let (one, other) = pair.split_at(width);
+        found.add(one);
+        found.add(other);
+        left = later;
+    }
+    if !left.is_empty() {
+        found.add(left);
+    }
+    found.nothing()
 }
 
-/// Whether every queue of a part stands and holds characters.
-#[inline]
-fn character_queues_stand(part: &[u16], capacity: usize) -> bool {
-    part.chunks_exact(SLOTS + capacity)
-        .all(|queue| queue_stands(queue, capacity) && holds_characters(queue))
+/// The bit that a lane within its limit keeps, in the three lower lanes.
+const GUARDS: u64 = 0x0000_8000_8000_8000;
+/// Bits that make a lane too large: any in the highest, 64 and up in others.
+const TOO_LARGE: u64 = 0xFFFF_FFC0_FFC0_FFC0;
+
+/// The faults of many queues of one capacity, gathered. The four leading words
+/// of a queue are lanes of one number.
+struct Found {
+    own: u64,
+    limits: u64,
+    distances: u64,
+    /// Bits of any lane: none is over 63, and the capacity is the header's.
+    large: u64,
+    /// The guard bits of lanes within their limits.
+    within: u64,
+    /// 1 while head + length - tail is 0 or the capacity.
+    near: u64,
+}
+
+impl Found {
+    #[inline(always)]
+    fn new(capacity: u64) -> Found {
+        let last = capacity - 1;
+        Found {
+            own: capacity << 48,
+            limits: GUARDS | capacity << 32 | last << 16 | last,
+            distances: 1 | 1 << capacity,
+            large: 0,
+            within: GUARDS,
+            near: 1,
+        }
+    }
+
+    #[inline(always)]
+    fn add(&mut self, queue: &[u16]) {
+        let lanes = leading(queue) ^ self.own;
+        let distance = lanes.wrapping_add(lanes >> 32).wrapping_sub(lanes >> 16);
+        self.large |= lanes;
+        self.within &= self.limits.wrapping_sub(lanes);
+        self.near &= self.distances >> (distance & 63);
+    }
+
+    /// Whether every queue stands.
+    #[inline(always)]
+    fn nothing(&self) -> bool {
+        self.large & TOO_LARGE == 0 && self.within & GUARDS == GUARDS && self.near == 1
+    }
+}
+
+/// The four leading words of a queue in one.
+#[inline(always)]
+fn leading(queue: &[u16]) -> u64 {
+    let [head, tail, length, own] = queue.first_chunk::<SLOTS>().expect("a queue").map(u64::from);
+    head | tail << 16 | length << 32 | own << 48
+}
+
+/// From so many words on they are looked at all at once.
+const MANY: usize = 128;
+
+/// Whether sound input and output buffers hold characters. Free slots hold
+/// anything, but seldom do.
+#[inline(always)]
+fn characters_held(both: &[u16], inputs: &[u16], outputs: &[u16], layout: &Layout) -> bool {
+    both.len() >= MANY && bits_of(both) <= LARGEST_CHARACTER
+        || all_hold_characters(inputs, layout.input_capacity) && all_hold_characters(outputs, layout.output_capacity)
 }
 
 /// The bits that are set in any of some words.
 #[inline]
 fn bits_of(words: &[u16]) -> u16 {
     words.iter().fold(0, |bits, word| bits | word)
+}
+
+/// Whether the words that sound queues hold are characters.
+#[inline(always)]
+fn all_hold_characters(part: &[u16], capacity: usize) -> bool {
+    let mut left = part;
+    while let Some((queue, later)) = left.split_at_checked(SLOTS + capacity) {
+        if !holds_characters(queue) {
+            return false;
+        }
+        left = later;
+    }
+    true
 }
 
 /// Whether the words that a sound queue holds are characters.
@@ -117,44 +206,51 @@ fn holds_characters(queue: &[u16]) -> bool {
     bits_of(&straight[..before]) | bits_of(&wrapped[..length - before]) <= LARGEST_CHARACTER
 }
 
-/// The tasks that a sound ready queue holds, a bit for each, if each is one
-/// and none is held twice.
-#[inline]
-fn held_tasks(queue: &[u16], tasks: usize) -> Option<u32> {
+/// The tasks that a sound ready queue holds, a bit for each, or all bits where
+/// one is no task.
+#[inline(always)]
+fn held_tasks(queue: &[u16], tasks: usize) -> u64 {
     let slots = &queue[SLOTS..];
     let mut at = usize::from(queue[HEAD]);
-    let mut held = 0u32;
+    let (mut held, mut numbers) = (0, 0);
     for _ in 0..queue[LENGTH] {
         let task = slots[at];
-        if usize::from(task) >= tasks || held >> task & 1 != 0 {
-            return None;
-        }
-        held |= 1 << task;
+        numbers |= task;
+        held |= 1 << (task & 63);
         at = if at + 1 == tasks { 0 } else { at + 1 };
     }
-    Some(held)
+    if numbers < 64 {
+        held
+    } else {
+        u64::MAX
+    }
 }
 
-/// The rules of every task.
-#[inline]
-fn tasks_stand(image: &[u16], layout: &Layout, held: u32) -> bool {
+/// The rules of every task, and that the tasks of status 0 are those held, of
+/// which there are so many.
+#[inline(always)]
+fn tasks_stand(image: &[u16], layout: &Layout, held: u64, length: u16) -> bool {
     let rows = image[layout.rows..layout.ready].as_chunks::<ROW_WORDS>().0;
     let entries = pairs(image, layout.status, layout);
     let ports = pairs(image, layout.ports, layout);
+    let (mut ready, mut count) = (0, 0);
     for (task, ((row, entry), port)) in rows.iter().zip(entries).zip(ports).enumerate() {
-        let is_held = held >> task & 1 != 0;
-        if !flags_stand(row[FLAGS])
-            || !port_stands(port, image[layout.output(task) + LENGTH])
-            || is_held != (entry[0] == status::READY)
-        {
+        if !flags_stand(row[FLAGS]) || !port_stands(port, image[layout.output(task) + LENGTH]) {
             return false;
         }
-        let stands = if is_held { entry[1] == 0 } else { wait_stands(image, layout, task, row, entry) };
-        if !stands {
-            return false;
+        if entry[0] != status::READY {
+            if !wait_stands(image, layout, task, row, entry) {
+                return false;
+            }
+        } else {
+            if entry[1] != 0 {
+                return false;
+            }
+            ready |= 1 << task;
+            count += 1;
         }
     }
-    true
+    ready == held && count == length
 }
 
 /// cc, error and pending in range, and not both of the last two.

@@ -131,12 +131,6 @@ impl Layout {
         self.rows + ROW_WORDS * task
     }
 
-    /// The place of a task's status entry.
-    #[inline]
-    pub fn status_of(&self, task: usize) -> usize {
-        self.status + 2 * task
-    }
-
     /// The place of a task's input buffer.
     #[inline]
     pub fn input(&self, task: usize) -> usize {
@@ -153,12 +147,6 @@ impl Layout {
     #[inline]
     pub fn message(&self, from: usize, to: usize) -> usize {
         self.messages + (from * self.tasks + to) * (4 + self.message_capacity)
-    }
-
-    /// The place of a task's port.
-    #[inline]
-    pub fn port(&self, task: usize) -> usize {
-        self.ports + 2 * task
     }
 
     /// The place of a task's pair in the segment table.
