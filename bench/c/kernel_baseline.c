@@ -56,7 +56,7 @@ enum { ADDRESS_ERROR = 1, ORDER_ERROR, SERVICE_ERROR, DIVISOR_ERROR, TASK_ERROR,
 
 enum { GOOD_MARK = 19284, GOOD_EDITION = 1, MOST_TASKS = 16, MOST_CAPACITY = 32 };
 enum { LARGEST_TOTAL = 32768, LARGEST_CHARACTER = 255, ERROR_UNIT = 4, PENDING_UNIT = 32 };
-enum { EVENT_WORDS = 3, PLAN_WORDS = 5, MANY = 128 };
+enum { EVENT_WORDS = 3, PLAN_WORDS = 5, MANY = 128, NO_ANSWER = 65535 };
 
 /* Counts, capacities and the places of the parts. */
 struct layout {
@@ -311,11 +311,11 @@ static inline word accept_plan(const word *plan, size_t words, struct layout *l,
     return words == used && end <= LARGEST_TOTAL ? 0 : PLAN;
 }
 
-struct sized c_size(const uint16_t *plan, size_t words) {
+struct measured c_size(const uint16_t *plan, size_t words) {
     struct layout l;
     uint32_t total;
     word number = accept_plan(plan, words, &l, &total);
-    return (struct sized){number, number == 0 ? total : 0};
+    return (struct measured){number == 0 ? total : 0, number};
 }
 
 static inline void write_header(word *im, const word *plan, const struct layout *l, uint32_t total) {
@@ -395,7 +395,7 @@ static inline word take(word *q, uint32_t capacity) {
 }
 
 static inline struct told refused(word number) {
-    return (struct told){number, 0, 0};
+    return (struct told){number, NO_ANSWER, NO_ANSWER};
 }
 
 static inline struct told answered(word kind, uint32_t task) {

@@ -5,7 +5,7 @@
 #include <stddef.h>
 #include <stdint.h>
 
-/* What one event comes to: its number, and where that is 0 the answer. */
+/* What one event comes to: its number, and the answer's kind and task, both 65535 where it is refused. */
 struct told {
     uint16_t number, kind, task;
 };
@@ -16,14 +16,14 @@ struct ran {
     uint16_t number;
 };
 
-/* What a plan needs: its number, and where that is 0 the words. */
-struct sized {
+/* What a plan needs: how many words, 0 where it is refused, and its number. */
+struct measured {
+    uint64_t words;
     uint16_t number;
-    uint32_t words;
 };
 
 uint16_t c_check(const uint16_t *image, size_t words);
-struct sized c_size(const uint16_t *plan, size_t words);
+struct measured c_size(const uint16_t *plan, size_t words);
 uint16_t c_build(const uint16_t *plan, size_t plan_words, uint16_t *target, size_t words);
 struct told c_event(uint16_t *image, size_t words, uint16_t kind, uint16_t device, uint16_t character);
 struct ran c_run(uint16_t *image, size_t words, const uint16_t *list, size_t list_words);

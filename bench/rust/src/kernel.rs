@@ -92,10 +92,13 @@ impl Turns<'_> {
     }
 }
 
+/// The kind and the task of a refused event.
+const NO_ANSWER: u16 = 65535;
+
 #[inline(always)]
 pub fn refused(number: u16) -> Told {
     cold_path();
-    Told { number, kind: 0, task: 0 }
+    Told { number, kind: NO_ANSWER, task: NO_ANSWER }
 }
 
 #[inline(always)]

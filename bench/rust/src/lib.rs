@@ -16,7 +16,8 @@ pub use check::check;
 pub use plans::{build, size};
 pub use runs::{event, run};
 
-/// What one event comes to: its number, and where that is 0 the answer.
+/// What one event comes to: its number, and the answer's kind and task, both
+/// 65535 where it is refused.
 #[repr(C)]
 #[derive(Clone, Copy, Debug, PartialEq, Eq)]
 pub struct Told {
@@ -33,12 +34,12 @@ pub struct Ran {
     pub number: u16,
 }
 
-/// What a plan needs: its number, and where that is 0 the words.
+/// What a plan needs: how many words, 0 where it is refused, and its number.
 #[repr(C)]
 #[derive(Clone, Copy, Debug, PartialEq, Eq)]
-pub struct Sized {
+pub struct Measured {
+    pub words: u64,
     pub number: u16,
-    pub words: u32,
 }
 
 /// The numbers that come back.

@@ -3,7 +3,7 @@
 use crate::layout::*;
 use crate::numbers;
 use crate::queues::{CAPACITY, LENGTH, SLOTS};
-use crate::Sized;
+use crate::Measured;
 
 /// A plan that is not refused.
 struct Accepted<'a> {
@@ -15,10 +15,10 @@ struct Accepted<'a> {
 }
 
 /// The words that a plan needs.
-pub fn size(plan: &[u16]) -> Sized {
+pub fn size(plan: &[u16]) -> Measured {
     match accept(plan) {
-        Ok(accepted) => Sized { number: 0, words: accepted.total as u32 },
-        Err(number) => Sized { number, words: 0 },
+        Ok(accepted) => Measured { words: accepted.total as u64, number: 0 },
+        Err(number) => Measured { words: 0, number },
     }
 }
 

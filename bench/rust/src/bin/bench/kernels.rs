@@ -1,12 +1,12 @@
 //! The kernels side by side, each behind the same calls.
 
-use baseline::{Ran, Sized, Told};
+use baseline::{Measured, Ran, Told};
 
 /// A kernel's calls.
 pub struct Kernel {
     pub name: &'static str,
     pub check: fn(&[u16]) -> u16,
-    pub size: Option<fn(&[u16]) -> Sized>,
+    pub size: fn(&[u16]) -> Measured,
     pub build: fn(&[u16], &mut [u16]) -> u16,
     pub event: fn(&mut [u16], [u16; 3]) -> Told,
     pub run: fn(&mut [u16], &[u16]) -> Ran,
@@ -14,12 +14,13 @@ pub struct Kernel {
 
 /// Calls into a kernel's archive, as safe functions on slices.
 macro_rules! archive_calls {
-    ($module:ident, $check:ident, $build:ident, $event:ident, $run:ident) => {
+    ($module:ident, $check:ident, $size:ident, $build:ident, $event:ident, $run:ident) => {
         mod $module {
-            use baseline::{Ran, Told};
+            use baseline::{Measured, Ran, Told};
 
             extern "C" {
                 fn $check(image: *const u16, words: usize) -> u16;
+                fn $size(plan: *const u16, words: usize) -> Measured;
                 fn $build(plan: *const u16, plan_words: usize, target: *mut u16, words: usize) -> u16;
                 fn $event(image: *mut u16, words: usize, kind: u16, device: u16, character: u16) -> Told;
                 fn $run(image: *mut u16, words: usize, list: *const u16, list_words: usize) -> Ran;
@@ -28,6 +29,10 @@ macro_rules! archive_calls {
             // SAFETY, for each call: pointer and count are those of one slice.
             pub fn check(image: &[u16]) -> u16 {
                 unsafe { $check(image.as_ptr(), image.len()) }
+            }
+
+            pub fn size(plan: &[u16]) -> Measured {
+                unsafe { $size(plan.as_ptr(), plan.len()) }
             }
 
             pub fn build(plan: &[u16], target: &mut [u16]) -> u16 {
@@ -45,18 +50,9 @@ macro_rules! archive_calls {
     };
 }
 
-archive_calls!(c, c_check, c_build, c_event, c_run);
+archive_calls!(c, c_check, c_size, c_build, c_event, c_run);
 #[cfg(product)]
-archive_calls!(product, kernel_check, kernel_build, kernel_event, kernel_run);
-
-extern "C" {
-    fn c_size(plan: *const u16, words: usize) -> Sized;
-}
-
-fn size_in_c(plan: &[u16]) -> Sized {
-    // SAFETY: pointer and count are those of one slice.
-    unsafe { c_size(plan.as_ptr(), plan.len()) }
-}
+archive_calls!(product, kernel_check, kernel_size, kernel_build, kernel_event, kernel_run);
 
 fn event_in_rust(image: &mut [u16], [kind, device, character]: [u16; 3]) -> Told {
     baseline::event(image, kind, device, character)
@@ -66,7 +62,7 @@ fn event_in_rust(image: &mut [u16], [kind, device, character]: [u16; 3]) -> Told
 const PRODUCT: Option<Kernel> = Some(Kernel {
     name: "product",
     check: product::check,
-    size: None,
+    size: product::size,
     build: product::build,
     event: product::event,
     run: product::run,
@@ -78,7 +74,7 @@ const PRODUCT: Option<Kernel> = None;
 pub const RUST: Kernel = Kernel {
     name: "Rust",
     check: baseline::check,
-    size: Some(baseline::size),
+    size: baseline::size,
     build: baseline::build,
     event: event_in_rust,
     run: baseline::run,
@@ -86,7 +82,7 @@ pub const RUST: Kernel = Kernel {
 
 /// The kernel in C.
 const C: Kernel =
-    Kernel { name: "C", check: c::check, size: Some(size_in_c), build: c::build, event: c::event, run: c::run };
+    Kernel { name: "C", check: c::check, size: c::size, build: c::build, event: c::event, run: c::run };
 
 /// The product where it is linked, then the two baselines.
 pub fn all() -> Vec<Kernel> {

@@ -1,7 +1,7 @@
 //! The model's vectors, compared with what each kernel does.
 
 use crate::kernels::Kernel;
-use baseline::Sized;
+use baseline::Measured;
 use std::fs;
 
 type Outcome = Result<(), String>;
@@ -79,13 +79,14 @@ impl<'a> Reader<'a> {
         let expected = self.word();
         let (plan_words, target_words) = (self.count(), self.count());
         let salt = usize::from(self.word());
-        let size = Sized { number: self.word(), words: self.count() as u32 };
+        let number = self.word();
+        let size = Measured { words: self.count() as u64, number };
         let plan = self.words(plan_words).to_vec();
         let mut target: Vec<u16> = (0..target_words).map(|k| (31 * k + salt) as u16).collect();
         let after = if expected == 0 { self.words(target_words).to_vec() } else { target.clone() };
         same("number", (kernel.build)(&plan, &mut target), expected)?;
         same_words(&target, &after)?;
-        kernel.size.map_or(Ok(()), |call| same("size", call(&plan), size))
+        same("size", (kernel.size)(&plan), size)
     }
 
     fn event(&mut self, kernel: &Kernel) -> Outcome {
@@ -95,10 +96,7 @@ impl<'a> Reader<'a> {
         let answer = self.words(2);
         let after = self.changed(changes);
         let told = (kernel.event)(&mut self.image, [event[0], event[1], event[2]]);
-        same("number", told.number, expected)?;
-        if expected == 0 {
-            same("answer", [told.kind, told.task], [answer[0], answer[1]])?;
-        }
+        same("number and answer", [told.number, told.kind, told.task], [expected, answer[0], answer[1]])?;
         same_words(&self.image, &after)
     }
 
