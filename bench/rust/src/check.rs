@@ -66,9 +66,9 @@ fn rules_hold(image: &[u16], clock: u16, layout: &Layout) -> bool {
     }
     let most = if ready[LENGTH] == 0 { 0 } else { layout.slice };
     clock <= most
-        && queues_stand(inputs, layout.input_capacity)
-        && queues_stand(outputs, layout.output_capacity)
-        && queues_stand(messages, layout.message_capacity)
+        && queues_stand(inputs, layout.tasks, layout.input_capacity)
+        && queues_stand(outputs, layout.tasks, layout.output_capacity)
+        && queues_stand(messages, layout.tasks * layout.tasks, layout.message_capacity)
         && characters_held(&image[layout.inputs..layout.messages], inputs, outputs, layout)
         && tasks_stand(image, layout, held_tasks(ready, layout.tasks), ready[LENGTH])
 }
@@ -92,7 +92,14 @@ fn queue_stands(queue: &[u16], capacity: usize) -> bool {
 
 /// Whether every queue of a part stands, two queues in a turn.
 #[inline(always)]
-fn queues_stand(part: &[u16], capacity: usize) -> bool {
+fn queues_stand(part: &[u16], count: usize, capacity: usize) -> bool {
+    let (pairs, odd) = part.split_at((count & !1) * (SLOTS + capacity));
+    (pairs.is_empty() || pairs_stand(pairs, capacity)) && (odd.is_empty() || queue_stands(odd, capacity))
+}
+
+/// Whether an even count of queues stands.
+#[inline(never)]
+fn pairs_stand(part: &[u16], capacity: usize) -> bool {
     let width = SLOTS + capacity;
     let mut found = Found::new(capacity as u64);
     let mut left = part;
@@ -101,9 +108,6 @@ fn queues_stand(part: &[u16], capacity: usize) -> bool {
         found.add(one);
         found.add(other);
         left = later;
-    }
-    if !left.is_empty() {
-        found.add(left);
     }
     found.nothing()
 }
@@ -186,7 +190,7 @@ fn bits_of(words: &[u16]) -> u16 {
 fn all_hold_characters(part: &[u16], capacity: usize) -> bool {
     let mut left = part;
     while let Some((queue, later)) = left.split_at_checked(SLOTS + capacity) {
-        if !holds_characters(queue) {
+        if queue[LENGTH] != 0 && !holds_characters(queue) {
             return false;
         }
         left = later;
@@ -195,12 +199,8 @@ fn all_hold_characters(part: &[u16], capacity: usize) -> bool {
 }
 
 /// Whether the words that a sound queue holds are characters.
-#[inline]
 fn holds_characters(queue: &[u16]) -> bool {
     let (head, length) = (usize::from(queue[HEAD]), usize::from(queue[LENGTH]));
-    if length == 0 {
-        return true;
-    }
     let (wrapped, straight) = queue[SLOTS..].split_at(head);
     let before = length.min(straight.len());
     bits_of(&straight[..before]) | bits_of(&wrapped[..length - before]) <= LARGEST_CHARACTER
@@ -256,7 +256,7 @@ fn tasks_stand(image: &[u16], layout: &Layout, held: u64, length: u16) -> bool {
 /// cc, error and pending in range, and not both of the last two.
 #[inline]
 fn flags_stand(flags: u16) -> bool {
-    let (error, pending) = (flags / ERROR_UNIT % 8, flags / PENDING_UNIT);
+    let (error, pending) = (error_of(flags), flags / PENDING_UNIT);
     (flags % 4 != 3) & (error != 7) & (pending <= 4) & ((error == 0) | (pending == 0))
 }
 
@@ -280,19 +280,15 @@ fn wait_stands(image: &[u16], layout: &Layout, task: usize, row: &[u16; ROW_WORD
         status::WAITS_TO_SEND => {
             pending == service::SEND && named && length(layout.message(task, peer)) == layout.message_capacity
         }
-        status::WAITS_TO_RECEIVE => {
-            pending == service::RECEIVE && named && length(layout.message(peer, task)) == 0
-        }
-        status::WAITS_FOR_INPUT => {
-            peer == 0 && pending == service::INPUT && length(layout.input(task)) == 0
-        }
+        status::WAITS_TO_RECEIVE => pending == service::RECEIVE && named && length(layout.message(peer, task)) == 0,
+        status::WAITS_FOR_INPUT => peer == 0 && pending == service::INPUT && length(layout.input(task)) == 0,
         status::WAITS_FOR_OUTPUT => {
             peer == 0
                 && pending == service::OUTPUT
                 && row[WORD] <= LARGEST_CHARACTER
                 && length(layout.output(task)) == layout.output_capacity
         }
-        status::STOPPED => peer == 0 && row[FLAGS] / ERROR_UNIT % 8 != 0,
+        status::STOPPED => peer == 0 && error_of(row[FLAGS]) != 0,
         _ => false,
     }
 }

@@ -48,7 +48,7 @@ impl Kernel<'_> {
 
     #[inline(always)]
     fn has_error(&self, task: usize) -> bool {
-        self.rows[task][FLAGS] / ERROR_UNIT % 8 != 0
+        error_of(self.rows[task][FLAGS]) != 0
     }
 
     /// One tick.

@@ -22,6 +22,12 @@ pub const FLAGS: usize = 8;
 pub const ERROR_UNIT: u16 = 4;
 pub const PENDING_UNIT: u16 = 32;
 
+/// The error in a task's flags.
+#[inline(always)]
+pub fn error_of(flags: u16) -> u16 {
+    flags / ERROR_UNIT % 8
+}
+
 /// A task's status.
 pub mod status {
     pub const READY: u16 = 0;

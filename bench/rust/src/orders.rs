@@ -44,8 +44,25 @@ enum Shape {
 static SHAPES: [Shape; 256] = {
     use Shape::*;
     let known = [
-        Unknown, Load, Copy, Fetch, Store, Add, Subtract, Multiply, Quotient, Remainder, And, Or, ExclusiveOr, Compare,
-        Jump, JumpIf, Call, Return, Service,
+        Unknown,
+        Load,
+        Copy,
+        Fetch,
+        Store,
+        Add,
+        Subtract,
+        Multiply,
+        Quotient,
+        Remainder,
+        And,
+        Or,
+        ExclusiveOr,
+        Compare,
+        Jump,
+        JumpIf,
+        Call,
+        Return,
+        Service,
     ];
     let mut shapes = [Unknown; 256];
     let mut op = 0;

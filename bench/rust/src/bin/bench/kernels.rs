@@ -81,8 +81,7 @@ pub const RUST: Kernel = Kernel {
 };
 
 /// The kernel in C.
-const C: Kernel =
-    Kernel { name: "C", check: c::check, size: c::size, build: c::build, event: c::event, run: c::run };
+const C: Kernel = Kernel { name: "C", check: c::check, size: c::size, build: c::build, event: c::event, run: c::run };
 
 /// The product where it is linked, then the two baselines.
 pub fn all() -> Vec<Kernel> {

@@ -47,6 +47,7 @@ fn verify(files: &[&str]) -> Result<(), String> {
 fn measure_all(svg: &str) -> Result<(), String> {
     let kernels = kernels::all();
     let names: Vec<&str> = kernels.iter().map(|kernel| kernel.name).collect();
+    println!("Nanoseconds an event or call, the least of {} rounds.", measure::ROUNDS);
     println!("{}", report::heading(&names));
     let mut rows = Vec::new();
     for workload in workloads::all() {

@@ -7,7 +7,7 @@ use std::hint::black_box;
 use std::time::Instant;
 
 /// Rounds of a workload; in each every kernel is timed once.
-const ROUNDS: usize = 41;
+pub const ROUNDS: usize = 41;
 
 /// The least nanoseconds a unit of each kernel, over all rounds. Fails where
 /// the kernels do not leave the same image and come back with the same.
@@ -21,7 +21,9 @@ pub fn measure(kernels: &[Kernel], workload: &Workload) -> Result<Vec<f64>, Stri
             least[which] = least[which].min(nanoseconds);
             outcomes.push(outcome);
         }
-        outcomes.windows(2).try_for_each(|pair| same_outcome(&pair[0], &pair[1]))
+        outcomes
+            .windows(2)
+            .try_for_each(|pair| same_outcome(&pair[0], &pair[1]))
             .map_err(|what| format!("{}: {what}", workload.name))?;
     }
     Ok(least)

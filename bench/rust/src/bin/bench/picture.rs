@@ -79,12 +79,13 @@ fn bars(svg: &mut String, names: &[&str], row: &Row, y: f64, scale: f64) {
         let _ = writeln!(
             svg,
             "<rect x=\"{LEFT}\" y=\"{top:.1}\" width=\"{width:.1}\" height=\"{:.1}\" fill=\"{}\"/>\
-             <text x=\"{:.1}\" y=\"{:.1}\" font-size=\"9\">{} ns</text>",
+             <text x=\"{:.1}\" y=\"{:.1}\" font-size=\"9\">{} ns, {:.2}</text>",
             BAR - 1.0,
             colour(name),
             LEFT + width + 4.0,
             top + 8.5,
-            row.shown(k)
+            row.shown(k),
+            row.times[k]
         );
     }
 }
