@@ -6,6 +6,7 @@
 
 #define likely(x) __builtin_expect(!!(x), 1)
 #define unlikely(x) __builtin_expect(!!(x), 0)
+#define always_inline inline __attribute__((always_inline))
 
 typedef uint16_t word;
 
@@ -265,8 +266,7 @@ static inline bool rules_hold(const struct layout *l, const word *im) {
     const word *ready = im + l->ready;
     uint32_t n = l->tasks;
     return queue_stands(ready, n) && im[CLOCK] <= (ready[LENGTH] == 0 ? 0 : l->slice) &&
-           queues_stand(im + l->inputs, n, l->input_capacity) &&
-           queues_stand(im + l->outputs, n, l->output_capacity) &&
+           queues_stand(im + l->inputs, n, l->input_capacity) && queues_stand(im + l->outputs, n, l->output_capacity) &&
            queues_stand(im + l->messages, n * n, l->message_capacity) && characters_held(l, im) &&
            tasks_stand(l, im, held_tasks(ready, n), ready[LENGTH]);
 }
@@ -519,7 +519,7 @@ static inline struct told serve(const struct layout *l, word *im, word *row, uin
 }
 
 /* A tick by rules 2 to 4, for the first task. */
-static inline struct told other_tick(const struct layout *l, word *im, word *row, uint32_t first) {
+static always_inline struct told other_tick(const struct layout *l, word *im, word *row, uint32_t first) {
     if (unlikely(row[FLAGS] / ERROR_UNIT % 8 != 0)) {
         leave(l, im, first, STOPPED, 0);
         return answered(ERROR_STOP, first);
@@ -559,7 +559,7 @@ static inline struct told output_done(const struct layout *l, word *im, uint32_t
 }
 
 /* Any event but a tick. */
-static inline struct told report(const struct layout *l, word *im, word kind, word device, word character) {
+static always_inline struct told report(const struct layout *l, word *im, word kind, word device, word character) {
     if (kind == INPUT_EVENT && device < l->tasks && character <= LARGEST_CHARACTER)
         return input(l, im, device, character);
     if (kind == OUTPUT_DONE_EVENT && device < l->tasks && character == 0)
@@ -783,19 +783,22 @@ struct told c_event(uint16_t *image, size_t words, uint16_t kind, uint16_t devic
     return report(&l, image, kind, device, character);
 }
 
-/* So many ticks. Gives how many were taken, and the number. */
-static inline struct ran take_ticks(const struct layout *l, word *im, size_t count) {
+/* So many ticks. Gives how many were taken, and the number. A task whose service is done is still the first. */
+static always_inline struct ran take_ticks(const struct layout *l, word *im, size_t count) {
     size_t left = count;
     while (im[l->ready + LENGTH] != 0) {
         uint32_t first = first_of(l, im);
         word *row = im + l->rows + ROW_WORDS * first;
-        left -= take_orders(l, im, row, first, left);
-        if (left == 0)
-            break;
-        word number = other_tick(l, im, row, first).number;
-        if (unlikely(number != 0))
-            return (struct ran){count - left, number};
-        left--;
+        struct told told;
+        do {
+            left -= take_orders(l, im, row, first, left);
+            if (left == 0)
+                return (struct ran){count, 0};
+            told = other_tick(l, im, row, first);
+            if (unlikely(told.number != 0))
+                return (struct ran){count - left, told.number};
+            left--;
+        } while (told.kind == SERVICE_DONE);
     }
     return (struct ran){count, 0};
 }

@@ -2,6 +2,7 @@
 
 use crate::check::inspect;
 use crate::kernel::{refused, Kernel};
+use crate::layout::answer;
 use crate::numbers;
 use crate::{Ran, Told};
 use std::hint::cold_path;
@@ -69,21 +70,30 @@ fn ticks_ahead(events: &[Event]) -> usize {
     quick + events[quick..].iter().take_while(|event| **event == TICK).count()
 }
 
-/// So many ticks. Gives how many were not taken, and the number.
+/// So many ticks. Gives how many were not taken, and the number. A task whose
+/// service is done is still the first.
 #[inline(always)]
 fn take_ticks(kernel: &mut Kernel, count: usize) -> (usize, u16) {
     let mut left = count;
-    while let Some(first) = kernel.first() {
+    let Some(mut first) = kernel.first() else {
+        return (0, 0);
+    };
+    loop {
         left -= kernel.take_orders(first, left);
         if left == 0 {
-            break;
+            return (0, 0);
         }
-        let number = kernel.other_tick(first).number;
-        if number != 0 {
+        let told = kernel.other_tick(first);
+        if told.number != 0 {
             cold_path();
-            return (left, number);
+            return (left, told.number);
         }
         left -= 1;
+        if told.kind != answer::SERVICE_DONE {
+            let Some(next) = kernel.first() else {
+                return (0, 0);
+            };
+            first = next;
+        }
     }
-    (0, 0)
 }
