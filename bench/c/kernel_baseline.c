@@ -1,10 +1,9 @@
-/* The baseline in C. The image is the only state: every event leaves it as the paper says. */
+/* The baseline in C. The image is the only state, and is as the paper says whenever a call returns. */
 #include "kernel_baseline.h"
 
 #include <stdbool.h>
 #include <string.h>
 
-#define likely(x) __builtin_expect(!!(x), 1)
 #define unlikely(x) __builtin_expect(!!(x), 0)
 #define always_inline inline __attribute__((always_inline))
 
@@ -113,7 +112,8 @@ static inline bool queue_stands(const word *q, uint32_t capacity) {
            (distance == 0 || distance == capacity);
 }
 
-/* The leading words of two queues, and the same as two numbers. */
+/* The leading words of two queues, and the same as two numbers, the head lowest. */
+_Static_assert(__BYTE_ORDER__ == __ORDER_LITTLE_ENDIAN__, "the low byte comes first");
 typedef word lanes __attribute__((vector_size(16)));
 typedef uint64_t halves __attribute__((vector_size(16)));
 
