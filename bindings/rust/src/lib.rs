@@ -1,0 +1,158 @@
+//! The proved kernel, for programs in Rust: check, size, build, event, run.
+//!
+//! Nothing is required of the words: any slice may be lent, empty ones too. A call either does what it says, or it
+//! refuses, answers the number of the refusal and changes no word. The numbers are the paper's, 1 to 12, as
+//! `include/kernel.h` lists them. No call allocates or keeps a reference.
+//!
+//! ```
+//! let plan = [1, 2, 1, 1, 1, 4, 2, 4656, 4672];
+//! let mut image = vec![0; kernel::size(&plan)?];
+//! kernel::build(&plan, &mut image)?;
+//! let (kind, task) = kernel::event(&mut image, kernel::TICK, 0, 0)?;
+//! assert_eq!((kind, task), (6, 0));
+//! # Ok::<(), u16>(())
+//! ```
+#![deny(missing_docs)]
+
+#[cfg(test)]
+mod tests;
+
+/// The kind of a tick; its device and its character are 0.
+pub const TICK: u16 = 0;
+
+/// The kind of an input: a device and its character, at most 255.
+pub const INPUT: u16 = 1;
+
+/// The kind of an output that is done: a device; the character is 0.
+pub const OUTPUT_DONE: u16 = 2;
+
+/// The words of an event in a list: kind, device, character.
+pub const EVENT_WORDS: usize = 3;
+
+/// How a run ended.
+#[derive(Clone, Copy, Debug, PartialEq, Eq)]
+pub struct Ran {
+    /// How many events were taken; the image holds exactly these.
+    pub taken: usize,
+    /// 0 where all were taken, else the number of the refusal that stopped the run.
+    pub number: u16,
+}
+
+/// The functions of the archive, as `include/kernel.h` declares them.
+mod c {
+    #[repr(C)]
+    pub struct Size {
+        pub words: u64,
+        pub number: u16,
+    }
+
+    #[repr(C)]
+    pub struct Told {
+        pub number: u16,
+        pub kind: u16,
+        pub task: u16,
+    }
+
+    #[repr(C)]
+    pub struct Ran {
+        pub taken: u64,
+        pub number: u16,
+    }
+
+    extern "C" {
+        pub fn kernel_check(image: *const u16, words: usize) -> u16;
+        pub fn kernel_size(plan: *const u16, plan_words: usize) -> Size;
+        pub fn kernel_build(
+            plan: *const u16,
+            plan_words: usize,
+            target: *mut u16,
+            target_words: usize,
+        ) -> u16;
+        pub fn kernel_event(
+            image: *mut u16,
+            words: usize,
+            kind: u16,
+            device: u16,
+            character: u16,
+        ) -> Told;
+        pub fn kernel_run(
+            image: *mut u16,
+            words: usize,
+            events: *const u16,
+            event_words: usize,
+        ) -> Ran;
+    }
+}
+
+// Why every call below is safe: a slice's pointer leads to as many words as its length says, of an empty one to none,
+// which the archive allows; a slice lent for writing shares no word with another slice; and the archive's functions
+// read and write nothing but what they are lent, on any words.
+
+/// `value` where `number` is 0, else the number.
+fn unless_refused<T>(number: u16, value: T) -> Result<T, u16> {
+    match number {
+        0 => Ok(value),
+        refused => Err(refused),
+    }
+}
+
+/// A count of the archive's. It counts words or events of slices that this machine holds, so it fits.
+fn count(number: u64) -> usize {
+    usize::try_from(number).expect("the archive is for machines of 64 bits")
+}
+
+/// Checks an image.
+///
+/// # Errors
+///
+/// 1 to 6, as the image is refused.
+pub fn check(image: &[u16]) -> Result<(), u16> {
+    // SAFETY: above.
+    let number = unsafe { c::kernel_check(image.as_ptr(), image.len()) };
+    unless_refused(number, ())
+}
+
+/// How many words the image of a plan has.
+///
+/// # Errors
+///
+/// 3 or 11, as the plan is refused.
+pub fn size(plan: &[u16]) -> Result<usize, u16> {
+    // SAFETY: above.
+    let size = unsafe { c::kernel_size(plan.as_ptr(), plan.len()) };
+    unless_refused(size.number, count(size.words))
+}
+
+/// Builds the image of a plan in the target, which must have as many words as [`size`] says; whatever it held is
+/// written over.
+///
+/// # Errors
+///
+/// 3 or 11, as the plan is refused; 12 where the target has another length. No word of the target is changed then.
+pub fn build(plan: &[u16], target: &mut [u16]) -> Result<(), u16> {
+    // SAFETY: above.
+    let number =
+        unsafe { c::kernel_build(plan.as_ptr(), plan.len(), target.as_mut_ptr(), target.len()) };
+    unless_refused(number, ())
+}
+
+/// One event on an image. Answers its kind and its task: 0 idle, 1 error stop, 2 turn passed, 3 service done,
+/// 4 service waits, 5 service faulted, 6 order done, 7 order faulted, 8 input, 9 output done.
+///
+/// # Errors
+///
+/// 1 to 6, as the image is refused; 7 to 10, as the event is. No word of the image is changed then.
+pub fn event(image: &mut [u16], kind: u16, device: u16, character: u16) -> Result<(u16, u16), u16> {
+    // SAFETY: above.
+    let told = unsafe { c::kernel_event(image.as_mut_ptr(), image.len(), kind, device, character) };
+    unless_refused(told.number, (told.kind, told.task))
+}
+
+/// A list of events, one after another, up to the first that is refused. A bad image (1 to 6), or a list that is not a
+/// multiple of three words (7), is refused before any event is taken.
+pub fn run(image: &mut [u16], events: &[u16]) -> Ran {
+    // SAFETY: above.
+    let ran =
+        unsafe { c::kernel_run(image.as_mut_ptr(), image.len(), events.as_ptr(), events.len()) };
+    Ran { taken: count(ran.taken), number: ran.number }
+}

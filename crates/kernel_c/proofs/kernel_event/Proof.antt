@@ -1,0 +1,11 @@
+-- Assumes nothing.
+use Rattle.kernel_c.specs.Needs.{happens-is}
+use borrow.Author.Needs.{needs}
+use Rattle.kernel_c.proofs.kernel_event.Statement.{statement}
+use Rattle.kernel_c.proofs.kernel_event.Tie as tie
+
+returns : tie.Need-returns
+returns c = search happens-is
+
+pub kernel-event-spec : {M : Type 1} → statement M
+kernel-event-spec = tie.close (tie.spec (λ c κs. search needs) (λ c κs. search needs) (λ c. search needs) returns)

@@ -1,0 +1,5 @@
+pub mod Answers
+pub mod Apart
+pub mod Promises
+pub mod Once
+pub mod Needs

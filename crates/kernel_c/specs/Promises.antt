@@ -1,0 +1,37 @@
+-- What each exported function promises: every number of its answer, and every word of each buffer that it is lent to write. The definitions are those that the promises of paper name.
+use mathlib.Core.Path.{_≡_}
+use mathlib.Core.List.{List}
+use Prim.Native.Nat.{ℕ}
+use Rattle.paper.specs.Numbers.{verdict-number, reply-number, check, check-build}
+use Rattle.paper.specs.Calls.{plan-size, size-number, size-value, built, event, run}
+use Rattle.kernel_c.specs.Answers.{told-kind, told-task}
+use Rattle.kernel_c.specs.declared.Measured.{Measured}
+use Rattle.kernel_c.specs.declared.Told.{Told}
+use Rattle.kernel_c.specs.declared.Ran.{Ran}
+
+-- checking an image
+pub record ChecksC (image : List ℕ) (answer : ℕ) : Type 0 where
+  pub numbered : answer ≡ verdict-number (check image)
+
+-- the size of a plan
+pub record MeasuresC (plan : List ℕ) (answer : Measured) : Type 0 where
+  pub valued : answer .words ≡ size-value (plan-size plan)
+  pub numbered : answer .number ≡ size-number (plan-size plan)
+
+-- building an image from a plan
+pub record BuildsC (plan target : List ℕ) (answer : ℕ) (after : List ℕ) : Type 0 where
+  pub numbered : answer ≡ verdict-number (check-build plan target)
+  pub left : after ≡ built plan target
+
+-- one event
+pub record HappensC (image : List ℕ) (k d c : ℕ) (answer : Told) (after : List ℕ) : Type 0 where
+  pub numbered : answer .number ≡ reply-number (event image k d c .reply)
+  pub kinded : answer .kind ≡ told-kind (event image k d c .reply)
+  pub tasked : answer .task ≡ told-task (event image k d c .reply)
+  pub left : after ≡ event image k d c .image
+
+-- a run over a list of events
+pub record RunsC (image events : List ℕ) (answer : Ran) (after : List ℕ) : Type 0 where
+  pub counted : answer .taken ≡ run image events .taken
+  pub numbered : answer .number ≡ verdict-number (run image events .stop)
+  pub left : after ≡ run image events .image
