@@ -1,0 +1,53 @@
+//! Compiles the baseline in C, and links the product's archive where one is given.
+use std::env;
+use std::path::{Path, PathBuf};
+use std::process::Command;
+
+const FLAGS: [&str; 6] = ["-std=gnu11", "-O3", "-Wall", "-Wextra", "-Wconversion", "-Werror"];
+const SANITIZE: [&str; 3] = ["-fsanitize=address,undefined", "-fno-sanitize-recover=all", "-g"];
+
+fn main() {
+    let folder = PathBuf::from(env::var("OUT_DIR").expect("OUT_DIR"));
+    for name in ["BENCH_CC", "BENCH_SANITIZE", "KERNEL_ARCHIVE"] {
+        println!("cargo:rerun-if-env-changed={name}");
+    }
+    println!("cargo:rerun-if-changed=../c");
+    println!("cargo:rustc-check-cfg=cfg(product)");
+    compile_c(&folder);
+    if let Ok(archive) = env::var("KERNEL_ARCHIVE") {
+        link_product(Path::new(&archive));
+    }
+}
+
+/// The C compiler, clang unless another is named.
+fn compiler() -> String {
+    env::var("BENCH_CC").unwrap_or_else(|_| "clang".into())
+}
+
+fn compile_c(folder: &Path) {
+    let object = folder.join("kernel_baseline.o");
+    let mut compile = Command::new(compiler());
+    compile.args(FLAGS);
+    if env::var("BENCH_SANITIZE").is_ok() {
+        compile.args(SANITIZE);
+        println!("cargo:rustc-link-arg={}", SANITIZE[0]);
+    }
+    compile.args(["-c", "../c/kernel_baseline.c", "-o"]).arg(&object);
+    run(&mut compile);
+    run(Command::new("ar").arg("crs").arg(folder.join("libkernel_baseline.a")).arg(&object));
+    println!("cargo:rustc-link-search=native={}", folder.display());
+    println!("cargo:rustc-link-lib=static=kernel_baseline");
+}
+
+fn link_product(archive: &Path) {
+    let archive = archive.canonicalize().expect("the product's archive");
+    println!("cargo:rerun-if-changed={}", archive.display());
+    println!("cargo:rustc-link-search=native={}", archive.parent().expect("a folder").display());
+    println!("cargo:rustc-link-lib=static=kernel_c");
+    println!("cargo:rustc-cfg=product");
+}
+
+fn run(command: &mut Command) {
+    let status = command.status().expect("a tool that starts");
+    assert!(status.success(), "{command:?} failed");
+}

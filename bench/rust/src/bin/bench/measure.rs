@@ -1,0 +1,68 @@
+//! Measures every kernel on a workload, in turns.
+
+use crate::kernels::Kernel;
+use crate::vectors::same_words;
+use crate::workloads::{Work, Workload};
+use std::hint::black_box;
+use std::time::Instant;
+
+/// Rounds of a workload; in each every kernel is timed once.
+const ROUNDS: usize = 41;
+
+/// The least nanoseconds a unit of each kernel, over all rounds. Fails where
+/// the kernels do not leave the same image and come back with the same.
+pub fn measure(kernels: &[Kernel], workload: &Workload) -> Result<Vec<f64>, String> {
+    let mut least = vec![f64::MAX; kernels.len()];
+    for round in 0..ROUNDS {
+        let mut outcomes = Vec::new();
+        for turn in 0..kernels.len() {
+            let which = (round + turn) % kernels.len();
+            let (nanoseconds, outcome) = timed(&kernels[which], workload);
+            least[which] = least[which].min(nanoseconds);
+            outcomes.push(outcome);
+        }
+        outcomes.windows(2).try_for_each(|pair| same_outcome(&pair[0], &pair[1]))
+            .map_err(|what| format!("{}: {what}", workload.name))?;
+    }
+    Ok(least)
+}
+
+/// The image after the work, and the sum of what the calls gave back.
+struct Outcome {
+    image: Vec<u16>,
+    sum: u64,
+}
+
+/// Nanoseconds a unit, and what the work came to.
+fn timed(kernel: &Kernel, workload: &Workload) -> (f64, Outcome) {
+    let mut image = workload.image.clone();
+    let start = Instant::now();
+    let sum = work(kernel, &workload.work, &mut image);
+    let nanoseconds = start.elapsed().as_nanos() as f64;
+    (nanoseconds / workload.work.units() as f64, Outcome { image, sum })
+}
+
+fn work(kernel: &Kernel, work: &Work, image: &mut [u16]) -> u64 {
+    match work {
+        Work::Run(list) => {
+            let ran = (kernel.run)(image, list);
+            assert_eq!((ran.taken, ran.number), (list.len() as u64 / 3, 0), "{} takes the list", kernel.name);
+            ran.taken
+        }
+        Work::Checks(count) => (0..*count).map(|_| u64::from((kernel.check)(black_box(image)))).sum(),
+        Work::Builds(count, plan) => (0..*count).map(|_| u64::from((kernel.build)(plan, black_box(image)))).sum(),
+        Work::Ticks(count) => (0..*count).map(|_| answer((kernel.event)(image, [0, 0, 0]))).sum(),
+    }
+}
+
+fn answer(told: baseline::Told) -> u64 {
+    assert_eq!(told.number, 0, "a tick is accepted");
+    64 * u64::from(told.kind) + u64::from(told.task)
+}
+
+fn same_outcome(one: &Outcome, other: &Outcome) -> Result<(), String> {
+    if one.sum != other.sum {
+        return Err("the kernels answer differently".into());
+    }
+    same_words(&one.image, &other.image)
+}

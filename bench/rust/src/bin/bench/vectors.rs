@@ -1,0 +1,132 @@
+//! The model's vectors, compared with what each kernel does.
+
+use crate::kernels::Kernel;
+use baseline::Sized;
+use std::fs;
+
+type Outcome = Result<(), String>;
+
+/// Compares a kernel with every record of a file. Gives how many there were.
+pub fn compare(kernel: &Kernel, file: &str) -> Result<usize, String> {
+    let bytes = fs::read(file).map_err(|error| format!("{file}: {error}"))?;
+    let words: Vec<u16> = bytes.chunks_exact(2).map(|pair| u16::from_le_bytes([pair[0], pair[1]])).collect();
+    let mut reader = Reader { left: &words, image: Vec::new() };
+    let mut cases = 0;
+    while !reader.left.is_empty() {
+        let kind = reader.word();
+        let outcome = match kind {
+            1 => reader.check(kernel),
+            2 => reader.build(kernel),
+            3 => {
+                reader.stand();
+                continue;
+            }
+            5 => reader.event(kernel),
+            6 => reader.run(kernel),
+            _ => Err("a kind that is not known".into()),
+        };
+        cases += 1;
+        outcome.map_err(|what| format!("{}: {file}: case {cases}, kind {kind}: {what}", kernel.name))?;
+    }
+    Ok(cases)
+}
+
+/// What is left of a file, and the image that stands.
+struct Reader<'a> {
+    left: &'a [u16],
+    image: Vec<u16>,
+}
+
+impl<'a> Reader<'a> {
+    fn word(&mut self) -> u16 {
+        self.words(1)[0]
+    }
+
+    fn count(&mut self) -> usize {
+        let pair = self.words(2);
+        usize::from(pair[0]) + (usize::from(pair[1]) << 16)
+    }
+
+    fn words(&mut self, count: usize) -> &'a [u16] {
+        let (words, left) = self.left.split_at(count);
+        self.left = left;
+        words
+    }
+
+    /// The image that stands with so many pairs of place and word changed.
+    fn changed(&mut self, pairs: usize) -> Vec<u16> {
+        let mut image = self.image.clone();
+        for pair in self.words(2 * pairs).chunks_exact(2) {
+            image[usize::from(pair[0])] = pair[1];
+        }
+        image
+    }
+
+    fn stand(&mut self) {
+        self.word();
+        let count = self.count();
+        self.image = self.words(count).to_vec();
+    }
+
+    fn check(&mut self, kernel: &Kernel) -> Outcome {
+        let expected = self.word();
+        let count = self.count();
+        let image = self.words(count).to_vec();
+        same("number", (kernel.check)(&image), expected)
+    }
+
+    fn build(&mut self, kernel: &Kernel) -> Outcome {
+        let expected = self.word();
+        let (plan_words, target_words) = (self.count(), self.count());
+        let salt = usize::from(self.word());
+        let size = Sized { number: self.word(), words: self.count() as u32 };
+        let plan = self.words(plan_words).to_vec();
+        let mut target: Vec<u16> = (0..target_words).map(|k| (31 * k + salt) as u16).collect();
+        let after = if expected == 0 { self.words(target_words).to_vec() } else { target.clone() };
+        same("number", (kernel.build)(&plan, &mut target), expected)?;
+        same_words(&target, &after)?;
+        kernel.size.map_or(Ok(()), |call| same("size", call(&plan), size))
+    }
+
+    fn event(&mut self, kernel: &Kernel) -> Outcome {
+        let expected = self.word();
+        let changes = self.count();
+        let event = self.words(3);
+        let answer = self.words(2);
+        let after = self.changed(changes);
+        let told = (kernel.event)(&mut self.image, [event[0], event[1], event[2]]);
+        same("number", told.number, expected)?;
+        if expected == 0 {
+            same("answer", [told.kind, told.task], [answer[0], answer[1]])?;
+        }
+        same_words(&self.image, &after)
+    }
+
+    fn run(&mut self, kernel: &Kernel) -> Outcome {
+        let expected = self.word();
+        let list_words = self.count();
+        let taken = self.count();
+        let changes = self.count();
+        let list = self.words(list_words).to_vec();
+        let after = self.changed(changes);
+        let ran = (kernel.run)(&mut self.image, &list);
+        same("taken and number", (ran.taken, ran.number), (taken as u64, expected))?;
+        same_words(&self.image, &after)
+    }
+}
+
+fn same<T: PartialEq + std::fmt::Debug>(what: &str, given: T, expected: T) -> Outcome {
+    if given == expected {
+        return Ok(());
+    }
+    Err(format!("{what} is {given:?}, expected {expected:?}"))
+}
+
+/// Whether two lists are equal, or the first place where they are not.
+pub fn same_words(given: &[u16], expected: &[u16]) -> Outcome {
+    same("count of words", given.len(), expected.len())?;
+    match given.iter().zip(expected).position(|(given, expected)| given != expected) {
+        None => Ok(()),
+        Some(place) => same(&format!("word {place}"), given[place], expected[place]),
+    }
+}
