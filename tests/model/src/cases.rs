@@ -56,7 +56,7 @@ pub fn collect(seed: u64, count: usize) -> Vec<Case> {
 }
 
 /// A good image and images made from it.
-fn family(rng: &mut Rng, kernel: &Kernel, damages: &[Damage]) -> Vec<Vec<u16>> {
+pub fn family(rng: &mut Rng, kernel: &Kernel, damages: &[Damage]) -> Vec<Vec<u16>> {
     vec![
         kernel.encode(),
         damage::any(rng, kernel, damages),

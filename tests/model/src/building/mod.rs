@@ -1,7 +1,7 @@
 //! The cases of building: which plans and targets the file of vectors holds.
 
 mod draft;
-mod faults;
+pub mod faults;
 mod special;
 
 pub use draft::Draft;
@@ -81,7 +81,7 @@ fn named(rng: &mut Rng, fault: &Fault) -> Case {
 }
 
 /// A random good plan in a target of T words, and cases made from it.
-fn family(rng: &mut Rng, faults: &[Fault], of_plan: &[Fault]) -> Vec<Case> {
+pub fn family(rng: &mut Rng, faults: &[Fault], of_plan: &[Fault]) -> Vec<Case> {
     let draft = Draft::random(rng);
     let total = total(&draft);
     let faulty = faults::any(rng, &draft, faults);

@@ -91,7 +91,7 @@ fn any_sequence(rng: &mut Rng, sights: &mut Sights) -> Sequence {
 }
 
 /// A kernel, and how many events it has at the most. Few are large.
-fn kernel(rng: &mut Rng) -> (Kernel, usize) {
+pub fn kernel(rng: &mut Rng) -> (Kernel, usize) {
     match rng.below(1000) {
         0..=1 => (lively::with_total(rng, PAIR, LARGEST_TOTAL), MOST_ON_LARGE),
         2..=6 => (lively::kernel(rng, LARGEST), MOST_ON_LARGE),

@@ -5,7 +5,7 @@ mod random;
 pub mod scene;
 mod special;
 
-pub use random::{event, malformed};
+pub use random::{event, is_dead, malformed};
 
 use crate::changes::{differences, Change};
 use crate::check::check;

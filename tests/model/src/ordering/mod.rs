@@ -5,7 +5,7 @@ mod scene;
 mod special;
 mod sweeps;
 
-pub use random::{first_word, with_first_task};
+pub use random::{first_word, prepare, with_first_task};
 
 use crate::changes::{differences, Change};
 use crate::check::accept;

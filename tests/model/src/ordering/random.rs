@@ -52,7 +52,7 @@ pub fn with_first_task(rng: &mut Rng, make: fn(&mut Rng) -> Kernel) -> Kernel {
 }
 
 /// Gives the first task registers to work with, and most often an order.
-fn prepare(rng: &mut Rng, kernel: &mut Kernel) {
+pub fn prepare(rng: &mut Rng, kernel: &mut Kernel) {
     let me = first_task(kernel);
     let length = kernel.tasks[me].segment.len();
     let mut registers = [(); 8].map(|()| operand(rng, kernel, me));

@@ -4,7 +4,7 @@ mod bad;
 mod random;
 mod special;
 
-pub use random::events;
+pub use random::{events, list};
 
 use crate::changes::{differences, Change};
 use crate::check::check;

@@ -41,20 +41,20 @@ fn course(rng: &mut Rng, kernel: &Kernel) -> Course {
     let mut course = Course::on(kernel.encode());
     for _ in 0..rng.between(1, MOST_RUNS) {
         let kernel = accept(&course.stands).expect("a good image");
-        let list = list(rng, &kernel);
+        let count = rng.between(FEWEST_EVENTS, MOST_EVENTS);
+        let list = list(rng, &kernel, count);
         course.judge(list);
     }
     course
 }
 
-/// A list for a kernel: all its events are taken, or one at any distance is
-/// refused and any follow it, or its last event is cut.
-fn list(rng: &mut Rng, kernel: &Kernel) -> Vec<u16> {
-    let most = rng.between(FEWEST_EVENTS, MOST_EVENTS);
+/// A list of so many events, at least one, for a kernel: all are taken, or one
+/// at any distance is refused and any follow it, or the last is cut.
+pub fn list(rng: &mut Rng, kernel: &Kernel, count: usize) -> Vec<u16> {
     let mut list = if rng.percent(REFUSED) {
-        with_refusal(rng, kernel, most)
+        with_refusal(rng, kernel, count)
     } else {
-        events(rng, kernel, most)
+        events(rng, kernel, count)
     };
     if rng.percent(CUT) {
         list.truncate(list.len() - rng.between(1, 2));

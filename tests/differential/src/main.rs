@@ -1,0 +1,94 @@
+//! Random calls of the library, each compared with the model: the answer, and every word of every buffer.
+
+mod call;
+mod expected;
+mod lent;
+mod library;
+mod package;
+mod source;
+mod tally;
+
+use call::{Answer, Call};
+use expected::Outcome;
+use lent::Lent;
+use model::rng::Rng;
+use source::Source;
+use std::process::ExitCode;
+use tally::Tally;
+
+const USAGE: &str = "usage: differential SEED COUNT";
+
+/// How a call is made, by name.
+type Way = (&'static str, fn(&Call, &mut [Lent]) -> Answer);
+
+/// Each case is a call of the C library itself, and then of the Rust package.
+const WAYS: [Way; 2] = [("C library", library::answer), ("Rust package", package::answer)];
+
+fn main() -> ExitCode {
+    match arguments().ok_or(USAGE.into()).and_then(|(seed, count)| compare(seed, count)) {
+        Ok(()) => ExitCode::SUCCESS,
+        Err(message) => {
+            eprintln!("differential: {message}");
+            ExitCode::FAILURE
+        }
+    }
+}
+
+/// The seed and the count of cases.
+fn arguments() -> Option<(u64, usize)> {
+    let words: Vec<String> = std::env::args().skip(1).collect();
+    match &words[..] {
+        [seed, count] => Some((seed.parse().ok()?, count.parse().ok()?)),
+        _ => None,
+    }
+}
+
+/// Compares so many cases of a seed, up to the first difference.
+fn compare(seed: u64, count: usize) -> Result<(), String> {
+    println!("seed {seed}, {count} cases");
+    let mut guards = Rng::new(!seed);
+    let mut tally = Tally::default();
+    for (case, call) in (1..=count).zip(Source::new(seed)) {
+        let outcome = expected::outcome(&call);
+        for way in WAYS {
+            let told = differences(&mut guards, &call, &outcome, way);
+            require(told.is_empty(), || {
+                format!("seed {seed}, case {case}: {}\n{}", call.title(), told.join("\n"))
+            })?;
+        }
+        tally.count(&call, outcome.answer);
+    }
+    tally.print();
+    tally.missing().map_or(Ok(()), Err)?;
+    println!("differential: ok, {count} cases, 0 differ");
+    Ok(())
+}
+
+/// Makes a call in one way, and says what differs from the model's outcome: the answer, and the first word of each buffer.
+fn differences(rng: &mut Rng, call: &Call, outcome: &Outcome, (way, make): Way) -> Vec<String> {
+    let buffers = call.buffers();
+    let mut lent: Vec<Lent> = buffers.iter().map(|(_, words)| Lent::new(rng, words)).collect();
+    let answer = make(call, &mut lent);
+    let mut told = Vec::new();
+    if answer != outcome.answer {
+        told.push(format!("{way}: the answer is {answer:?}, the model's {:?}", outcome.answer));
+    }
+    for (((name, _), room), expected) in buffers.iter().zip(&lent).zip(&outcome.buffers) {
+        if let Some(word) = room.difference(expected) {
+            told.push(format!(
+                "{way}: word {} of the {name} is {}, the model's {}",
+                word.place, word.found, word.expected
+            ));
+        }
+    }
+    told
+}
+
+/// Fails with a message where a condition does not hold.
+fn require(holds: bool, message: impl FnOnce() -> String) -> Result<(), String> {
+    if holds {
+        Ok(())
+    } else {
+        Err(message())
+    }
+}
