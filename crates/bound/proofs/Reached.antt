@@ -17,7 +17,7 @@ use Rattle.paper.specs.Calls.{run-from}
 use Rattle.paper.specs.declared.Shape.{Shape}
 use Rattle.paper.specs.declared.Queue.{Queue}
 use Rattle.paper.specs.declared.Verdict.{Verdict}
-use Rattle.bound.specs.Bound.{InLine, most-ticks, ticks}
+use Rattle.bound.specs.Bound.{bound, InLine, most-ticks, ticks}
 
 -- n ticks
 abbrev some-ticks : ℕ → List ℕ
@@ -36,6 +36,10 @@ start = run-from shape (fresh plan) (some-ticks 6) .image
 
 abbrev later : ℕ → List ℕ
 later n = run-from shape start (some-ticks n) .image
+
+-- the paper's own case, one ahead, is reached at tick 3: the record of the worked examples has it
+pub one-ahead : bound 1 1 1 ≡ 3
+one-ahead = refl
 
 -- task 2 stands there with two ahead of it; the bound is 6 ticks, and it is not first after any fewer
 pub record Reached : Type 0 where

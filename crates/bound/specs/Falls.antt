@@ -16,7 +16,7 @@ use Rattle.paper.specs.declared.Shape.{Shape}
 use Rattle.paper.specs.declared.Queue.{Queue}
 use Rattle.paper.specs.declared.Answer.{Answer}
 use Rattle.paper.specs.declared.Reply.{Reply}
-use Rattle.laws.specs.Stays.{happening-good, event-formed}
+use Rattle.laws.specs.Stays.{words-good}
 use Rattle.bound.specs.Bound.{tick-count, Behind, Untouched}
 use Rattle.bound.specs.Measure.{pace, measure, Nears}
 use Rattle.bound.specs.Pace.{pace-some, pace-most}
@@ -78,7 +78,7 @@ module _ (s : Shape) (im : List ℕ) (g : Good s im) (i : Task) (k : ℕ) (b : B
   -- the step lemma: a tick makes the measure fall by 1 at least, and no device event raises it
   pub event-nears : Nears s im (happening s im (event-of s kind device character) .image) i (suc k) (tick-count kind device character)
   event-nears =
-      moves-nears s im _ (happening-good s im g _ (event-formed s kind device character)) (tick-count kind device character)
+      moves-nears s im _ (words-good s im g kind device character) (tick-count kind device character)
       (tick-one kind device character) i k b moves
 
   -- and neither touches a word of the task

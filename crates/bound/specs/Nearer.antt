@@ -15,7 +15,7 @@ use Rattle.paper.specs.Calls.{event}
 use Rattle.paper.specs.declared.Task.{Task}
 use Rattle.paper.specs.declared.Shape.{Shape}
 use Rattle.paper.specs.declared.Refusal.{Refusal}
-use Rattle.laws.specs.Stays.{happening-good, event-formed}
+use Rattle.laws.specs.Stays.{words-good}
 use Rattle.laws.specs.Replies.{Accepted, RefusedFor, replies}
 use Rattle.laws.specs.Folded.{event-is}
 use Rattle.bound.specs.Bound.{Behind, most-ticks, tick-count, Prefix, Untouched, Comes, calls, if-accepted, accepted-ticks}
@@ -40,7 +40,7 @@ untouched-then s im m n i u v =
 -- a call of `event` on a good image
 module _ (s : Shape) (im : List ℕ) (g : Good s im) (kind device character : ℕ) where
   pub call-good : Good s (event im kind device character .image)
-  call-good = rw (event-is s im g kind device character) (happening-good s im g _ (event-formed s kind device character))
+  call-good = rw (event-is s im g kind device character) (words-good s im g kind device character)
 
   -- accepted or refused, it does what the step says
   module _ (i : Task) (k : ℕ) (b : Behind s im i (suc k)) where

@@ -41,7 +41,7 @@ use Rattle.laws.specs.Turns.{status-apart, status-sound}
 use Rattle.laws.specs.Serving.{error-none}
 use Rattle.laws.specs.Moved.{moved-parts, small-error, moved-apart, served-apart, next-apart}
 use Rattle.laws.specs.Moving.{free-output}
-use Rattle.laws.specs.Stays.{served-nearly, next-nearly, spared-if, first-task, first-stands, asked-for, asked-nothing, happening-good, event-formed}
+use Rattle.laws.specs.Stays.{served-nearly, next-nearly, spared-if, first-task, first-stands, asked-for, asked-nothing, words-good}
 use Rattle.laws.specs.Touches.{Touches, input-touches, output-done-touches}
 use Rattle.bound.specs.Bound.{tick-count}
 use Rattle.bound.specs.Measure.{pace-of, pace}
@@ -280,4 +280,4 @@ module _ (s : Shape) (im : List ℕ) (g : Good s im) (some : empty s im Queue.Re
 
   pub event-moves : (k d c : ℕ) (told : Answer) → happening s im (event-of s k d c) .reply ≡ Reply.Accepted told
       → Moves s im (happening s im (event-of s k d c) .image) (tick-count k d c)
-  event-moves k d c told t = happens k d c told t (good-sound s _ (happening-good s im g _ (event-formed s k d c)))
+  event-moves k d c told t = happens k d c told t (good-sound s _ (words-good s im g k d c))

@@ -2,7 +2,6 @@
 use mathlib.Core.Path.{_≡_, refl, sym, ap, _∙_}
 use mathlib.Core.List.{List, [], _∷_, _++_, append-assoc, append-nil}
 use Prim.Native.Nat.{ℕ, _+_, _≤_}
-use native.Mathlib.Omega.{arith}
 use Rattle.paper.specs.Waking.{Outcome}
 use Rattle.paper.specs.Events.{event-of, happening}
 use Rattle.paper.specs.Rules.{Good}
@@ -11,8 +10,8 @@ use Rattle.paper.specs.declared.Task.{Task}
 use Rattle.paper.specs.declared.Shape.{Shape}
 use Rattle.paper.specs.declared.Reply.{Reply}
 use Rattle.paper.specs.declared.Verdict.{Verdict}
-use Rattle.laws.specs.Checked.{checked-good}
-use Rattle.laws.specs.Stays.{happening-good, event-formed}
+use Rattle.laws.specs.Checked.{checked-good, never-fine}
+use Rattle.laws.specs.Stays.{words-good}
 use Rattle.laws.specs.Folded.{event-is}
 use Rattle.bound.specs.Bound.{InLine, most-ticks, tick-count, ticks, Prefix, Comes, calls, if-accepted, accepted-ticks}
 use Rattle.bound.specs.Nearer.{calls-come}
@@ -51,7 +50,7 @@ run-calls s (x ∷ []) rest im g e = (refl, refl)
 run-calls s (x ∷ y ∷ []) rest im g e = (refl, refl)
 run-calls s (x ∷ y ∷ z ∷ part) rest im g e =
     go (happening s im (event-of s x y z)) (event-is s im g x y z) (happening s im (event-of s x y z) .reply) refl
-    (λ h. run-calls s part rest (happening s im (event-of s x y z) .image) (happening-good s im g _ (event-formed s x y z)) h) e
+    (λ h. run-calls s part rest (happening s im (event-of s x y z) .image) (words-good s im g x y z) h) e
   where
     go : (o : Outcome) → event im x y z ≡ o → (r : Reply) → o .reply ≡ r
         → (run-from s (o .image) (part ++ rest) .stop ≡ Verdict.Fine → (run-from s (o .image) part .image ≡ calls (o .image) part) × (ticks part ≡ accepted-ticks (o .image) part))
@@ -59,7 +58,7 @@ run-calls s (x ∷ y ∷ z ∷ part) rest im g e =
         → (goes-on r (o .image) (λ next. run-from s next part) .image ≡ calls (event im x y z .image) part) ×
         (tick-count x y z + ticks part ≡ if-accepted (event im x y z .reply) (tick-count x y z) + accepted-ticks (event im x y z .image) part)
     go o eo (Reply.Accepted a) er ih f = rw (eo, er) (ih f .0, ap (λ (n : ℕ). tick-count x y z + n) (ih f .1))
-    go o eo (Reply.Refused r) er ih f = absurd (let z : _≡_ {A = ℕ} 0 1 = cc in omega arith)
+    go o eo (Reply.Refused r) er ih f = absurd (never-fine r f)
 
 -- a task waits with k others ahead of it, and events come, in any mix, all accepted, with ticks enough:
 -- after a prefix with at most (2c + 1) + (k - 1)(2S + 1) ticks it is first, and up to then no word of it differs

@@ -3,9 +3,9 @@ ghost use mathlib.Core.Path.{_≡_};
 ghost use lib.ListN.{length};
 use crate::replies::ACCEPTED;
 use crate::replies::EventWords;
-use crate::replies::Said;
 use crate::replies::are_same;
 use crate::replies::said_to;
+use kernel_c::Told;
 use vectors::changes::changed_answer;
 use vectors::files::Found;
 use vectors::files::Head;
@@ -38,7 +38,7 @@ const TASK_AT: usize = 4;
 // What a record of an event says before its changes: the event, what is expected, and how many changes follow.
 struct Case {
     event: EventWords,
-    expected: Said,
+    expected: Told,
     changes: usize,
 }
 
@@ -60,7 +60,7 @@ fn read_case(fd: i32, head: Head) -> Asked {
         device: words[DEVICE_AT],
         character: words[CHARACTER_AT],
     };
-    let expected = Said {
+    let expected = Told {
         number: head.number,
         kind: words[ANSWER_AT],
         task: words[TASK_AT],

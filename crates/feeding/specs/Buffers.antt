@@ -9,7 +9,8 @@ use Rattle.paper.specs.declared.Shape.{Shape}
 use Rattle.paper.specs.declared.Refusal.{Refusal}
 use Rattle.paper.specs.declared.Reply.{Reply}
 use Rattle.paper.specs.declared.Verdict.{Verdict}
-use Rattle.feeding.specs.Printing.{event-bytes, never-fine, buffers-follow, refusal-ends}
+use Rattle.laws.specs.Checked.{never-fine}
+use Rattle.feeding.specs.Printing.{event-bytes, buffers-follow, refusal-ends}
 
 -- the bytes of all buffers
 abbrev pub all-bytes : List (List ℕ) → List ℕ

@@ -1,3 +1,4 @@
 pub mod Printing
 pub mod Buffers
 pub mod Needs
+pub mod Runs

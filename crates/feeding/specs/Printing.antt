@@ -18,6 +18,7 @@ use Rattle.paper.specs.declared.Refusal.{Refusal}
 use Rattle.paper.specs.declared.Reply.{Reply}
 use Rattle.paper.specs.declared.Verdict.{Verdict}
 use Rattle.writes.specs.Written.{written, written-none, written-on}
+use Rattle.laws.specs.Checked.{never-fine}
 
 -- an event has six bytes
 abbrev pub event-bytes : ℕ
@@ -135,10 +136,6 @@ module _ (o out : List ℕ) (text taken : ℕ) (all : Printed) where
 abbrev pub is-refusal : Verdict → Bool
 is-refusal Verdict.Fine = false
 is-refusal (Verdict.Refused r) = true
-
--- a refusal is not fine
-pub never-fine : (r : Refusal) → Verdict.Refused r ≡ Verdict.Fine → ⊥
-never-fine r e = let z : _≡_ {A = ℕ} 0 1 = cc in omega arith
 
 -- what is printed for one buffer, followed by what is printed for the next
 abbrev pub followed : Printed → Printed → Printed

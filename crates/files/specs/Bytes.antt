@@ -151,7 +151,3 @@ module _ (bytes : List ℕ) (is-odd all-odd : Bool) (h : OddAfter is-odd (length
 -- asking for more bytes decides as much
 pub decides-more : (asked : ℕ) → enough ≤ asked → (bytes : List ℕ) (is-odd : Bool) (v : Verdict) → Decides enough bytes is-odd v → Decides asked bytes is-odd v
 decides-more asked h bytes is-odd v d rest r = d rest (record { parity = r .parity; ended = λ l. r .ended (omega arith) })
-
--- a refusal is not fine
-pub never-fine : (r : Refusal) {A : Type 0} → Verdict.Refused r ≡ Verdict.Fine → A
-never-fine r e = absurd (let z : _≡_ {A = ℕ} 0 1 = cc in omega arith)

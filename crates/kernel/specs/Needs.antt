@@ -20,6 +20,7 @@ use Rattle.paper.specs.declared.Answer.{Answer}
 use Rattle.paper.specs.declared.Refusal.{Refusal}
 use Rattle.paper.specs.declared.Reply.{Reply}
 use Rattle.paper.specs.declared.Verdict.{Verdict}
+use Rattle.laws.specs.Checked.{never-fine, then-fine}
 use Rattle.laws.specs.Stays.{Lawful, good, inspected-lawful}
 use Rattle.kernel.specs.Lists.{nth-event, onward, TakenFrom, taken-more, taken-refused, taken-all}
 
@@ -77,11 +78,7 @@ module _ (im events : List ℕ) (image list verdict : Verdict) (ei : image ≡ c
 
   module _ (f : verdict ≡ Verdict.Fine) where
     both-fine : (image ≡ Verdict.Fine) × (list ≡ Verdict.Fine)
-    both-fine = go image (sym ev ∙ f)
-      where
-        go : (v : Verdict) → and-then v list ≡ Verdict.Fine → (v ≡ Verdict.Fine) × (list ≡ Verdict.Fine)
-        go Verdict.Fine e = (refl, e)
-        go (Verdict.Refused r) e = absurd (let z : _≡_ {A = ℕ} 0 1 = cc in omega arith)
+    both-fine = then-fine image list (sym ev ∙ f)
 
     pub run-lawful : (s : Shape) → s ≡ shape-of im → Lawful s im
     run-lawful s es = inspected-lawful s im image ei es (both-fine .0)
@@ -91,7 +88,7 @@ module _ (im events : List ℕ) (image list verdict : Verdict) (ei : image ≡ c
       where
         go : (b : Bool) → eqb (length events % 3) 0 ≡ b → refused-if (not b) Refusal.MalformedEvent Verdict.Fine ≡ Verdict.Fine → length events % 3 ≡ 0
         go true e h = eqb-true (length events % 3) 0 e
-        go false e h = absurd (let z : _≡_ {A = ℕ} 0 1 = cc in omega arith)
+        go false e h = absurd (never-fine Refusal.MalformedEvent h)
 
     pub run-fine : (s : Shape) (answer : Ended) (out : List ℕ) → s ≡ shape-of im → answer .taken ≡ run-from s im events .taken
         → answer .stop ≡ run-from s im events .stop → out ≡ run-from s im events .image → Runs im events answer out

@@ -59,7 +59,7 @@ fn measure(size: Size) -> Measured
 }
 
 // A reply, in numbers.
-fn tell(reply: Reply) -> Told
+pub fn tell(reply: Reply) -> Told
     ensures { λ r. ⌜ r .number ≡ reply-number reply ⌝ }
     ensures { λ r. ⌜ r .kind ≡ told-kind reply ⌝ }
     ensures { λ r. ⌜ r .task ≡ told-task reply ⌝ }

@@ -14,7 +14,7 @@ use Rattle.paper.specs.Image.{task, header-words, mark, edition, most-tasks, mo
 use Rattle.paper.specs.Queues.{Has, held, empty, full}
 use Rattle.paper.specs.Rules.{Within, Laid, Flagged, Queued, Empty, Characters, times, Ready, Ported, Stands, Good}
 use Rattle.paper.specs.Tests.{every, all-below, queued, readied-tasks, clock-holds, buffers-hold, characters, readied-once, port-holds, flags-hold, status-holds, task-holds, rules-hold}
-use Rattle.paper.specs.Numbers.{number, verdict-number, refused-if, too-short, not-marked, out-of-range, not-packed, segment-right, wrong-segments, check}
+use Rattle.paper.specs.Numbers.{number, verdict-number, refused-if, too-short, not-marked, out-of-range, not-packed, segment-right, wrong-segments, check, and-then}
 use Rattle.paper.specs.declared.Task.{Task}
 use Rattle.paper.specs.declared.Shape.{Shape}
 use Rattle.paper.specs.declared.Queue.{Queue}
@@ -315,10 +315,18 @@ number-some Refusal.ReadyFull = omega arith
 number-some Refusal.BadPlan = omega arith
 number-some Refusal.WrongTarget = omega arith
 
+-- a refusal is not fine
+pub never-fine : (r : Refusal) → Verdict.Refused r ≡ Verdict.Fine → ⊥
+never-fine r e = let z : _≡_ {A = ℕ} 0 1 = cc in omega arith
+
 pub zero-is : (v : Verdict) → (verdict-number v ≡ 0) ↔ (v ≡ Verdict.Fine)
 zero-is Verdict.Fine = (λ _. refl, λ _. refl)
-zero-is (Verdict.Refused r) =
-    (λ e. absurd (omega (arith, number-some r)), λ e. absurd (let z : _≡_ {A = ℕ} 0 1 = cc in omega arith))
+zero-is (Verdict.Refused r) = (λ e. absurd (omega (arith, number-some r)), λ e. absurd (never-fine r e))
+
+-- two verdicts in turn are fine where both are
+pub then-fine : (first later : Verdict) → and-then first later ≡ Verdict.Fine → (first ≡ Verdict.Fine) × (later ≡ Verdict.Fine)
+then-fine Verdict.Fine later e = (refl, e)
+then-fine (Verdict.Refused r) later e = absurd (never-fine r e)
 
 -- the number that the check returns is 0 exactly when the image is good
 pub check-zero : (im : List ℕ) → (verdict-number (check im) ≡ 0) ↔ Good (shape-of im) im

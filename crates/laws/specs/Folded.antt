@@ -7,7 +7,7 @@ use lib.Dec.{eqb}
 use lib.ListN.{length}
 use Rattle.paper.specs.Image.{shape-of}
 use Rattle.paper.specs.Events.{event-of, happening}
-use Rattle.paper.specs.Numbers.{check, refused-if, and-then}
+use Rattle.paper.specs.Numbers.{check, refused-if}
 use Rattle.paper.specs.Rules.{Good}
 use Rattle.paper.specs.Calls.{Ran, event-if, event, stopped-at, one-more, goes-on, run-from, check-run, run}
 use Rattle.paper.specs.declared.Shape.{Shape}
@@ -15,8 +15,8 @@ use Rattle.paper.specs.declared.Refusal.{Refusal}
 use Rattle.paper.specs.declared.Reply.{Reply}
 use Rattle.paper.specs.declared.Verdict.{Verdict}
 use Rattle.laws.specs.Layout.{shape-is}
-use Rattle.laws.specs.Checked.{checked-good, good-checked}
-use Rattle.laws.specs.Stays.{event-formed, happening-good}
+use Rattle.laws.specs.Checked.{checked-good, good-checked, then-fine}
+use Rattle.laws.specs.Stays.{words-good}
 use Rattle.laws.specs.Replies.{happening-unchanged}
 
 -- events one after another, each by a call of its own, up to the first refused one
@@ -26,13 +26,10 @@ each-event im (k ∷ []) = stopped-at (Verdict.Refused Refusal.MalformedEvent) i
 each-event im (k ∷ d ∷ []) = stopped-at (Verdict.Refused Refusal.MalformedEvent) im
 each-event im (k ∷ d ∷ c ∷ events) = goes-on (event im k d c .reply) (event im k d c .image) (λ next. each-event next events)
 
--- on a good image an event is what happens, and leaves a good image
+-- on a good image an event is what happens
 pub event-is : (s : Shape) (im : List ℕ) → Good s im → (k d c : ℕ) → event im k d c ≡ happening s im (event-of s k d c)
 unfolding event
 event-is s im g k d c = rw (good-checked s im g, shape-is s im (g .laid))
-
-stays : (s : Shape) (im : List ℕ) → Good s im → (k d c : ℕ) → Good s (happening s im (event-of s k d c) .image)
-stays s im g k d c = happening-good s im g (event-of s k d c) (event-formed s k d c)
 
 goes-same : (r : Reply) (m : List ℕ) (f g : List ℕ → Ran) → f m ≡ g m → goes-on r m f ≡ goes-on r m g
 goes-same (Reply.Accepted a) m f g e = ap one-more e
@@ -46,18 +43,12 @@ from-folds s im g (k ∷ d ∷ []) = refl
 from-folds s im g (k ∷ d ∷ c ∷ events) =
     rw (event-is s im g k d c)
     (goes-same (happening s im (event-of s k d c) .reply) (happening s im (event-of s k d c) .image) (λ next. run-from s next events) (λ next. each-event next events)
-    (from-folds s (happening s im (event-of s k d c) .image) (stays s im g k d c) events))
+    (from-folds s (happening s im (event-of s k d c) .image) (words-good s im g k d c) events))
 
 -- a run that is not refused as a whole is of an image that passes the check, and is the fold of event
 checked-first : (im events : List ℕ) → check-run im events ≡ Verdict.Fine → check im ≡ Verdict.Fine
-checked-first im events e = go (check im) e
-  where
-    list : Verdict
-    list = refused-if (not (eqb (length events % 3) 0)) Refusal.MalformedEvent Verdict.Fine
-
-    go : (v : Verdict) → and-then v list ≡ Verdict.Fine → v ≡ Verdict.Fine
-    go Verdict.Fine f = refl
-    go (Verdict.Refused r) f = f
+checked-first im events e =
+    then-fine (check im) (refused-if (not (eqb (length events % 3) 0)) Refusal.MalformedEvent Verdict.Fine) e .0
 
 pub run-folds : (im events : List ℕ) → check-run im events ≡ Verdict.Fine → run im events ≡ each-event im events
 unfolding run

@@ -390,6 +390,10 @@ event-formed s k d c = tick-first (is-tick k d c)
     tick-first true = tt
     tick-first false = input-next (is-input s k d c) refl
 
+-- so whatever three words come, a good image stays good
+pub words-good : (s : Shape) (im : List ℕ) → Good s im → (k d c : ℕ) → Good s (happening s im (event-of s k d c) .image)
+words-good s im g k d c = happening-good s im g (event-of s k d c) (event-formed s k d c)
+
 -- a good image, shut, as contracts say it
 unfoldable pub Lawful : Shape → List ℕ → Type 0
 Lawful s im = Good s im

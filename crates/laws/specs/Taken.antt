@@ -16,7 +16,7 @@ use Rattle.paper.specs.declared.Shape.{Shape}
 use Rattle.paper.specs.declared.Refusal.{Refusal}
 use Rattle.paper.specs.declared.Reply.{Reply}
 use Rattle.paper.specs.declared.Verdict.{Verdict}
-use Rattle.laws.specs.Checked.{zero-is}
+use Rattle.laws.specs.Checked.{never-fine, zero-is}
 use Rattle.laws.specs.Replies.{happening-unchanged}
 
 -- the first n events of a list
@@ -91,13 +91,13 @@ module _ (s : Shape) where
           → (goes-on r (happening s im (event-of s x y z) .image) (λ next. run-from s next part) .stop ≡ Verdict.Fine) ×
           (goes-on r (happening s im (event-of s x y z) .image) (λ next. run-from s next part) .taken ≡ suc n)
       go (Reply.Accepted a) f ih = (ih f .0, rw (one-add, ih f .1))
-      go (Reply.Refused r) f ih = absurd (let z : _≡_ {A = ℕ} 0 1 = cc in omega arith)
+      go (Reply.Refused r) f ih = absurd (never-fine r f)
 
   -- and the events that were taken are the whole list
   pub taken-all : (events im : List ℕ) → run-from s im events .stop ≡ Verdict.Fine → first-events (run-from s im events .taken) events ≡ events
   taken-all [] im f = refl
-  taken-all (x ∷ []) im f = absurd (let z : _≡_ {A = ℕ} 0 1 = cc in omega arith)
-  taken-all (x ∷ y ∷ []) im f = absurd (let z : _≡_ {A = ℕ} 0 1 = cc in omega arith)
+  taken-all (x ∷ []) im f = absurd (never-fine Refusal.MalformedEvent f)
+  taken-all (x ∷ y ∷ []) im f = absurd (never-fine Refusal.MalformedEvent f)
   taken-all (x ∷ y ∷ z ∷ later) im f =
       go (happening s im (event-of s x y z) .reply) f (λ h. taken-all later (happening s im (event-of s x y z) .image) h)
     where
@@ -106,7 +106,7 @@ module _ (s : Shape) where
           → first-events (run-from s (happening s im (event-of s x y z) .image) later .taken) later ≡ later)
           → first-events (goes-on r (happening s im (event-of s x y z) .image) (λ next. run-from s next later) .taken) (x ∷ y ∷ z ∷ later) ≡ x ∷ y ∷ z ∷ later
       go (Reply.Accepted a) f ih = rw (one-add, ih f)
-      go (Reply.Refused r) f ih = absurd (let z : _≡_ {A = ℕ} 0 1 = cc in omega arith)
+      go (Reply.Refused r) f ih = absurd (never-fine r f)
 
 -- a run on an image that passes the check goes over its list, where that is of whole events
 pub run-whole : (im : List ℕ) → check im ≡ Verdict.Fine → (events : List ℕ) → length events % 3 ≡ 0 → run im events ≡ run-from (shape-of im) im events
@@ -139,6 +139,4 @@ module _ (im : List ℕ) (fine : check im ≡ Verdict.Fine) (events : List ℕ) 
 
       go : Dec (length events % 3 ≡ 0) → first-events (run im events .taken) events ≡ events
       go (yes w) = rw (run-whole im fine events w) (taken-all (shape-of im) events im (rw (run-whole im fine events w) at f))
-      go (no w) =
-          let z : Verdict.Refused Refusal.MalformedEvent ≡ Verdict.Fine = rw (run-broken w) at f in
-          absurd (let y : _≡_ {A = ℕ} 0 1 = cc in omega arith)
+      go (no w) = absurd (never-fine Refusal.MalformedEvent (rw (run-broken w) at f))

@@ -132,10 +132,6 @@ bound-line k = event-after bound-plan (ticks 7) (3 + k) .line
 abbrev bound-ready : ℕ → List ℕ
 bound-ready k = held (shape-of (bound-image k)) (bound-image k) Queue.Ready
 
--- the bound of demand 3
-abbrev bound : ℕ → ℕ → ℕ → ℕ
-bound S c k = (2 * c + 1) + (k - 1) * (2 * S + 1)
-
 pub record Worked : Type 0 where
   pub event-2 :
       full-event 2 ≡ shows (4 ∷ 0 ∷ [])
@@ -171,8 +167,7 @@ pub record Worked : Type 0 where
   pub bound-order : bound-line 2 ≡ 6 ∷ 0 ∷ []
   pub bound-not-yet : bound-ready 2 ≡ 0 ∷ 1 ∷ []
   pub bound-turn : bound-line 3 ≡ 2 ∷ 0 ∷ []
-  pub bound-reached : bound-ready (bound 1 1 1) ≡ 1 ∷ 0 ∷ []
-  pub bound-is : bound 1 1 1 ≡ 3
+  pub bound-reached : bound-ready 3 ≡ 1 ∷ 0 ∷ []
 
 pub worked : Worked
 unfolding total shape-of place at put reach step appended first taken held empty full dispatched with-status readied woken left with-woken unless-full service-faulted waiting delivered printing printing-if-idle served waits-for finished service moved-past operand found effect-of checked order with-stack changed order-faulted ordered event-of stopped turned spent turn-of tick input port-next output-done happening plan-shape fresh every queued buffers-hold characters readied-once readied-tasks clock-holds port-holds flags-hold status-holds task-holds rules-hold out-of-range not-packed segment-right wrong-segments check plan-broken check-plan check-build built event run words-of check-file decimal line printed-from runner
@@ -203,5 +198,4 @@ worked =
       bound-not-yet = refl;
       bound-turn = refl;
       bound-reached = refl;
-      bound-is = refl;
     }

@@ -16,6 +16,7 @@ use Rattle.paper.specs.declared.Reply.{Reply}
 abbrev pub word : ℕ → ℕ → ℕ
 word low high = low + 256 * high
 
+-- a byte without a second makes no word
 unfoldable pub words-of : List ℕ → List ℕ
 words-of [] = []
 words-of (b ∷ []) = []
@@ -30,6 +31,7 @@ check-file plan =
 abbrev pub digit : ℕ → ℕ
 digit d = 48 + d
 
+-- its last digits, k of them at most and none in front that is not needed
 abbrev pub last-digits : ℕ → ℕ → List ℕ
 last-digits zero n = []
 last-digits (suc k) n = cond (ltb n 10) (digit n ∷ []) (last-digits k (n / 10) ++ (digit (n % 10) ∷ []))

@@ -13,6 +13,9 @@ ghost use lib.ListN.{length};
 // The most others that can be ahead.
 const MOST_AHEAD: usize = 15;
 
+// The most tasks of a plan.
+const MOST_TASKS: usize = 16;
+
 // The slice of every plan.
 const SLICE: u16 = 2;
 
@@ -51,8 +54,8 @@ const TICKS_END: usize = 1000;
 
 // A plan of so many tasks whose programs send word after word.
 fn plan_of(tasks: usize) -> [u16; PLAN_WORDS]
-    requires { ⌜ tasks ≤ 16 ⌝ }
-    ensures { λ r. ⌜ 293 ≡ length r ⌝ }
+    requires { do ⌜ tasks ≤ (← ⟦MOST_TASKS⟧) ⌝ }
+    ensures { λ r. do ⌜ (← ⟦PLAN_WORDS⟧ .entry) ≡ length r ⌝ }
 {
     let mut plan = [SEND; PLAN_WORDS];
     plan[0] = tasks as u16;

@@ -2,13 +2,14 @@
 use mathlib.Core.Path.{sym, _∙_, ap}
 use Rattle.paper.specs.Numbers.{check-plan}
 use Rattle.paper.specs.declared.Refusal.{Refusal}
-use Rattle.files.specs.Bytes.{odd-file, even-file, never-fine}
+use Rattle.laws.specs.Checked.{never-fine}
+use Rattle.files.specs.Bytes.{odd-file, even-file}
 use borrow.Author.Needs.{needs}
 use Rattle.files.proofs.file_verdict.Statement.{statement}
 use Rattle.files.proofs.file_verdict.Tie as tie
 
 returns : tie.Need-returns
-returns c = (odd-file _ _ _ (c .before .is-odd .ensures) (c .if1 .taken), never-fine Refusal.BadPlan)
+returns c = (odd-file _ _ _ (c .before .is-odd .ensures) (c .if1 .taken), λ e. absurd (never-fine Refusal.BadPlan e))
 
 returns-2 : tie.Need-returns-2
 returns-2 c = (even-file _ _ _ (c .before .before .is-odd .ensures) (c .before .if1 .left) _ (c .verdict .ensures ∙ ap check-plan (c .before .before .before .before .before .pre)), λ e. sym (c .verdict .ensures) ∙ e)
