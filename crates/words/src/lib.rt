@@ -170,7 +170,7 @@ pub fn take(s: Shape, im: &mut [u16], q: Queue) -> u16
 }
 
 // A word of a task's entry in the segment table.
-fn entry(s: Shape, im: &[u16], t: Task, k: usize) -> u16
+pub fn entry(s: Shape, im: &[u16], t: Task, k: usize) -> u16
     requires { ⌜ Sound s (now im) ⌝ }
     requires { ⌜ (t .0 < s .n) × (k < 2) ⌝ }
     ensures { λ r. ⌜ r ≡ word-at s (now (im .entry)) (cell SegmentTable (t .0) k) ⌝ }
