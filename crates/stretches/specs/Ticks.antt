@@ -1,0 +1,100 @@
+-- Ticks one after another, all of them accepted. Assumes nothing.
+use mathlib.Core.Path.{_≡_, refl, sym, ap, _∙_}
+use mathlib.Core.List.{List}
+use mathlib.Core.Bool.{Bool, true, false}
+use mathlib.Core.Logic.{_⊎_, inl, inr}
+use Prim.Native.Nat.{ℕ, zero, suc, _+_, _-_, _<_, _≤_}
+use native.Mathlib.Omega.{arith}
+use borrow.Author.Tests.{ltb-true, ltb-false}
+use lib.Dec.{ltb}
+use Rattle.paper.specs.Queues.{empty}
+use Rattle.paper.specs.Waking.{Outcome, accepted}
+use Rattle.paper.specs.Events.{tick}
+use Rattle.paper.specs.declared.Shape.{Shape}
+use Rattle.paper.specs.declared.Queue.{Queue}
+use Rattle.paper.specs.declared.Answer.{Answer}
+use Rattle.paper.specs.declared.Reply.{Reply}
+use Rattle.laws.specs.Stays.{Lawful, lawful, good, tick-good}
+
+-- the image after so many ticks
+abbrev pub ticked : Shape → List ℕ → ℕ → List ℕ
+ticked s im zero = im
+ticked s im (suc k) = tick s (ticked s im k) .image
+
+-- a reply that accepts
+abbrev pub Taken : Reply → Type 0
+Taken (Reply.Accepted a) = Unit {0}
+Taken (Reply.Refused r) = ⊥
+
+-- the image is the one after n ticks, and each of them was accepted
+unfoldable pub Ticks : Shape → List ℕ → ℕ → List ℕ → Type 0
+Ticks s im n out = (out ≡ ticked s im n) × ((k : ℕ) → k < n → Taken (tick s (ticked s im k) .reply))
+
+-- ticks after ticks
+ticked-joined : (s : Shape) (im : List ℕ) (n k : ℕ) → ticked s im (n + k) ≡ ticked s (ticked s im n) k
+ticked-joined s im n zero =
+    let e : n + 0 ≡ n = omega arith in
+    ap (ticked s im) e
+ticked-joined s im n (suc k) =
+    let e : n + suc k ≡ suc (n + k) = omega arith in
+    ap (ticked s im) e ∙ ap (λ m. tick s m .image) (ticked-joined s im n k)
+
+-- no tick leaves the image as it is
+pub ticks-none : (s : Shape) (im : List ℕ) → Ticks s im 0 im
+unfolding Ticks
+ticks-none s im = (refl, λ k h. absurd (omega arith))
+
+-- a number below a sum is below the first, or past it by less than the second
+below-sum : (j n k : ℕ) → j < n + k → (j < n) ⊎ ((j ≡ n + (j - n)) × (j - n < k))
+below-sum j n k h = go (ltb j n) refl
+  where
+    go : (b : Bool) → ltb j n ≡ b → (j < n) ⊎ ((j ≡ n + (j - n)) × (j - n < k))
+    go true e = inl (ltb-true j n e)
+    go false e = inr (omega (arith, ltb-false j n e), omega (arith, ltb-false j n e))
+
+-- ticks, and then more of them
+pub ticks-joined : (s : Shape) (im m out : List ℕ) (n k : ℕ) → Ticks s im n m → Ticks s m k out → Ticks s im (n + k) out
+unfolding Ticks
+ticks-joined s im m out n k a b =
+    (b .0 ∙ ap (λ x. ticked s x k) (a .0) ∙ sym (ticked-joined s im n k), λ j h. go j (below-sum j n k h))
+  where
+    go : (j : ℕ) → (j < n) ⊎ ((j ≡ n + (j - n)) × (j - n < k)) → Taken (tick s (ticked s im j) .reply)
+    go j (inl l) = a .1 j l
+    go j (inr (e, l)) =
+        let z : ticked s im j ≡ ticked s m (j - n) = ap (ticked s im) e ∙ ticked-joined s im n (j - n) ∙ ap (λ x. ticked s x (j - n)) (sym (a .0)) in
+        rw z (b .1 (j - n) l)
+
+-- one tick that was accepted
+one-tick : (s : Shape) (m out : List ℕ) (a : Answer) → Reply.Accepted a ≡ tick s m .reply → out ≡ tick s m .image → Ticks s m 1 out
+unfolding Ticks
+one-tick s m out a r e = (e, λ k h. go k h)
+  where
+    go : (k : ℕ) → k < 1 → Taken (tick s (ticked s m k) .reply)
+    go zero h = rw (← r) tt
+    go (suc k) h = absurd (omega arith)
+
+-- one more tick
+pub ticks-more : (s : Shape) (im m out : List ℕ) (n : ℕ) → Ticks s im n m → (a : Answer) → Reply.Accepted a ≡ tick s m .reply → out ≡ tick s m .image
+    → Ticks s im (n + 1) out
+ticks-more s im m out n h a r e = ticks-joined s im m out n 1 h (one-tick s m out a r e)
+
+-- while the ready queue is empty ticks change nothing
+module _ (s : Shape) (im : List ℕ) (none : empty s im Queue.Ready ≡ true) where
+  idle-tick : tick s im ≡ accepted Answer.Idle im
+  unfolding tick
+  idle-tick = rw none
+
+  pub ticks-idle : (n : ℕ) → Ticks s im n im
+  ticks-idle zero = ticks-none s im
+  ticks-idle (suc n) =
+      let e : n + 1 ≡ suc n = omega arith in
+      rw (← e) (ticks-more s im im im n (ticks-idle n) Answer.Idle (rw idle-tick) (rw idle-tick))
+
+-- a lawful image stays lawful
+ticked-lawful : (s : Shape) (im : List ℕ) → Lawful s im → (n : ℕ) → Lawful s (ticked s im n)
+ticked-lawful s im h zero = h
+ticked-lawful s im h (suc n) = lawful (tick-good s (ticked s im n) (good (ticked-lawful s im h n)))
+
+pub ticks-lawful : (s : Shape) (im out : List ℕ) (n : ℕ) → Lawful s im → Ticks s im n out → Lawful s out
+unfolding Ticks
+ticks-lawful s im out n h t = rw (t .0) (ticked-lawful s im h n)
