@@ -139,3 +139,43 @@ module _ (s : Shape) (im : List ℕ) (i : Task) (c : ℕ) (hi : i .0 < s .n) (la
   same-order =
       let e : found s m i (at s m (next-order i)) ≡ found s im i (at s im (next-order i)) = rw (own-word 0) (same-found (at s im (next-order i))) in
       same-reading _ _ _ _ e (λ w. same-checked w (shape-of-order (order-of (op-of w))))
+
+  -- the clock may be written before the order's changes or after them
+  past-moved : (next : ℕ) → moved-past s m i next ≡ put s (moved-past s im i next) clock c
+  unfolding moved-past
+  past-moved next = put-past s c im (next-order i) next tt
+
+  past-store : (x : List ℕ) (p : Place) (v : ℕ) → InSegment s im i p → set (put s x clock c) (p .0) v ≡ put s (set x (p .0) v) clock c
+  unfolding put
+  past-store x p v h = set-comm x (place s clock .0) (p .0) c v (λ e. off-segment p h (sym e))
+
+  past-stack : (x : List ℕ) (top n : ℕ) → with-stack s (put s x clock c) i top n ≡ put s (with-stack s x i top n) clock c
+  unfolding with-stack
+  past-stack x top n = rw (put-past s c x (stack i) top tt) (put-past s c (put s x (stack i) top) (next-order i) n tt)
+
+  past-change : (next : ℕ) (d : Change) → Own s im i (Effect.Does next d) → changed s m i next d ≡ put s (changed s im i next d) clock c
+  unfolding changed Own
+  past-change next (Change.Register a w) h = rw (past-moved next) (put-past s c (moved-past s im i next) (reg i a) w tt)
+  past-change next (Change.Store p w) h = rw (past-moved next) (past-store (moved-past s im i next) p w h)
+  past-change next (Change.Flags f) h = rw (past-moved next) (put-past s c (moved-past s im i next) (flags i) f tt)
+  past-change next (Change.Call p top n) h =
+      rw (past-moved next, past-store (moved-past s im i next) p next h) (past-stack (set (moved-past s im i next) (p .0) next) top n)
+  past-change next (Change.Return top w) h = rw (past-moved next) (past-stack (moved-past s im i next) top w)
+
+  past-fault : (e : ℕ) → order-faulted s m i e ≡ put s (order-faulted s im i e) clock c
+  unfolding order-faulted
+  past-fault e = rw (own-word 8) (put-past s c im (flags i) (flags-of (condition s im i) e (pending s im i)) tt)
+
+  past-effect : (e : Effect) → Own s im i e → after-order s m i e ≡ put s (after-order s im i e) clock c
+  past-effect (Effect.Does next d) h = past-change next d h
+  past-effect (Effect.Faults e) h = past-fault e
+
+-- of a sound image, whatever the clock says
+module _ (s : Shape) (im : List ℕ) (i : Task) (h : Sound s im) (hi : i .0 < s .n) (c : ℕ) where
+  -- the order is the same
+  pub order-clock : order s (put s im clock c) i ≡ order s im i
+  order-clock = same-order s im i c hi (sound h .laid)
+
+  -- and so is the image after it, but for the clock
+  pub after-clock : after-order s (put s im clock c) i (order s im i) ≡ put s (after-order s im i (order s im i)) clock c
+  after-clock = past-effect s im i c hi (sound h .laid) (order s im i) (order-own s im i hi (sound h .laid))
