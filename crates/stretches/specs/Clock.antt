@@ -9,6 +9,7 @@ use lib.Dec.{T, T-not, eqb}
 use lib.ListN.{set}
 use lib.Seq.{getD-set-other, set-comm, set-set}
 use Rattle.paper.specs.Image.{address, word, ord, begin, place, at, put, clock, reg, flags, base, len, reach}
+use Rattle.paper.specs.Queues.{head, count, slot, first, empty}
 use Rattle.paper.specs.Flags.{flags-of, cc as condition, error, pending}
 use Rattle.paper.specs.Orders.{op-of, a-of, b-of, order-of, shape-of-order, holds, serves, compared, next-order, stack, past, moved-past, operand, found-at, found, reading, storing, second, calls, sets, effect, effect-of, checked, order, with-stack, changed, order-faulted, after-order}
 use Rattle.paper.specs.Rules.{Laid}
@@ -18,6 +19,7 @@ use Rattle.paper.specs.declared.Place.{Place}
 use Rattle.paper.specs.declared.Shape.{Shape}
 use Rattle.paper.specs.declared.Cell.{Cell}
 use Rattle.paper.specs.declared.Part.{Part}
+use Rattle.paper.specs.declared.Queue.{Queue}
 use Rattle.paper.specs.declared.Reach.{Reach}
 use Rattle.paper.specs.declared.Found.{Found}
 use Rattle.paper.specs.declared.Op.{Op}
@@ -58,6 +60,15 @@ module _ (s : Shape) (c : ℕ) where
   pub clock-twice : (m : List ℕ) (b : ℕ) → put s (put s m clock b) clock c ≡ put s m clock c
   unfolding put
   clock-twice m b = set-set m (place s clock .0) b c
+
+  -- the ready queue is empty or not, and has the first task that it has, whatever the clock says
+  pub clock-empty : (m : List ℕ) → empty s (put s m clock c) Queue.Ready ≡ empty s m Queue.Ready
+  unfolding empty
+  clock-empty m = rw (past-clock m (count s Queue.Ready) tt)
+
+  pub clock-first : (m : List ℕ) → first s (put s m clock c) Queue.Ready ≡ first s m Queue.Ready
+  unfolding first
+  clock-first m = rw (past-clock m (head s Queue.Ready) tt) (past-clock m (slot s Queue.Ready (at s m (head s Queue.Ready))) tt)
 
 -- the same word is read to the same effect
 same-reading : (x y : Found) (f g : ℕ → Effect) → x ≡ y → ((w : ℕ) → f w ≡ g w) → reading x f ≡ reading y g

@@ -5,16 +5,24 @@ use mathlib.Core.Bool.{Bool, true, false}
 use mathlib.Core.Logic.{_⊎_, inl, inr}
 use Prim.Native.Nat.{ℕ, zero, suc, _+_, _-_, _<_, _≤_}
 use native.Mathlib.Omega.{arith}
-use borrow.Author.Tests.{ltb-true, ltb-false}
+use borrow.Author.Tests.{ltb-true, ltb-false, ne-eqb}
 use lib.Dec.{ltb}
-use Rattle.paper.specs.Queues.{empty}
-use Rattle.paper.specs.Waking.{Outcome, accepted}
-use Rattle.paper.specs.Events.{tick}
+use Rattle.paper.specs.Image.{at, put, clock, flags}
+use Rattle.paper.specs.Queues.{first, empty}
+use Rattle.paper.specs.Flags.{error, pending}
+use Rattle.paper.specs.Waking.{accepted}
+use Rattle.paper.specs.Orders.{order, order-answer}
+use Rattle.paper.specs.Events.{spent, ordered, turn-of, tick}
+use Rattle.paper.specs.declared.Task.{Task}
 use Rattle.paper.specs.declared.Shape.{Shape}
 use Rattle.paper.specs.declared.Queue.{Queue}
 use Rattle.paper.specs.declared.Answer.{Answer}
 use Rattle.paper.specs.declared.Reply.{Reply}
+use Rattle.laws.specs.Cells.{at-same, put-held}
+use Rattle.laws.specs.Sound.{Sound, sound, put-sound}
 use Rattle.laws.specs.Stays.{Lawful, lawful, good, tick-good}
+use Rattle.stretches.specs.Clock.{past-clock, clock-twice, clock-empty, clock-first, order-clock, after-clock}
+use Rattle.stretches.specs.Row.{in-a-row, row-sound, row-empty, row-first}
 
 -- the image after so many ticks
 abbrev pub ticked : Shape → List ℕ → ℕ → List ℕ
@@ -98,3 +106,59 @@ ticked-lawful s im h (suc n) = lawful (tick-good s (ticked s im n) (good (ticked
 pub ticks-lawful : (s : Shape) (im out : List ℕ) (n : ℕ) → Lawful s im → Ticks s im n out → Lawful s out
 unfolding Ticks
 ticks-lawful s im out n h t = rw (t .0) (ticked-lawful s im h n)
+
+-- a tick of the first task, with time left, no error and nothing pending, is one order
+order-tick : (s : Shape) (im : List ℕ) (i : Task) → empty s im Queue.Ready ≡ false → first s im Queue.Ready ≡ i .0 → 0 < at s im clock → at s im (flags i) < 4
+    → tick s im ≡ ordered s im i (order s im i)
+unfolding tick turn-of
+order-tick s im i some e time calm =
+    let none : error s im i ≡ 0 = omega arith in
+    let idle : pending s im i ≡ 0 = omega arith in
+    let runs = ne-eqb (at s im clock) 0 (λ z. omega arith) in
+    rw (some, e, none, runs, idle)
+
+-- orders of the first task in a row are ticks
+module _ (s : Shape) (im : List ℕ) (i : Task) (h : Sound s im) (hi : i .0 < s .n) (some : empty s im Queue.Ready ≡ false)
+    (e : first s im Queue.Ready ≡ i .0) where
+  -- the image after k orders with the clock at d
+  abbrev row-at : ℕ → ℕ → List ℕ
+  row-at k d = put s (in-a-row s im i k) clock d
+
+  row-lies : (k d : ℕ) → Sound s (row-at k d)
+  row-lies k d = put-sound s (in-a-row s im i k) clock d (omega arith, omega arith) (omega arith) (row-sound s im i h hi k)
+
+  row-some : (k d : ℕ) → empty s (row-at k d) Queue.Ready ≡ false
+  row-some k d = clock-empty s d (in-a-row s im i k) ∙ row-empty s im i h hi k ∙ some
+
+  row-is : (k d : ℕ) → first s (row-at k d) Queue.Ready ≡ i .0
+  row-is k d = clock-first s d (in-a-row s im i k) ∙ row-first s im i h hi k ∙ e
+
+  row-clock : (k d : ℕ) → at s (row-at k d) clock ≡ d
+  row-clock k d = at-same s (in-a-row s im i k) clock d (omega arith, omega arith) (sound (row-sound s im i h hi k) .laid .words)
+
+  -- one more order
+  row-tick : (k d : ℕ) → 0 < d → at s (in-a-row s im i k) (flags i) < 4
+      → tick s (row-at k d) ≡ accepted (order-answer i (order s (in-a-row s im i k) i)) (row-at (suc k) (d - 1))
+  unfolding ordered spent
+  row-tick k d time calm =
+      let m = in-a-row s im i k in
+      let lies = row-sound s im i h hi k in
+      let one = order-tick s (row-at k d) i (row-some k d) (row-is k d) (rw (row-clock k d) time) (rw (past-clock s d m (flags i) tt) calm) in
+      one ∙ rw (order-clock s m i lies hi d, after-clock s m i lies hi d, row-clock (suc k) d, clock-twice s (d - 1) (in-a-row s im i (suc k)) d)
+
+  module _ (c : ℕ) (ec : c ≡ at s im clock) where
+    pub ticks-row : (n : ℕ) → n ≤ c → ((k : ℕ) → k < n → at s (in-a-row s im i k) (flags i) < 4) → Ticks s im n (put s (in-a-row s im i n) clock (c - n))
+    ticks-row zero l calm =
+        let z : put s im clock (c - 0) ≡ im = put-held s im clock (c - 0) (omega arith) in
+        rw z (ticks-none s im)
+    ticks-row (suc n) l calm =
+        let so = ticks-row n (omega arith) (λ k hk. calm k (omega arith)) in
+        let t = row-tick n (c - n) (omega arith) (calm n (omega arith)) in
+        let a : n + 1 ≡ suc n = omega arith in
+        let b : c - n - 1 ≡ c - (n + 1) = omega arith in
+        rw (← a, ← b) (ticks-more s im _ _ n so (order-answer i (order s (in-a-row s im i n) i)) (rw t) (rw t))
+
+  -- and afterwards the task is still the first
+  pub ticks-row-ready : (n d : ℕ) → (empty s (put s (in-a-row s im i n) clock d) Queue.Ready ≡ false) × (first s (put s (in-a-row s im i n) clock d) Queue.Ready ≡ i .0) ×
+      Sound s (put s (in-a-row s im i n) clock d)
+  ticks-row-ready n d = (row-some n d, row-is n d, row-lies n d)
