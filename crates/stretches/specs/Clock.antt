@@ -1,24 +1,23 @@
 -- Orders do not look at the clock. Assumes nothing.
-use mathlib.Core.Path.{_≡_, refl, sym, ap, _∙_}
+use mathlib.Core.Path.{_≡_, refl, sym, ap}
 use mathlib.Core.List.{List}
-use mathlib.Core.Bool.{Bool, true, false, not, cond, _&&_}
+use mathlib.Core.Bool.{not}
 use mathlib.Core.Logic.{_≢_}
 use Prim.Native.Nat.{ℕ, zero, suc, _+_, _<_, _≤_}
 use native.Mathlib.Omega.{arith}
-use lib.Dec.{T, T-not, eqb}
+use lib.Dec.{T, eqb}
 use lib.ListN.{set}
 use lib.Seq.{getD-set-other, set-comm, set-set}
 use Rattle.paper.specs.Image.{address, word, ord, begin, place, at, put, clock, reg, flags, base, len, reach}
 use Rattle.paper.specs.Queues.{head, count, slot, first, empty}
-use Rattle.paper.specs.Flags.{flags-of, cc as condition, error, pending}
-use Rattle.paper.specs.Orders.{op-of, a-of, b-of, order-of, shape-of-order, holds, serves, compared, next-order, stack, past, moved-past, operand, found-at, found, reading, storing, second, calls, sets, effect, effect-of, checked, order, with-stack, changed, order-faulted, after-order}
+use Rattle.paper.specs.Flags.{flags-of, cc as condition, pending}
+use Rattle.paper.specs.Orders.{op-of, a-of, b-of, order-of, shape-of-order, next-order, stack, past, moved-past, operand, found-at, found, reading, second, effect, effect-of, checked, order, with-stack, changed, order-faulted, after-order}
 use Rattle.paper.specs.Rules.{Laid}
 use Rattle.paper.specs.declared.Task.{Task}
 use Rattle.paper.specs.declared.Address.{Address}
 use Rattle.paper.specs.declared.Place.{Place}
 use Rattle.paper.specs.declared.Shape.{Shape}
 use Rattle.paper.specs.declared.Cell.{Cell}
-use Rattle.paper.specs.declared.Part.{Part}
 use Rattle.paper.specs.declared.Queue.{Queue}
 use Rattle.paper.specs.declared.Reach.{Reach}
 use Rattle.paper.specs.declared.Found.{Found}
@@ -61,11 +60,12 @@ module _ (s : Shape) (c : ℕ) where
   unfolding put
   clock-twice m b = set-set m (place s clock .0) b c
 
-  -- the ready queue is empty or not, and has the first task that it has, whatever the clock says
+  -- the ready queue is empty or not whatever the clock says
   pub clock-empty : (m : List ℕ) → empty s (put s m clock c) Queue.Ready ≡ empty s m Queue.Ready
   unfolding empty
   clock-empty m = rw (past-clock m (count s Queue.Ready) tt)
 
+  -- and its first task is the same
   pub clock-first : (m : List ℕ) → first s (put s m clock c) Queue.Ready ≡ first s m Queue.Ready
   unfolding first
   clock-first m = rw (past-clock m (head s Queue.Ready) tt) (past-clock m (slot s Queue.Ready (at s m (head s Queue.Ready))) tt)

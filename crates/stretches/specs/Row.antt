@@ -6,7 +6,7 @@ use Prim.Native.Nat.{ℕ, zero, suc, _+_, _<_}
 use native.Mathlib.Omega.{arith}
 use lib.Dec.{T, eqb}
 use Rattle.paper.specs.Image.{lead, ord, cell, Valid, at}
-use Rattle.paper.specs.Queues.{head, count, slot, first, empty}
+use Rattle.paper.specs.Queues.{head, first, empty}
 use Rattle.paper.specs.Orders.{order, after-order}
 use Rattle.paper.specs.declared.Task.{Task}
 use Rattle.paper.specs.declared.Shape.{Shape}

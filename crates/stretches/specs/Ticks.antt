@@ -47,7 +47,7 @@ ticked-joined s im n (suc k) =
     let e : n + suc k ≡ suc (n + k) = omega arith in
     ap (ticked s im) e ∙ ap (λ m. tick s m .image) (ticked-joined s im n k)
 
--- no tick leaves the image as it is
+-- after no ticks the image is as it was
 pub ticks-none : (s : Shape) (im : List ℕ) → Ticks s im 0 im
 unfolding Ticks
 ticks-none s im = (refl, λ k h. absurd (omega arith))
@@ -86,23 +86,25 @@ pub ticks-more : (s : Shape) (im m out : List ℕ) (n : ℕ) → Ticks s im n m 
     → Ticks s im (n + 1) out
 ticks-more s im m out n h a r e = ticks-joined s im m out n 1 h (one-tick s m out a r e)
 
--- while the ready queue is empty ticks change nothing
 module _ (s : Shape) (im : List ℕ) (none : empty s im Queue.Ready ≡ true) where
+  -- a tick of nobody changes nothing
   idle-tick : tick s im ≡ accepted Answer.Idle im
   unfolding tick
   idle-tick = rw none
 
+  -- nor do more of them
   pub ticks-idle : (n : ℕ) → Ticks s im n im
   ticks-idle zero = ticks-none s im
   ticks-idle (suc n) =
       let e : n + 1 ≡ suc n = omega arith in
       rw (← e) (ticks-more s im im im n (ticks-idle n) Answer.Idle (rw idle-tick) (rw idle-tick))
 
--- a lawful image stays lawful
+-- a lawful image stays lawful after so many ticks
 ticked-lawful : (s : Shape) (im : List ℕ) → Lawful s im → (n : ℕ) → Lawful s (ticked s im n)
 ticked-lawful s im h zero = h
 ticked-lawful s im h (suc n) = lawful (tick-good s (ticked s im n) (good (ticked-lawful s im h n)))
 
+-- and so after ticks that were accepted
 pub ticks-lawful : (s : Shape) (im out : List ℕ) (n : ℕ) → Lawful s im → Ticks s im n out → Lawful s out
 unfolding Ticks
 ticks-lawful s im out n h t = rw (t .0) (ticked-lawful s im h n)
@@ -124,6 +126,7 @@ module _ (s : Shape) (im : List ℕ) (i : Task) (h : Sound s im) (hi : i .0 < s 
   abbrev row-at : ℕ → ℕ → List ℕ
   row-at k d = put s (in-a-row s im i k) clock d
 
+  -- it is sound, its first task is i, and its clock is d
   row-lies : (k d : ℕ) → Sound s (row-at k d)
   row-lies k d = put-sound s (in-a-row s im i k) clock d (omega arith, omega arith) (omega arith) (row-sound s im i h hi k)
 
@@ -147,6 +150,7 @@ module _ (s : Shape) (im : List ℕ) (i : Task) (h : Sound s im) (hi : i .0 < s 
       one ∙ rw (order-clock s m i lies hi d, after-clock s m i lies hi d, row-clock (suc k) d, clock-twice s (d - 1) (in-a-row s im i (suc k)) d)
 
   module _ (c : ℕ) (ec : c ≡ at s im clock) where
+    -- n orders are n ticks, and the clock falls by n
     pub ticks-row : (n : ℕ) → n ≤ c → ((k : ℕ) → k < n → at s (in-a-row s im i k) (flags i) < 4) → Ticks s im n (put s (in-a-row s im i n) clock (c - n))
     ticks-row zero l calm =
         let z : put s im clock (c - 0) ≡ im = put-held s im clock (c - 0) (omega arith) in
