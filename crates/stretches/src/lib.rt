@@ -1,0 +1,1 @@
+// Ticks in a row.
