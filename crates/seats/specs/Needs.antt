@@ -93,7 +93,7 @@ reach-inside s im x a p h e =
 
 -- a word of the segment
 module _ (s : Shape) (im : List ℕ) (x : Seat) (p : Place) (g : Sound s im) (h : Seated s im x) (inside : Inside x p) where
-  segment-of : InSegment s im (x .task) p
+  pub segment-of : InSegment s im (x .task) p
   segment-of = (omega (arith, inside .0, seated h .based), omega (arith, inside .1, seated h .based, seated h .long))
 
   pub place-among : Among s p

@@ -64,6 +64,10 @@ read-back Op.Return = refl
 read-back Op.Service = refl
 
 -- so an entry that is an op's shape encoded is that shape decoded
-pub shape-read : (t : List ℕ) (op : ℕ) → Shapes t → op < 256 → decoded (getD t op 0) ≡ shape-of-order (order-of op)
+pub shape-read : (op e : ℕ) → e ≡ encoded (shape-of-order (order-of op)) → decoded e ≡ shape-of-order (order-of op)
+shape-read op e h = rw h (read-back (order-of op))
+
+-- the entry of an op
+pub entry-read : (t : List ℕ) (op : ℕ) → Shapes t → op < 256 → getD t op 0 ≡ encoded (shape-of-order (order-of op))
 unfolding Shapes
-shape-read t op h l = rw (h op l) (read-back (order-of op))
+entry-read t op h l = h op l

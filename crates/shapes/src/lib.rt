@@ -2,10 +2,16 @@
 ghost use mathlib.Core.Path.{_≡_};
 ghost use Prim.Native.Nat.{_<_};
 ghost use Rattle.paper.specs.Orders.{order-of, shape-of-order};
-ghost use Rattle.shapes.specs.Entries.{Shapes, field-of, decoded};
+ghost use Rattle.shapes.specs.Entries.{Shapes, encoded, field-of, decoded};
 use paper::Field;
 use paper::OrderShape;
+pub use table::CONDITION_AND_N;
+pub use table::NO_FIELD;
+pub use table::N_ALONE;
+pub use table::ONE_REGISTER_AND_N;
 use table::ORDER_SHAPES;
+pub use table::SERVICE_NUMBER;
+pub use table::TWO_REGISTERS;
 
 mod table;
 
@@ -39,11 +45,20 @@ fn decode(entry: u8) -> OrderShape
     OrderShape::Known(words, field(entry / 4 % 4), field(entry / 16))
 }
 
+// The entry of the order whose first word has the high byte op.
+pub fn entry(shapes: &[u8; 256], op: u16) -> u8
+    requires { ⌜ op < 256 ⌝ }
+    requires { ⌜ Shapes (now shapes) ⌝ }
+    ensures { λ r. ⌜ r ≡ encoded (shape-of-order (order-of op)) ⌝ }
+{
+    shapes[op as usize]
+}
+
 // The shape of the order whose first word has the high byte op.
 pub fn order_shape(shapes: &[u8; 256], op: u16) -> OrderShape
     requires { ⌜ op < 256 ⌝ }
     requires { ⌜ Shapes (now shapes) ⌝ }
     ensures { λ r. ⌜ r ≡ shape-of-order (order-of op) ⌝ }
 {
-    decode(shapes[op as usize])
+    decode(entry(shapes, op))
 }

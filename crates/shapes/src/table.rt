@@ -3,17 +3,17 @@
 // An entry of the table: words + 4 x field a + 16 x field b, where a field is 0 unused, 1 register, 2 condition, 3 service.
 const UNKNOWN: u8 = 0;
 
-const NO_FIELD: u8 = 1;
+pub const NO_FIELD: u8 = 1;
 
-const N_ALONE: u8 = 2;
+pub const N_ALONE: u8 = 2;
 
-const ONE_REGISTER_AND_N: u8 = 2 + 4;
+pub const ONE_REGISTER_AND_N: u8 = 2 + 4;
 
-const CONDITION_AND_N: u8 = 2 + 4 * 2;
+pub const CONDITION_AND_N: u8 = 2 + 4 * 2;
 
-const SERVICE_NUMBER: u8 = 1 + 4 * 3;
+pub const SERVICE_NUMBER: u8 = 1 + 4 * 3;
 
-const TWO_REGISTERS: u8 = 1 + 4 + 16;
+pub const TWO_REGISTERS: u8 = 1 + 4 + 16;
 
 // One entry for each high byte: ops 1 to 18 as named beside them, ops 0 and 19 to 255 unknown.
 pub const ORDER_SHAPES: [u8; 256] = [

@@ -6,7 +6,7 @@ use Rattle.shapes.proofs.order_shape.Statement.{statement}
 use Rattle.shapes.proofs.order_shape.Tie as tie
 
 returns : tie.Need-returns
-returns c = c .decode .ensures ∙ shape-read _ _ (c .before .before .pre .1) (c .before .before .pre .0)
+returns c = c .decode .ensures ∙ shape-read (c .before .before .args .op) _ (c .before .entry .ensures)
 
 pub order-shape-spec : {M : Type 1} → statement M
-order-shape-spec = tie.close (tie.spec (λ c. search needs) (λ c κs. search needs) returns)
+order-shape-spec = tie.close (tie.spec (λ c κs. search needs) (λ c κs. search needs) returns)

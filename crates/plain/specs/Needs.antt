@@ -1,0 +1,383 @@
+-- What the calls of this crate ask and make, as laws over values. Assumes nothing.
+use mathlib.Core.Path.{_≡_, refl, sym, ap, _∙_}
+use mathlib.Core.List.{List}
+use mathlib.Core.Bool.{Bool, true, false, cond, not, _&&_, _||_, and-eq-true-iff}
+use mathlib.Core.Logic.{_≢_}
+use Prim.Native.Nat.{ℕ, _+_, _-_, _*_, _/_, _%_, _<_, _≤_, min, max}
+use native.Mathlib.Omega.{arith}
+use borrow.Author.Tests.{not-false, leb-true, ltb-true, lt-ltb, le-leb, eq-eqb, ne-eqb}
+use lib.Dec.{T, eqb, leb, ltb}
+use lib.ListN.{length, set}
+use Rattle.paper.specs.Image.{address, total, at, put, reg, flags, reach}
+use Rattle.paper.specs.Flags.{flags-of, cc-of, error-of, pending-of}
+use Rattle.paper.specs.Orders.{op-of, a-of, b-of, order-of, two-registers, shape-of-order, holds, serves, mod-word, next-order, stack, past, operand, found, reading, storing, sets, unless-zero, on-bits, compared, flags-become, calls, effect, effect-of, checked, order, with-stack, changed, after-order}
+use Rattle.paper.specs.declared.Task.{Task}
+use Rattle.paper.specs.declared.Place.{Place}
+use Rattle.paper.specs.declared.Shape.{Shape}
+use Rattle.paper.specs.declared.Cell.{Cell}
+use Rattle.paper.specs.declared.Part.{Part}
+use Rattle.paper.specs.declared.Op.{Op}
+use Rattle.paper.specs.declared.Field.{Field}
+use Rattle.paper.specs.declared.OrderShape.{OrderShape}
+use Rattle.paper.specs.declared.Found.{Found}
+use Rattle.paper.specs.declared.Reach.{Reach}
+use Rattle.paper.specs.declared.Change.{Change}
+use Rattle.paper.specs.declared.Effect.{Effect}
+use Rattle.laws.specs.Cells.{at-same, at-other, other-part, length-put}
+use Rattle.laws.specs.Segments.{InSegment, segment-upto, segment-valid, stored}
+use Rattle.laws.specs.Sound.{Sound, sound}
+use Rattle.laws.specs.Effects.{found-inside}
+use Rattle.shapes.specs.Entries.{encoded, decoded}
+use Rattle.shapes.proofs.Rule.{shape-read}
+use Rattle.operands.specs.Needs.{operand-other}
+use Rattle.orders.specs.Needs.{register-made, store-made, flags-made, call-made, return-made, stacked}
+use Rattle.seats.specs.Seated.{Seated, Inside, seated}
+use Rattle.seats.specs.Needs.{reach-inside, segment-of}
+use Rattle.seats.specs.declared.Seat.{Seat}
+use Rattle.plain.specs.After.{Calm, After}
+use Rattle.plain.specs.declared.Went.{Went}
+
+-- an order that is left changes nothing
+pub left : (s : Shape) (im : List ℕ) (i : Task) → After s im i Went.Left im
+unfolding After
+left s im i = refl
+
+-- an order that is carried out: R0, the flags and the image after it
+module _ (s : Shape) (im : List ℕ) (x : Seat) (g : Sound s im) (h : Seated s im x) where
+  other-word : (m out : List ℕ) (k j v : ℕ) → out ≡ put s m (reg (x .task) k) v → k < 9 → j < 9 → j ≢ k → at s out (reg (x .task) j) ≡ at s m (reg (x .task) j)
+  other-word m out k j v e hk hj ne =
+      rw e (at-other s m (reg (x .task) k) (reg (x .task) j) v (seated h .among, hk) (seated h .among, hj) (λ z. ne (ap (λ (c : Cell). c .column) z)))
+
+  same-word : (m out : List ℕ) (k v : ℕ) → out ≡ put s m (reg (x .task) k) v → k < 9 → length m ≡ total s → at s out (reg (x .task) k) ≡ v
+  same-word m out k v e hk long = rw e (at-same s m (reg (x .task) k) v (seated h .among, hk) long)
+
+  stored-word : (m out : List ℕ) (p : Place) (v k : ℕ) → Inside x p → out ≡ set m (p .0) v → k < 9 → at s out (reg (x .task) k) ≡ at s m (reg (x .task) k)
+  stored-word m out p v k inside e hk =
+      let own = segment-of s im x p g h inside in
+      let ok = segment-valid s im (sound g .laid) (x .task) (seated h .among) p own in
+      rw (e, stored s im (sound g .laid) (x .task) (seated h .among) p own m v)
+      (other-part s m Part.Segments Part.TaskTable _ (x .task .0) _ k v tt (ok .0) (ok .1) (seated h .among) hk)
+
+  goes-on : (next n : ℕ) (c : Change) (out : List ℕ) → order s im (x .task) ≡ Effect.Does next c → out ≡ changed s im (x .task) next c
+      → n ≡ at s out (next-order (x .task)) → at s out (flags (x .task)) < 4 → n < 65536 → After s im (x .task) (Went.On n) out
+  unfolding After
+  goes-on next n c out eo e en f l = (rw eo e, en, f, l)
+
+  module _ (m out : List ℕ) (next : ℕ) (em : m ≡ put s im (reg (x .task) 0) next) where
+    m-long : length m ≡ total s
+    m-long = rw em (length-put s im (reg (x .task) 0) next ∙ sound g .laid .words)
+
+    m-next : at s m (reg (x .task) 0) ≡ next
+    m-next = same-word im m 0 next em (omega arith) (sound g .laid .words)
+
+    m-flags : at s m (reg (x .task) 8) ≡ at s im (reg (x .task) 8)
+    m-flags = other-word im m 0 8 next em (omega arith) (omega arith) (λ e. omega arith)
+
+    module _ (quiet : at s im (flags (x .task)) < 4) (k : ℕ) where
+      pub set-went : (a v : ℕ) → order s im (x .task) ≡ sets next a v → out ≡ put s m (reg (x .task) a) v → (1 ≤ a) × (a < 8) → k ≡ next → next < 65536
+          → After s im (x .task) (Went.On k) out
+      set-went a v eo e ha ek l =
+          let low : a < 9 = omega (arith, ha .1) in
+          let zero : 0 ≢ a = λ z. omega (arith, ha .0) in
+          let eight : 8 ≢ a = λ z. omega (arith, ha .1) in
+          goes-on next k (Change.Register a v) out eo (register-made s im m out (x .task) next (Change.Register a v) em a v refl e)
+          (ek ∙ sym (other-word m out a 0 v e low (omega arith) zero ∙ m-next))
+          (omega (arith, other-word m out a 8 v e low (omega arith) eight, m-flags))
+          (omega arith)
+
+      pub jump-went : (n : ℕ) → order s im (x .task) ≡ sets next 0 n → out ≡ put s m (reg (x .task) 0) n → k ≡ n → n < 65536
+          → After s im (x .task) (Went.On k) out
+      jump-went n eo e ek l =
+          goes-on next k (Change.Register 0 n) out eo (register-made s im m out (x .task) next (Change.Register 0 n) em 0 n refl e)
+          (ek ∙ sym (same-word m out 0 n e (omega arith) m-long))
+          (omega (arith, other-word m out 0 8 n e (omega arith) (omega arith) (λ z. omega arith), m-flags))
+          (omega arith)
+
+      pub store-went : (p : Place) (v : ℕ) → Inside x p → order s im (x .task) ≡ Effect.Does next (Change.Store p v) → out ≡ set m (p .0) v → k ≡ next → next < 65536
+          → After s im (x .task) (Went.On k) out
+      store-went p v inside eo e ek l =
+          goes-on next k (Change.Store p v) out eo (store-made s im m out (x .task) next (Change.Store p v) em p v refl e)
+          (ek ∙ sym (stored-word m out p v 0 inside e (omega arith) ∙ m-next))
+          (omega (arith, stored-word m out p v 8 inside e (omega arith), m-flags))
+          (omega arith)
+
+      pub call-went : (p : Place) (top n : ℕ) (m₂ m₃ : List ℕ) → Inside x p → order s im (x .task) ≡ Effect.Does next (Change.Call p top n)
+          → m₂ ≡ set m (p .0) next → m₃ ≡ put s m₂ (reg (x .task) 1) top → out ≡ put s m₃ (reg (x .task) 0) n → Sound s m₃ → k ≡ n → n < 65536
+          → After s im (x .task) (Went.On k) out
+      call-went p top n m₂ m₃ inside eo e₂ e₃ e g₃ ek l =
+          goes-on next k (Change.Call p top n) out eo
+          (call-made s im m out (x .task) next (Change.Call p top n) em p top n refl (rw (← e₂) (stacked s m₂ m₃ out (x .task) top n e₃ e)))
+          (ek ∙ sym (same-word m₃ out 0 n e (omega arith) (sound g₃ .laid .words)))
+          (omega (arith, other-word m₃ out 0 8 n e (omega arith) (omega arith) (λ z. omega arith),
+          other-word m₂ m₃ 1 8 top e₃ (omega arith) (omega arith) (λ z. omega arith), stored-word m m₂ p next 8 inside e₂ (omega arith), m-flags))
+          (omega arith)
+
+      pub return-went : (top n : ℕ) (m₂ : List ℕ) → order s im (x .task) ≡ Effect.Does next (Change.Return top n)
+          → m₂ ≡ put s m (reg (x .task) 1) top → out ≡ put s m₂ (reg (x .task) 0) n → Sound s m₂ → k ≡ n → n < 65536
+          → After s im (x .task) (Went.On k) out
+      return-went top n m₂ eo e₂ e g₂ ek l =
+          goes-on next k (Change.Return top n) out eo
+          (return-made s im m out (x .task) next (Change.Return top n) em top n refl (stacked s m m₂ out (x .task) top n e₂ e))
+          (ek ∙ sym (same-word m₂ out 0 n e (omega arith) (sound g₂ .laid .words)))
+          (omega (arith, other-word m₂ out 0 8 n e (omega arith) (omega arith) (λ z. omega arith),
+          other-word m m₂ 1 8 top e₂ (omega arith) (omega arith) (λ z. omega arith), m-flags))
+          (omega arith)
+
+    pub compare-went : (k c : ℕ) → c < 4 → order s im (x .task) ≡ flags-become next c → out ≡ put s m (reg (x .task) 8) c → k ≡ next → next < 65536
+        → After s im (x .task) (Went.On k) out
+    compare-went k c hc eo e ek l =
+        goes-on next k (Change.Flags c) out eo (flags-made s im m out (x .task) next (Change.Flags c) em c refl e)
+        (ek ∙ sym (other-word m out 8 0 c e (omega arith) (omega arith) (λ z. omega arith) ∙ m-next))
+        (omega (arith, same-word m out 8 c e (omega arith) m-long))
+        (omega arith)
+
+    pub ask-went : (f : ℕ) → order s im (x .task) ≡ flags-become next f → out ≡ put s m (reg (x .task) 8) f → After s im (x .task) Went.Asked out
+    unfolding After
+    ask-went f eo e = rw eo (flags-made s im m out (x .task) next (Change.Flags f) em f refl e)
+
+-- what a fetch, a store and a division come to
+module _ (o : Effect) (next a : ℕ) where
+  pub fetched : (f g : Found) (w : ℕ) → o ≡ reading g (sets next a) → f ≡ g → f ≡ Found.Word w → o ≡ sets next a w
+  fetched f g w eo e ew = rw (← e, ew) at eo
+
+  module _ (op v y : ℕ) (eo : o ≡ unless-zero y (sets next a (cond (eqb op 8) (v / y) (v % y)))) (ne : y ≢ 0) where
+    pub quotient-is : op ≡ 8 → o ≡ sets next a (v / y)
+    quotient-is e = rw (ne-eqb y 0 ne, eq-eqb op 8 e) at eo
+
+    pub remainder-is : op ≢ 8 → o ≡ sets next a (v % y)
+    remainder-is e = rw (ne-eqb y 0 ne, ne-eqb op 8 e) at eo
+
+module _ (s : Shape) (im : List ℕ) (x : Seat) (next : ℕ) (y : ℕ) (r : Reach) (p : Place) (er : r ≡ reach s im (x .task) (address y)) (ep : r ≡ Reach.At p) where
+  pub store-is : (o : Effect) (v : ℕ) → o ≡ storing (reach s im (x .task) (address y)) (λ q. Effect.Does next (Change.Store q v)) → o ≡ Effect.Does next (Change.Store p v)
+  store-is o v eo = rw (← er, ep) at eo
+
+  pub call-is : (o : Effect) (v n : ℕ) → v ≡ at s im (reg (x .task) 1) → y ≡ mod-word (v + 65535)
+      → o ≡ calls s im (x .task) next (mod-word (at s im (stack (x .task)) + 65535)) n → o ≡ Effect.Does next (Change.Call p y n)
+  call-is o v n ev ey eo = rw (← ev, ← ey, ← er, ep) at eo
+
+  pub leads-inside : Seated s im x → Inside x p
+  leads-inside h = reach-inside s im x (address y) p h (sym er ∙ ep)
+
+-- an order of two registers, by its op
+module _ (s : Shape) (im : List ℕ) (i : Task) (op next a v y : ℕ) (eo : order s im i ≡ effect (order-of op) s im i next a v y) where
+  pub by-copy : op ≡ 2 → order s im i ≡ sets next a y
+  by-copy e = rw e at eo
+
+  pub by-fetch : op ≡ 3 → order s im i ≡ reading (found s im i y) (sets next a)
+  by-fetch e = rw e at eo
+
+  pub by-store : op ≡ 4 → order s im i ≡ storing (reach s im i (address y)) (λ p. Effect.Does next (Change.Store p v))
+  by-store e = rw e at eo
+
+  pub by-quotient : op ≡ 8 → order s im i ≡ unless-zero y (sets next a (cond (eqb op 8) (v / y) (v % y)))
+  by-quotient e = rw e (rw e at eo)
+
+  pub by-remainder : op ≡ 9 → order s im i ≡ unless-zero y (sets next a (cond (eqb op 8) (v / y) (v % y)))
+  by-remainder e = rw e (rw e at eo)
+
+  module _ (r : ℕ) where
+    pub by-sum : op ≡ 5 → r ≡ mod-word (v + y) → order s im i ≡ sets next a r
+    by-sum e er = rw er (rw e at eo)
+
+    pub by-difference : op ≡ 6 → r ≡ mod-word (v + 65536 - y) → order s im i ≡ sets next a r
+    by-difference e er = rw er (rw e at eo)
+
+    pub by-product : op ≡ 7 → r ≡ mod-word (v * y) → order s im i ≡ sets next a r
+    by-product e er = rw er (rw e at eo)
+
+    pub by-and : op ≡ 10 → r ≡ on-bits min v y → order s im i ≡ sets next a r
+    by-and e er = rw er (rw e at eo)
+
+    pub by-or : op ≡ 11 → r ≡ on-bits max v y → order s im i ≡ sets next a r
+    by-or e er = rw er (rw e at eo)
+
+    pub by-exclusive-or : op ≡ 12 → r ≡ on-bits (λ j k. (j + k) % 2) v y → order s im i ≡ sets next a r
+    by-exclusive-or e er = rw er (rw e at eo)
+
+    pub by-compare : op ≡ 13 → r ≡ compared v y → at s im (flags i) < 4 → order s im i ≡ flags-become next r
+    by-compare e er q =
+        let whole : flags-of (compared v y) (error-of (at s im (flags i))) (pending-of (at s im (flags i))) ≡ r = omega (arith, er) in
+        rw (← whole) (rw e at eo)
+
+-- tests that pass
+module _ (p q t : Bool) (et : t ≡ (p && q)) (ok : not t ≡ false) where
+  both-held : (p ≡ true) × (q ≡ true)
+  both-held = and-eq-true-iff p q .0 (sym et ∙ not-false t ok)
+
+  pub first-held : p ≡ true
+  first-held = both-held .0
+
+  pub second-held : q ≡ true
+  second-held = both-held .1
+
+-- a field that names a register other than R0
+module _ (a : ℕ) (p : Bool) (ep : p ≡ (leb 1 a && ltb a 8)) (held : p ≡ true) where
+  pub named-from : 1 ≤ a
+  named-from = leb-true 1 a (and-eq-true-iff (leb 1 a) (ltb a 8) .0 (sym ep ∙ held) .0)
+
+  pub named-below : a < 8
+  named-below = ltb-true a 8 (and-eq-true-iff (leb 1 a) (ltb a 8) .0 (sym ep ∙ held) .1)
+
+  pub named-row : a < 9
+  named-row = omega (arith, named-below)
+
+-- the op that has a shape by itself
+abbrev alone : ℕ → Bool
+alone e = eqb e 6 || (eqb e 10 || (eqb e 1 || eqb e 13))
+
+abbrev the-op : ℕ → Op
+the-op e = cond (eqb e 6) Op.Load (cond (eqb e 10) Op.JumpIf (cond (eqb e 1) Op.Return Op.Service))
+
+entry-op : (o : Op) → T (alone (encoded (shape-of-order o))) → o ≡ the-op (encoded (shape-of-order o))
+entry-op Op.Unknown t = absurd t
+entry-op Op.Load t = refl
+entry-op Op.Copy t = absurd t
+entry-op Op.Fetch t = absurd t
+entry-op Op.Store t = absurd t
+entry-op Op.Add t = absurd t
+entry-op Op.Subtract t = absurd t
+entry-op Op.Multiply t = absurd t
+entry-op Op.Quotient t = absurd t
+entry-op Op.Remainder t = absurd t
+entry-op Op.And t = absurd t
+entry-op Op.Or t = absurd t
+entry-op Op.ExclusiveOr t = absurd t
+entry-op Op.Compare t = absurd t
+entry-op Op.Jump t = absurd t
+entry-op Op.JumpIf t = refl
+entry-op Op.Call t = absurd t
+entry-op Op.Return t = refl
+entry-op Op.Service t = refl
+
+op-is : (o : Op) (e : ℕ) → T (alone e) → encoded (shape-of-order o) ≡ e → o ≡ the-op e
+op-is o e t h = entry-op o (rw h t) ∙ ap the-op h
+
+-- the first word's address before all
+module _ (s : Shape) (im : List ℕ) (x : Seat) (pc w : ℕ) (f : Found) (en : pc ≡ at s im (next-order (x .task))) (ef : f ≡ found s im (x .task) pc)
+    (fw : f ≡ Found.Word w) where
+  pub is-calm : Seated s im x → at s im (flags (x .task)) < 4 → Calm s im x pc
+  unfolding Calm
+  is-calm h q = (en, q, omega (arith, found-inside s im (x .task) pc w (sym ef ∙ fw), seated h .long))
+
+  pub is-ordered : order s im (x .task) ≡ checked (shape-of-order (order-of (op-of w))) s im (x .task) w
+  unfolding order
+  is-ordered = rw (← en, ← ef, fw)
+
+-- an order of a known shape whose fields hold what they may
+module _ (s : Shape) (im : List ℕ) (x : Seat) (pc : ℕ) (g : Sound s im) (h : Seated s im x) (calm : Calm s im x pc) where
+  next-is : pc ≡ at s im (next-order (x .task))
+  unfolding Calm
+  next-is = calm .0
+
+  pub is-quiet : at s im (flags (x .task)) < 4
+  unfolding Calm
+  is-quiet = calm .1
+
+  pub is-low : pc + 2 < 65536
+  unfolding Calm
+  is-low =
+      omega (arith, calm .2, seated h .long, seated h .based, segment-upto s im (sound g .laid) (x .task) (seated h .among), sound g .laid .fit .words)
+
+  pub is-low-1 : pc + 1 < 65536
+  is-low-1 = omega (arith, is-low)
+
+  module _ (w : ℕ) (eo : order s im (x .task) ≡ checked (shape-of-order (order-of (op-of w))) s im (x .task) w) where
+    abbrev Acts : Op → ℕ → Type 0
+    Acts o n = order s im (x .task) ≡ effect o s im (x .task) (pc + n) (a-of w) (operand s im (x .task) (pc + n) (a-of w)) (operand s im (x .task) (pc + n) (b-of w))
+
+    known-acts : (o : Op) (n : ℕ) (fa fb : Field) → n ≤ 2 → order-of (op-of w) ≡ o → shape-of-order o ≡ OrderShape.Known n fa fb
+        → holds fa (a-of w) ≡ true → holds fb (b-of w) ≡ true → serves fa (a-of w) ≡ true → Acts o n
+    unfolding checked effect-of
+    known-acts o n fa fb small e sh ha hb hs =
+        let past-is : past s im (x .task) n ≡ pc + n = omega (arith, next-is, is-low) in
+        rw (e, sh, ha, hb, hs, e, past-is) at eo
+
+    -- two registers
+    pub two-act : (a b v y : ℕ) (p q t : Bool) → encoded (shape-of-order (order-of (op-of w))) ≡ 21 → a ≡ a-of w → b ≡ b-of w → p ≡ (leb 1 a && ltb a 8)
+        → q ≡ (leb 1 b && ltb b 8) → t ≡ (p && q) → not t ≡ false → v ≡ at s im (reg (x .task) a) → y ≡ at s im (reg (x .task) b)
+        → order s im (x .task) ≡ effect (order-of (op-of w)) s im (x .task) (pc + 1) a v y
+    unfolding decoded
+    two-act a b v y p q t ee ea eb ep eq et ok ev ey =
+        let both = both-held p q t et ok in
+        let la = named-from a p ep (both .0) in
+        let ha = named-below a p ep (both .0) in
+        let lb = named-from b q eq (both .1) in
+        let hb = named-below b q eq (both .1) in
+        let shape : shape-of-order (order-of (op-of w)) ≡ two-registers = sym (shape-read (op-of w) 21 (sym ee)) in
+        let acts =
+            known-acts (order-of (op-of w)) 1 Field.Register Field.Register (omega arith) refl shape (lt-ltb (a-of w) 8 (omega arith)) (lt-ltb (b-of w) 8 (omega arith)) refl in
+        let va = operand-other s im (x .task) (pc + 1) a v g (seated h .among) ha (λ z. omega arith) ev in
+        let vb = operand-other s im (x .task) (pc + 1) b y g (seated h .among) hb (λ z. omega arith) ey in
+        rw (va, vb, ea, eb) acts
+
+    -- a second word
+    module _ (n : ℕ) (en : found s im (x .task) (pc + 1) ≡ Found.Word n) where
+      second-is : found s im (x .task) (at s im (next-order (x .task)) + 1) ≡ Found.Word n
+      second-is = rw (← next-is) en
+
+      pub load-acts : (a : ℕ) (p t : Bool) → encoded (shape-of-order (order-of (op-of w))) ≡ 6 → a ≡ a-of w → p ≡ (leb 1 a && ltb a 8)
+          → t ≡ (p && eqb (b-of w) 0) → not t ≡ false → order s im (x .task) ≡ sets (pc + 2) a n
+      load-acts a p t ee ea ep et ok =
+          let both = both-held p (eqb (b-of w) 0) t et ok in
+          let ha = named-below a p ep (both .0) in
+          let acts =
+              known-acts Op.Load 2 Field.Register Field.Unused (omega arith) (op-is (order-of (op-of w)) 6 tt ee) refl (lt-ltb (a-of w) 8 (omega arith)) (both .1) refl in
+          rw ea (rw second-is at acts)
+
+      module _ (t : Bool) (f : ℕ) (ee : encoded (shape-of-order (order-of (op-of w))) ≡ 10) (et : t ≡ (leb (a-of w) 2 && eqb (b-of w) 0)) (ok : not t ≡ false)
+          (ef : f ≡ at s im (reg (x .task) 8)) where
+        condition-acts : (c : Bool) → eqb (cc-of (at s im (reg (x .task) 8))) (a-of w) ≡ c → order s im (x .task) ≡ sets (pc + 2) 0 (cond c n (pc + 2))
+        condition-acts c ec =
+            let both = both-held (leb (a-of w) 2) (eqb (b-of w) 0) t et ok in
+            let acts = known-acts Op.JumpIf 2 Field.Condition Field.Unused (omega arith) (op-is (order-of (op-of w)) 10 tt ee) refl (both .0) (both .1) refl in
+            rw (second-is, ec) at acts
+
+        pub jump-taken : f ≡ a-of w → order s im (x .task) ≡ sets (pc + 2) 0 n
+        jump-taken e =
+            let same : cc-of (at s im (reg (x .task) 8)) ≡ a-of w = omega (arith, ef, is-quiet) in
+            condition-acts true (eq-eqb (cc-of (at s im (reg (x .task) 8))) (a-of w) same)
+
+        pub jump-passed : f ≢ a-of w → order s im (x .task) ≡ sets (pc + 2) 0 (pc + 2)
+        jump-passed e =
+            let apart : cc-of (at s im (reg (x .task) 8)) ≢ a-of w = λ z. e (omega (arith, ef, is-quiet)) in
+            condition-acts false (ne-eqb (cc-of (at s im (reg (x .task) 8))) (a-of w) apart)
+
+      module _ (t : Bool) (et : t ≡ (eqb (a-of w) 0 && eqb (b-of w) 0)) (ok : not t ≡ false) where
+        alone-acts : (o : Op) → order-of (op-of w) ≡ o → shape-of-order o ≡ OrderShape.Known 2 Field.Unused Field.Unused → Acts o 2
+        alone-acts o e sh =
+            let both = both-held (eqb (a-of w) 0) (eqb (b-of w) 0) t et ok in
+            known-acts o 2 Field.Unused Field.Unused (omega arith) e sh (both .0) (both .1) refl
+
+        pub jump-acts : op-of w ≡ 14 → order s im (x .task) ≡ sets (pc + 2) 0 n
+        jump-acts e = rw second-is at (alone-acts Op.Jump (ap order-of e) refl)
+
+        pub call-acts : op-of w ≡ 16 → order s im (x .task) ≡ calls s im (x .task) (pc + 2) (mod-word (at s im (stack (x .task)) + 65535)) n
+        call-acts e = rw second-is at (alone-acts Op.Call (ap order-of e) refl)
+
+    -- one word
+    pub return-acts : (t : Bool) (v top n : ℕ) (f : Found) → encoded (shape-of-order (order-of (op-of w))) ≡ 1 → t ≡ (eqb (a-of w) 0 && eqb (b-of w) 0)
+        → not t ≡ false → v ≡ at s im (reg (x .task) 1) → f ≡ found s im (x .task) v → f ≡ Found.Word n → top ≡ mod-word (v + 1)
+        → order s im (x .task) ≡ Effect.Does (pc + 1) (Change.Return top n)
+    return-acts t v top n f ee et ok ev ef fw etop =
+        let both = both-held (eqb (a-of w) 0) (eqb (b-of w) 0) t et ok in
+        let acts = known-acts Op.Return 1 Field.Unused Field.Unused (omega arith) (op-is (order-of (op-of w)) 1 tt ee) refl (both .0) (both .1) refl in
+        rw etop (rw (← ev, ← ef, fw) at acts)
+
+    pub service-acts : (p t : Bool) (v f : ℕ) → encoded (shape-of-order (order-of (op-of w))) ≡ 13 → p ≡ (leb 1 (a-of w) && leb (a-of w) 4) → t ≡ (p && eqb (b-of w) 0)
+        → not t ≡ false → v ≡ at s im (reg (x .task) 8) → f ≡ flags-of (cc-of v) (error-of v) (a-of w)
+        → order s im (x .task) ≡ flags-become (pc + 1) f
+    service-acts p t v f ee ep et ok ev ef =
+        let both = both-held p (eqb (b-of w) 0) t et ok in
+        let acts = known-acts Op.Service 1 Field.Service Field.Unused (omega arith) (op-is (order-of (op-of w)) 13 tt ee) refl refl (both .1) (sym ep ∙ both .0) in
+        rw (ef, ev) acts
+
+-- the entry of the table is the one that a test found
+pub entry-is : (o : Op) (e k : ℕ) → e ≡ encoded (shape-of-order o) → e ≡ k → encoded (shape-of-order o) ≡ k
+entry-is o e k ee ek = sym ee ∙ ek
+
+pub found-is : (s : Shape) (im : List ℕ) (i : Task) (a n : ℕ) (f : Found) → f ≡ found s im i a → f ≡ Found.Word n → found s im i a ≡ Found.Word n
+found-is s im i a n f ef en = sym ef ∙ en
+
+-- a register is a word of its task's row
+pub in-row : (a : ℕ) → (1 ≤ a) × (a < 8) → a < 9
+in-row a h = omega (arith, h .1)

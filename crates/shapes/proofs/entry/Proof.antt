@@ -1,0 +1,15 @@
+-- Assumes nothing.
+use Rattle.shapes.proofs.Rule.{entry-read}
+use borrow.Author.Needs.{needs}
+use Rattle.shapes.proofs.entry.Statement.{statement}
+use Rattle.shapes.proofs.entry.Tie as tie
+
+returns : tie.Need-returns
+returns c = search entry-read
+
+pub entry-spec : {M : Type 1} → statement M
+entry-spec =
+    tie.close
+    (tie.spec
+    (λ c. search needs)
+    returns)
