@@ -1,5 +1,6 @@
 // Building an image from a plan.
 ghost use mathlib.Core.Path.{_≡_};
+ghost use mathlib.Core.Bool.{true};
 ghost use mathlib.Core.List.{_++_};
 ghost use Prim.Native.Nat.{_+_, _*_, _≤_};
 ghost use lib.ListN.{length};
@@ -9,10 +10,13 @@ ghost use Rattle.paper.specs.Promises.{Builds};
 ghost use Rattle.paper.specs.declared.Part.the-variants.{Header, TaskTable, ReadyQueue, StatusTable, InputBuffers, OutputBuffers, MessageBuffers, Ports, SegmentTable, Segments};
 ghost use Rattle.plans.specs.Needs.{Packed};
 ghost use Rattle.writes.specs.Written.{written};
+ghost use Rattle.writes.specs.Clear.{Clear};
 ghost use Rattle.parts.specs.Needs.{Plan};
+ghost use Rattle.builds.specs.Needs.{Blank};
 use numbers::number_of_verdict;
 use paper::Refusal;
 use paper::Shape;
+use paper::Size;
 use paper::Verdict;
 use parts::put_header;
 use parts::put_lead;
@@ -21,12 +25,15 @@ use parts::put_queues;
 use parts::put_segments;
 use parts::put_table;
 use parts::put_tasks;
-use plans::shape_of_plan;
+use plans::shape_sized;
+use plans::size;
 use plans::total_of;
-use plans::verdict;
 use writes::put_zeros;
 
 const PAIR_WORDS: usize = 2;
+
+// The most words for each task of a plan whose programs are short.
+const SHORT_PLAN: usize = 128;
 
 // The ready queue: all tasks in order.
 fn put_ready(s: Shape, plan: &[u16], out: &mut [u16], at: usize) -> usize
@@ -40,24 +47,42 @@ fn put_ready(s: Shape, plan: &[u16], out: &mut [u16], at: usize) -> usize
     put_numbers(out, slots, s.n)
 }
 
+// Zeros for the parts before the segments, and for the segments too where all are to be clear.
+fn put_blank(s: Shape, out: &mut [u16], all: bool)
+    requires { ⌜ Packed s ⌝ }
+    requires { ⌜ length (now out) ≡ total s ⌝ }
+    ensures { λ _. ⌜ length (now (out .exit)) ≡ total s ⌝ }
+    ensures { λ _. ⌜ Blank s (now (out .exit)) 0 ⌝ }
+    ensures { λ _. ⌜ (all ≡ true → Clear (now (out .exit)) (begin s 9) (s .words)) ⌝ }
+{
+    if all {
+        put_zeros(out, 0, total_of(s));
+        return;
+    }
+    let starts = s.starts;
+    put_zeros(out, 0, starts[8]);
+}
+
 // The header, the task table, the ready queue and the status table.
 fn put_tables(s: Shape, plan: &[u16], out: &mut [u16]) -> usize
     requires { ⌜ Plan s (now plan) ⌝ }
     requires { ⌜ Packed s ⌝ }
     requires { ⌜ begin s 4 ≤ length (now out) ⌝ }
+    requires { ⌜ Blank s (now out) 0 ⌝ }
     ensures { λ r. ⌜ r ≡ begin s 4 ⌝ }
     ensures { λ _. ⌜ now (out .exit) ≡ written (now (out .entry)) 0 (((fresh-part s (now (plan .entry)) Header ++ fresh-part s (now (plan .entry)) TaskTable) ++ fresh-part s (now (plan .entry)) ReadyQueue) ++ fresh-part s (now (plan .entry)) StatusTable) ⌝ }
 {
     let tasks = put_header(s, out);
     let ready = put_tasks(s, plan, out, tasks);
     let status = put_ready(s, plan, out, ready);
-    put_zeros(out, status, s.n * PAIR_WORDS)
+    status + s.n * PAIR_WORDS
 }
 
 // The input, output and message buffers.
 fn put_buffers(s: Shape, plan: &[u16], out: &mut [u16], at: usize) -> usize
     requires { ⌜ Plan s (now plan) ⌝ }
     requires { ⌜ (at ≡ begin s 4) × (begin s 7 ≤ length (now out)) ⌝ }
+    requires { ⌜ Blank s (now out) 4 ⌝ }
     ensures { λ r. ⌜ r ≡ begin s 7 ⌝ }
     ensures { λ _. ⌜ now (out .exit) ≡ written (now (out .entry)) at ((fresh-part s (now (plan .entry)) InputBuffers ++ fresh-part s (now (plan .entry)) OutputBuffers) ++ fresh-part s (now (plan .entry)) MessageBuffers) ⌝ }
 {
@@ -67,43 +92,46 @@ fn put_buffers(s: Shape, plan: &[u16], out: &mut [u16], at: usize) -> usize
     put_queues(out, messages, n * n, s.cm)
 }
 
-// The ports, the segment table and the segments.
-fn put_rest(s: Shape, plan: &[u16], out: &mut [u16], at: usize) -> usize
+// The ports, the segment table and the segments, whose words may be clear.
+fn put_rest(s: Shape, plan: &[u16], out: &mut [u16], at: usize, clear: bool) -> usize
     requires { ⌜ Plan s (now plan) ⌝ }
     requires { ⌜ (at ≡ begin s 7) × (total s ≤ length (now out)) ⌝ }
+    requires { ⌜ Blank s (now out) 7 ⌝ }
+    requires { ⌜ (clear ≡ true → Clear (now out) (begin s 9) (s .words)) ⌝ }
     ensures { λ r. ⌜ r ≡ total s ⌝ }
     ensures { λ _. ⌜ now (out .exit) ≡ written (now (out .entry)) at ((fresh-part s (now (plan .entry)) Ports ++ fresh-part s (now (plan .entry)) SegmentTable) ++ fresh-part s (now (plan .entry)) Segments) ⌝ }
 {
-    let table = put_zeros(out, at, s.n * PAIR_WORDS);
+    let table = at + s.n * PAIR_WORDS;
     let segments = put_table(s, plan, out, table);
-    put_segments(s, plan, out, segments)
+    put_segments(s, plan, out, segments, clear)
 }
 
-// The fresh image of an accepted plan.
+// The fresh image of an accepted plan. Where programs are short it is faster to clear all words at once.
 fn put_image(s: Shape, plan: &[u16], out: &mut [u16])
     requires { ⌜ Plan s (now plan) ⌝ }
     requires { ⌜ Packed s ⌝ }
     requires { ⌜ length (now out) ≡ total s ⌝ }
     ensures { λ _. ⌜ now (out .exit) ≡ fresh (now (plan .entry)) ⌝ }
 {
+    let short = plan.len() <= SHORT_PLAN * s.n;
+    put_blank(s, out, short);
     let inputs = put_tables(s, plan, out);
     let ports = put_buffers(s, plan, out, inputs);
-    put_rest(s, plan, out, ports);
+    put_rest(s, plan, out, ports, short);
 }
 
 // Builds the image of a plan in the target: the number of the refusal, or 0.
 pub fn build(plan: &[u16], target: &mut [u16]) -> u16
     ensures { λ r. ⌜ Builds (now (plan .entry)) (now (target .entry)) r (now (target .exit)) ⌝ }
 {
-    let found = verdict(plan);
+    let found = size(plan);
     match found {
-        Verdict::Refused(r) => number_of_verdict(Verdict::Refused(r)),
-        Verdict::Fine => {
-            let s = shape_of_plan(plan);
-            if target.len() != total_of(s) {
+        Size::Refused(r) => number_of_verdict(Verdict::Refused(r)),
+        Size::Words(whole) => {
+            if target.len() != whole {
                 return number_of_verdict(Verdict::Refused(Refusal::WrongTarget));
             }
-            put_image(s, plan, target);
+            put_image(shape_sized(plan, whole), plan, target);
             0
         }
     }
