@@ -1,6 +1,5 @@
 -- What the calls of this crate ask and make, as laws over values. Assumes nothing.
 use mathlib.Core.Path.{_≡_, sym, ap, _∙_}
-use mathlib.Core.Bool.{Bool, true, false, true≢false}
 use mathlib.Core.List.{List, _++_, append-assoc}
 use mathlib.Core.Logic.{_≢_}
 use Prim.Native.Nat.{ℕ, zero, suc, _+_, _-_, _*_, _≤_}
@@ -19,11 +18,11 @@ use Rattle.paper.specs.declared.Refusal.{Refusal}
 use Rattle.paper.specs.declared.Verdict.{Verdict}
 use Rattle.paper.specs.declared.Size.{Size}
 use Rattle.laws.specs.Layout.{total-is}
-use Rattle.laws.specs.Fresh.{part-length, fresh-length}
+use Rattle.laws.specs.Fresh.{fresh-length}
 use Rattle.plans.specs.Needs.{Packed, first-is, told-words, told-refusal}
 use Rattle.writes.specs.Written.{written, written-all, kept-length}
 use Rattle.writes.specs.Clear.{Clear, zeros-clear, part-clear, later-clear, clear-kept}
-use Rattle.parts.specs.Needs.{Plan, plan-fit, then-on, then-again}
+use Rattle.parts.specs.Needs.{Plan, plan-fit, part-size, then-on, then-again}
 
 -- rows of zeros
 pub zero-rows : (n w : ℕ) → replicate (n * w) 0 ≡ joined n (λ i. replicate w 0)
@@ -39,33 +38,19 @@ kept-clear : (o out : List ℕ) (at : ℕ) (vs : List ℕ) (i n j m : ℕ) → o
     → Clear out j m
 kept-clear o out at vs i n j m e h c l r = later-clear o out at vs j m e h (part-clear o i n j m c l r)
 
--- zeros before the segments, or all over
-pub still-long : (s : Shape) (o out vs : List ℕ) → out ≡ written o 0 vs → length o ≡ total s → length out ≡ total s
-still-long s o out vs e long = kept-length o out 0 vs e ∙ long
+-- zeros before the segments
+module _ (s : Shape) (p : Packed s) (o : List ℕ) where
+  pub first-room : length o ≡ total s → 0 + getD (s .starts) 8 0 ≤ length o
+  first-room long = omega (arith, first-is s (s .starts) (p .packed), total-is s)
 
-pub first-room : (s : Shape) (o : List ℕ) → Packed s → length o ≡ total s → 0 + getD (s .starts) 8 0 ≤ length o
-first-room s o p long = omega (arith, first-is s (s .starts) (p .packed), total-is s)
-
-module _ (s : Shape) (p : Packed s) (o out : List ℕ) where
-  pub blank-before : (n : ℕ) → n ≡ getD (s .starts) 8 0 → out ≡ written o 0 (replicate n 0) → Blank s out 0
+  pub first-blank : (out : List ℕ) → out ≡ written o 0 (replicate (getD (s .starts) 8 0) 0) → Blank s out 0
   unfolding Blank
-  blank-before n en e =
-      part-clear out 0 n 0 (begin s 9 - 0) (zeros-clear o out 0 n e) (omega arith) (omega (arith, first-is s (s .starts) (p .packed)))
+  first-blank out e =
+      part-clear out 0 (getD (s .starts) 8 0) 0 (begin s 9 - 0) (zeros-clear o out 0 (getD (s .starts) 8 0) e) (omega arith)
+      (omega (arith, first-is s (s .starts) (p .packed)))
 
-  pub blank-all : (t : ℕ) → t ≡ total s → out ≡ written o 0 (replicate t 0) → Blank s out 0
-  unfolding Blank
-  blank-all t et e = part-clear out 0 t 0 (begin s 9 - 0) (zeros-clear o out 0 t e) (omega arith) (omega (arith, total-is s))
-
-  pub segments-clear : (t : ℕ) → t ≡ total s → out ≡ written o 0 (replicate t 0) → Clear out (begin s 9) (s .words)
-  segments-clear t et e = part-clear out 0 t (begin s 9) (s .words) (zeros-clear o out 0 t e) (omega arith) (omega (arith, total-is s))
-
--- nothing is claimed of the segments where not all are to be clear
-pub unclear : (s : Shape) (out : List ℕ) (all : Bool) → all ≡ false → all ≡ true → Clear out (begin s 9) (s .words)
-unclear s out all off so = absurd (true≢false (sym so ∙ off))
-
--- the size of a part of the fresh image
-pub part-size : (s : Shape) (plan : List ℕ) → Plan s plan → (p : Part) → length (fresh-part s plan p) ≡ size s p
-part-size s plan h p = rw (h .shape) (part-length plan (h .fine) p)
+pub still-long : (s : Shape) (o out vs : List ℕ) → length o ≡ total s → out ≡ written o 0 vs → length out ≡ total s
+still-long s o out vs long e = kept-length o out 0 vs e ∙ long
 
 -- ten lists in three groups are the ten one after another
 ten-lists : (a b c d e f g h i j : List ℕ)
@@ -135,19 +120,10 @@ module _ (s : Shape) (plan : List ℕ) (h : Plan s plan) where
       messages-clear b q eb eq =
           kept-clear a b p _ p _ q _ eb (omega (arith, part-size s plan h Part.OutputBuffers)) rest-clear (omega arith) (omega arith)
 
-  -- the words that the ports and the segments find clear
+  -- the words that the ports find clear
   pub ports-clear : (o : List ℕ) (at : ℕ) → Blank s o 7 → at ≡ begin s 7 → o ≡ written o at (replicate (s .n * 2) 0)
   unfolding Blank
   ports-clear o at blank e = sym (clear-kept (s .n * 2) o at (part-clear o (begin s 7) _ at _ blank (omega arith) (omega arith)))
-
-  module _ (o b : List ℕ) (at q : ℕ) (eat : at ≡ begin s 7) (eb : b ≡ written o (at + s .n * 2) (fresh-part s plan Part.SegmentTable))
-      (eq : q ≡ (at + s .n * 2) + s .n * 2) where
-    pub segments-kept : (clear : Bool) → (clear ≡ true → Clear o (begin s 9) (s .words)) → clear ≡ true → Clear b q (s .words)
-    segments-kept clear cleared so =
-        kept-clear o b (at + s .n * 2) _ (begin s 9) _ q _ eb (omega (arith, part-size s plan h Part.SegmentTable)) (cleared so) (omega arith) (omega arith)
-
-    pub segments-room : total s ≤ length o → q + s .words ≤ length b
-    segments-room room = omega (arith, total-is s, kept-length o b (at + s .n * 2) _ eb)
 
   pub table-small : (at : ℕ) → at ≡ begin s 7 → at + s .n * 2 ≤ 32768
   table-small at e = omega (arith, plan-fit s plan h .words, total-is s)
@@ -197,18 +173,11 @@ module _ (s : Shape) (plan : List ℕ) (h : Plan s plan) where
     unfolding Blank
     tables-blank blank = kept-clear o a 0 _ 0 _ (begin s 4) _ ea (omega (arith, tables-long)) blank (omega arith) (omega arith)
 
-    pub tables-clear : (clear : Bool) → (clear ≡ true → Clear o (begin s 9) (s .words)) → clear ≡ true → Clear a (begin s 9) (s .words)
-    tables-clear clear cleared so = later-clear o a 0 _ (begin s 9) (s .words) ea (omega (arith, tables-long)) (cleared so)
-
     module _ (b : List ℕ) (p : ℕ) (ep : p ≡ begin s 4) (eb : b ≡ written a p (buffers s plan)) where
       pub buffers-blank : Blank s o 0 → Blank s b 7
       unfolding Blank
       buffers-blank blank =
           kept-clear a b p _ (begin s 4) _ (begin s 7) _ eb (omega (arith, buffers-long)) (tables-blank blank) (omega arith) (omega arith)
-
-      pub buffers-clear : (clear : Bool) → (clear ≡ true → Clear o (begin s 9) (s .words)) → clear ≡ true → Clear b (begin s 9) (s .words)
-      buffers-clear clear cleared so =
-          later-clear a b p _ (begin s 9) (s .words) eb (omega (arith, buffers-long)) (tables-clear clear cleared so)
 
       -- the three stages make the fresh image
       pub image-made : (c : List ℕ) (q : ℕ) → length o ≡ total s → q ≡ begin s 7
@@ -218,20 +187,24 @@ module _ (s : Shape) (plan : List ℕ) (h : Plan s plan) where
           ap (written o 0) (parts-joined s plan (h .shape)) ∙
           written-all o (fresh plan) (long ∙ ap total (h .shape) ∙ sym (fresh-length plan (h .fine)))
 
--- the room that the stages ask
-module _ (s : Shape) (o : List ℕ) (long : length o ≡ total s) where
-  pub tables-room : begin s 4 ≤ length o
-  tables-room = omega (arith, total-is s)
+-- the room that the stages ask after the zeros
+module _ (s : Shape) (o z vs : List ℕ) (long : length o ≡ total s) (ez : z ≡ written o 0 vs) where
+  pub tables-room : begin s 4 ≤ length z
+  tables-room = omega (arith, total-is s, kept-length o z 0 vs ez)
 
-  module _ (a vs : List ℕ) (ea : a ≡ written o 0 vs) where
+  module _ (a us : List ℕ) (ea : a ≡ written z 0 us) where
     pub buffers-room : begin s 7 ≤ length a
-    buffers-room = omega (arith, total-is s, kept-length o a 0 vs ea)
+    buffers-room = omega (arith, total-is s, kept-length o z 0 vs ez, kept-length z a 0 us ea)
 
     pub rest-room : (b ws : List ℕ) (p : ℕ) → b ≡ written a p ws → total s ≤ length b
-    rest-room b ws p eb = omega (arith, kept-length o a 0 vs ea, kept-length a b p ws eb)
+    rest-room b ws p eb = omega (arith, kept-length o z 0 vs ez, kept-length z a 0 us ea, kept-length a b p ws eb)
 
 pub rest-ends : (s : Shape) (at q r : ℕ) → at ≡ begin s 7 → q ≡ (at + s .n * 2) + s .n * 2 → r ≡ q + s .words → r ≡ total s
 rest-ends s at q r e eq er = omega (arith, total-is s)
+
+pub segments-room : (s : Shape) (o b : List ℕ) (at q : ℕ) (vs : List ℕ) → at ≡ begin s 7 → total s ≤ length o → b ≡ written o (at + s .n * 2) vs
+    → q ≡ (at + s .n * 2) + s .n * 2 → q + s .words ≤ length b
+segments-room s o b at q vs e room eb eq = omega (arith, total-is s, kept-length o b (at + s .n * 2) vs eb)
 
 pub table-room : (s : Shape) (o : List ℕ) (at : ℕ) → at ≡ begin s 7 → total s ≤ length o → (at + s .n * 2) + s .n * 2 ≤ length o
 table-room s o at e room = omega (arith, total-is s)

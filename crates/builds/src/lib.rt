@@ -1,6 +1,5 @@
 // Building an image from a plan.
 ghost use mathlib.Core.Path.{_≡_};
-ghost use mathlib.Core.Bool.{true};
 ghost use mathlib.Core.List.{_++_};
 ghost use Prim.Native.Nat.{_+_, _*_, _≤_};
 ghost use lib.ListN.{length};
@@ -10,7 +9,6 @@ ghost use Rattle.paper.specs.Promises.{Builds};
 ghost use Rattle.paper.specs.declared.Part.the-variants.{Header, TaskTable, ReadyQueue, StatusTable, InputBuffers, OutputBuffers, MessageBuffers, Ports, SegmentTable, Segments};
 ghost use Rattle.plans.specs.Needs.{Packed};
 ghost use Rattle.writes.specs.Written.{written};
-ghost use Rattle.writes.specs.Clear.{Clear};
 ghost use Rattle.parts.specs.Needs.{Plan};
 ghost use Rattle.builds.specs.Needs.{Blank};
 use numbers::number_of_verdict;
@@ -27,13 +25,9 @@ use parts::put_table;
 use parts::put_tasks;
 use plans::shape_sized;
 use plans::size;
-use plans::total_of;
 use writes::put_zeros;
 
 const PAIR_WORDS: usize = 2;
-
-// The most words for each task of a plan whose programs are short.
-const SHORT_PLAN: usize = 128;
 
 // The ready queue: all tasks in order.
 fn put_ready(s: Shape, plan: &[u16], out: &mut [u16], at: usize) -> usize
@@ -45,22 +39,6 @@ fn put_ready(s: Shape, plan: &[u16], out: &mut [u16], at: usize) -> usize
     let n = s.n as u16;
     let slots = put_lead(out, at, n, n);
     put_numbers(out, slots, s.n)
-}
-
-// Zeros for the parts before the segments, and for the segments too where all are to be clear.
-fn put_blank(s: Shape, out: &mut [u16], all: bool)
-    requires { ⌜ Packed s ⌝ }
-    requires { ⌜ length (now out) ≡ total s ⌝ }
-    ensures { λ _. ⌜ length (now (out .exit)) ≡ total s ⌝ }
-    ensures { λ _. ⌜ Blank s (now (out .exit)) 0 ⌝ }
-    ensures { λ _. ⌜ (all ≡ true → Clear (now (out .exit)) (begin s 9) (s .words)) ⌝ }
-{
-    if all {
-        put_zeros(out, 0, total_of(s));
-        return;
-    }
-    let starts = s.starts;
-    put_zeros(out, 0, starts[8]);
 }
 
 // The header, the task table, the ready queue and the status table.
@@ -92,32 +70,31 @@ fn put_buffers(s: Shape, plan: &[u16], out: &mut [u16], at: usize) -> usize
     put_queues(out, messages, n * n, s.cm)
 }
 
-// The ports, the segment table and the segments, whose words may be clear.
-fn put_rest(s: Shape, plan: &[u16], out: &mut [u16], at: usize, clear: bool) -> usize
+// The ports, the segment table and the segments.
+fn put_rest(s: Shape, plan: &[u16], out: &mut [u16], at: usize) -> usize
     requires { ⌜ Plan s (now plan) ⌝ }
     requires { ⌜ (at ≡ begin s 7) × (total s ≤ length (now out)) ⌝ }
     requires { ⌜ Blank s (now out) 7 ⌝ }
-    requires { ⌜ (clear ≡ true → Clear (now out) (begin s 9) (s .words)) ⌝ }
     ensures { λ r. ⌜ r ≡ total s ⌝ }
     ensures { λ _. ⌜ now (out .exit) ≡ written (now (out .entry)) at ((fresh-part s (now (plan .entry)) Ports ++ fresh-part s (now (plan .entry)) SegmentTable) ++ fresh-part s (now (plan .entry)) Segments) ⌝ }
 {
     let table = at + s.n * PAIR_WORDS;
     let segments = put_table(s, plan, out, table);
-    put_segments(s, plan, out, segments, clear)
+    put_segments(s, plan, out, segments)
 }
 
-// The fresh image of an accepted plan. Where programs are short it is faster to clear all words at once.
+// The fresh image of an accepted plan. The parts before the segments are cleared at once.
 fn put_image(s: Shape, plan: &[u16], out: &mut [u16])
     requires { ⌜ Plan s (now plan) ⌝ }
     requires { ⌜ Packed s ⌝ }
     requires { ⌜ length (now out) ≡ total s ⌝ }
     ensures { λ _. ⌜ now (out .exit) ≡ fresh (now (plan .entry)) ⌝ }
 {
-    let short = plan.len() <= SHORT_PLAN * s.n;
-    put_blank(s, out, short);
+    let starts = s.starts;
+    put_zeros(out, 0, starts[8]);
     let inputs = put_tables(s, plan, out);
     let ports = put_buffers(s, plan, out, inputs);
-    put_rest(s, plan, out, ports, short);
+    put_rest(s, plan, out, ports);
 }
 
 // Builds the image of a plan in the target: the number of the refusal, or 0.

@@ -1,15 +1,15 @@
 -- What the calls of this crate ask and make, as laws over values. Assumes nothing.
 use mathlib.Core.Path.{_≡_, refl, sym, ap, _∙_}
-use mathlib.Core.Bool.{Bool, true}
+use mathlib.Core.Bool.{Bool, true, false, true≢false}
 use mathlib.Core.List.{List, [], _∷_, _++_}
 use Prim.Native.Nat.{ℕ, zero, suc, _+_, _-_, _*_, _<_, _≤_}
 use native.Mathlib.Nat.{mul-le-mul-right, suc-mul, zero-mul}
 use native.Mathlib.Numerals.{add-one}
 use native.Mathlib.Omega.{arith}
-use lib.ListN.{length, getD, take, drop, replicate, length-append, length-drop}
+use lib.ListN.{length, getD, take, drop, replicate, length-append, length-drop, length-replicate}
 use lib.Seq.{length-take-le}
-use Rattle.paper.specs.Image.{mark, edition, most-words, begin, start, offsets, total, header}
-use Rattle.paper.specs.Plans.{plan-tasks, segment-length, program-length, segment-words, program-start, joined, fresh-row, fresh-queue, fresh-segment, plan-shape}
+use Rattle.paper.specs.Image.{mark, edition, most-words, size, begin, start, offsets, total, header}
+use Rattle.paper.specs.Plans.{plan-tasks, segment-length, program-length, segment-words, program-start, joined, fresh-row, fresh-queue, fresh-segment, fresh-part, plan-shape}
 use Rattle.paper.specs.Numbers.{check-plan}
 use Rattle.paper.specs.declared.Shape.{Shape}
 use Rattle.paper.specs.declared.Part.{Part}
@@ -19,8 +19,8 @@ use Rattle.laws.specs.Rows.{rising}
 use Rattle.laws.specs.Places.{begins-later}
 use Rattle.laws.specs.Layout.{total-is, largest-offset}
 use Rattle.plans.specs.Needs.{Packed}
-use Rattle.laws.specs.Fresh.{planned, programs-later, segment-long}
-use Rattle.writes.specs.Written.{written, written-none, written-on, kept-length}
+use Rattle.laws.specs.Fresh.{planned, programs-later, segment-long, part-length}
+use Rattle.writes.specs.Written.{written, written-none, written-on, written-over, kept-length}
 use Rattle.writes.specs.Clear.{Clear, part-clear, later-clear, zeros-after, zeros-around}
 
 -- the shape of an accepted plan
@@ -147,6 +147,27 @@ module _ (s : Shape) (plan : List ℕ) (p : Plan s plan) where
 
   pub segment-size : (k : ℕ) → k < s .n → length (fresh-segment plan k) ≡ segment-length plan k
   segment-size k h = segment-long plan (p .fine) k (omega (arith, plan-count))
+
+-- the size of a part of the fresh image
+pub part-size : (s : Shape) (plan : List ℕ) → Plan s plan → (p : Part) → length (fresh-part s plan p) ≡ size s p
+part-size s plan h p = rw (h .shape) (part-length plan (h .fine) p)
+
+-- the segments over zeros
+pub segments-over : (s : Shape) (plan : List ℕ) → Plan s plan → (o a out : List ℕ) (at : ℕ) → a ≡ written o at (replicate (s .words) 0)
+    → out ≡ written a at (fresh-part s plan Part.Segments) → out ≡ written o at (fresh-part s plan Part.Segments)
+segments-over s plan p o a out at ea eo =
+    let zeros : List ℕ = replicate (s .words) 0 in
+    let whole : size s Part.Segments ≡ s .words = omega arith in
+    let long : length zeros ≡ length (fresh-part s plan Part.Segments) =
+    length-replicate (s .words) 0 ∙ sym whole ∙ sym (part-size s plan p Part.Segments) in
+    eo ∙ ap (λ (x : List ℕ). written x at (fresh-part s plan Part.Segments)) ea ∙ written-over o at zeros (fresh-part s plan Part.Segments) long
+
+pub room-kept : (s : Shape) (o a : List ℕ) (at : ℕ) → a ≡ written o at (replicate (s .words) 0) → at + s .words ≤ length o → at + s .words ≤ length a
+room-kept s o a at e room = omega (arith, kept-length o a at _ e)
+
+-- nothing is claimed of words that are not clear
+pub unclear : (out : List ℕ) (at n : ℕ) → false ≡ true → Clear out at n
+unclear out at n e = absurd (true≢false (sym e))
 
 -- a task's row as it is written
 pub task-made : (s : Shape) (plan : List ℕ) (k l at : ℕ) (o out : List ℕ) → l ≡ segment-length plan k

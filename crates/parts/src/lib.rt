@@ -39,6 +39,9 @@ const LATER_WORDS: usize = 7;
 // Where the capacity stands among the words of a queue.
 const CAPACITY: usize = 3;
 
+// The most words for each task of a plan whose programs are short.
+const SHORT_PLAN: usize = 128;
+
 // The header and the clock.
 pub fn put_header(s: Shape, out: &mut [u16]) -> usize
     requires { ⌜ Packed s ⌝ }
@@ -209,8 +212,8 @@ pub fn put_table(s: Shape, plan: &[u16], out: &mut [u16], at: usize) -> usize
     next
 }
 
-// The segments; whether their words are clear is known.
-pub fn put_segments(
+// The segments where it is known whether their words are clear.
+fn put_programs(
     s: Shape,
     plan: &[u16],
     out: &mut [u16],
@@ -234,4 +237,18 @@ pub fn put_segments(
         k += 1;
     }
     next
+}
+
+// The segments. Where programs are short it is faster to clear all words at once.
+pub fn put_segments(s: Shape, plan: &[u16], out: &mut [u16], at: usize) -> usize
+    requires { ⌜ Plan s (now plan) ⌝ }
+    requires { ⌜ at + s .words ≤ list-length (now out) ⌝ }
+    ensures { λ r. ⌜ r ≡ at + s .words ⌝ }
+    ensures { λ _. ⌜ now (out .exit) ≡ written (now (out .entry)) at (fresh-part s (now (plan .entry)) Segments) ⌝ }
+{
+    if plan.len() <= SHORT_PLAN * s.n {
+        put_zeros(out, at, s.words);
+        return put_programs(s, plan, out, at, true);
+    }
+    put_programs(s, plan, out, at, false)
 }

@@ -1,6 +1,6 @@
 -- Assumes nothing.
 use native.Mathlib.Omega.{arith}
-use Rattle.builds.specs.Needs.{table-small, table-room, segments-room, segments-kept, ports-clear, rest-made, rest-ends}
+use Rattle.builds.specs.Needs.{table-small, table-room, segments-room, ports-clear, rest-made, rest-ends}
 use borrow.Author.Needs.{needs}
 use Rattle.builds.proofs.put_rest.Statement.{statement}
 use Rattle.builds.proofs.put_rest.Tie as tie
@@ -12,7 +12,7 @@ put-table-requires : tie.Need-put-table-requires
 put-table-requires c κs = (search needs, search table-room)
 
 put-segments-requires : tie.Need-put-segments-requires
-put-segments-requires c κs = (search needs, (search segments-room, λ so. search segments-kept))
+put-segments-requires c κs = (search needs, search segments-room)
 
 returns : tie.Need-returns
 returns c = (search rest-ends, search (rest-made, ports-clear))
