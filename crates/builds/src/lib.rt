@@ -83,7 +83,7 @@ fn put_rest(s: Shape, plan: &[u16], out: &mut [u16], at: usize) -> usize
     put_segments(s, plan, out, segments)
 }
 
-// The fresh image of an accepted plan. The parts before the segments are cleared at once.
+// The fresh image of an accepted plan.
 fn put_image(s: Shape, plan: &[u16], out: &mut [u16])
     requires { ⌜ Plan s (now plan) ⌝ }
     requires { ⌜ Packed s ⌝ }

@@ -39,7 +39,7 @@ const LATER_WORDS: usize = 7;
 // Where the capacity stands among the words of a queue.
 const CAPACITY: usize = 3;
 
-// The most words for each task of a plan whose programs are short.
+// The most words for each task of a plan whose programs are short, so that it is faster to clear all segments at once.
 const SHORT_PLAN: usize = 128;
 
 // The header and the clock.
@@ -119,7 +119,7 @@ fn put_entry(out: &mut [u16], at: usize, base: u16, length: u16) -> usize
     put_word(out, second, length)
 }
 
-// A segment: program words followed by zeros, which stand there where the words are clear.
+// A segment: program words followed by zeros, which are there already where the words are clear.
 fn put_segment(
     out: &mut [u16],
     at: usize,
@@ -239,7 +239,7 @@ fn put_programs(
     next
 }
 
-// The segments. Where programs are short it is faster to clear all words at once.
+// The segments.
 pub fn put_segments(s: Shape, plan: &[u16], out: &mut [u16], at: usize) -> usize
     requires { ⌜ Plan s (now plan) ⌝ }
     requires { ⌜ at + s .words ≤ list-length (now out) ⌝ }

@@ -139,7 +139,7 @@ fn first_segment(s: Shape) -> usize
     starts[8]
 }
 
-// The shape that an accepted plan gives, whose T is known.
+// The shape of an accepted plan whose T is known.
 pub fn shape_sized(plan: &[u16], whole: usize) -> Shape
     requires { ⌜ verdict-on-plan (now plan) ≡ Fine ⌝ }
     requires { ⌜ whole ≡ total (shape-planned (now plan)) ⌝ }
