@@ -213,13 +213,7 @@ pub fn put_table(s: Shape, plan: &[u16], out: &mut [u16], at: usize) -> usize
 }
 
 // The segments where it is known whether their words are clear.
-fn put_programs(
-    s: Shape,
-    plan: &[u16],
-    out: &mut [u16],
-    at: usize,
-    clear: bool,
-) -> usize
+fn put_programs(s: Shape, plan: &[u16], out: &mut [u16], at: usize, clear: bool) -> usize
     requires { ⌜ Plan s (now plan) ⌝ }
     requires { ⌜ at + s .words ≤ list-length (now out) ⌝ }
     requires { ⌜ (clear ≡ true → Clear (now out) at (s .words)) ⌝ }
