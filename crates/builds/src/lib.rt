@@ -10,9 +10,11 @@ ghost use Rattle.paper.specs.declared.Part.the-variants.{Header, TaskTable, Rea
 ghost use Rattle.plans.specs.Needs.{Packed};
 ghost use Rattle.writes.specs.Written.{written};
 ghost use Rattle.parts.specs.Needs.{Plan};
+ghost use Rattle.builds.specs.Needs.{Blank};
 use numbers::number_of_verdict;
 use paper::Refusal;
 use paper::Shape;
+use paper::Size;
 use paper::Verdict;
 use parts::put_header;
 use parts::put_lead;
@@ -21,9 +23,8 @@ use parts::put_queues;
 use parts::put_segments;
 use parts::put_table;
 use parts::put_tasks;
-use plans::shape_of_plan;
-use plans::total_of;
-use plans::verdict;
+use plans::shape_sized;
+use plans::size;
 use writes::put_zeros;
 
 const PAIR_WORDS: usize = 2;
@@ -45,19 +46,21 @@ fn put_tables(s: Shape, plan: &[u16], out: &mut [u16]) -> usize
     requires { ⌜ Plan s (now plan) ⌝ }
     requires { ⌜ Packed s ⌝ }
     requires { ⌜ begin s 4 ≤ length (now out) ⌝ }
+    requires { ⌜ Blank s (now out) 0 ⌝ }
     ensures { λ r. ⌜ r ≡ begin s 4 ⌝ }
     ensures { λ _. ⌜ now (out .exit) ≡ written (now (out .entry)) 0 (((fresh-part s (now (plan .entry)) Header ++ fresh-part s (now (plan .entry)) TaskTable) ++ fresh-part s (now (plan .entry)) ReadyQueue) ++ fresh-part s (now (plan .entry)) StatusTable) ⌝ }
 {
     let tasks = put_header(s, out);
     let ready = put_tasks(s, plan, out, tasks);
     let status = put_ready(s, plan, out, ready);
-    put_zeros(out, status, s.n * PAIR_WORDS)
+    status + s.n * PAIR_WORDS
 }
 
 // The input, output and message buffers.
 fn put_buffers(s: Shape, plan: &[u16], out: &mut [u16], at: usize) -> usize
     requires { ⌜ Plan s (now plan) ⌝ }
     requires { ⌜ (at ≡ begin s 4) × (begin s 7 ≤ length (now out)) ⌝ }
+    requires { ⌜ Blank s (now out) 4 ⌝ }
     ensures { λ r. ⌜ r ≡ begin s 7 ⌝ }
     ensures { λ _. ⌜ now (out .exit) ≡ written (now (out .entry)) at ((fresh-part s (now (plan .entry)) InputBuffers ++ fresh-part s (now (plan .entry)) OutputBuffers) ++ fresh-part s (now (plan .entry)) MessageBuffers) ⌝ }
 {
@@ -71,10 +74,11 @@ fn put_buffers(s: Shape, plan: &[u16], out: &mut [u16], at: usize) -> usize
 fn put_rest(s: Shape, plan: &[u16], out: &mut [u16], at: usize) -> usize
     requires { ⌜ Plan s (now plan) ⌝ }
     requires { ⌜ (at ≡ begin s 7) × (total s ≤ length (now out)) ⌝ }
+    requires { ⌜ Blank s (now out) 7 ⌝ }
     ensures { λ r. ⌜ r ≡ total s ⌝ }
     ensures { λ _. ⌜ now (out .exit) ≡ written (now (out .entry)) at ((fresh-part s (now (plan .entry)) Ports ++ fresh-part s (now (plan .entry)) SegmentTable) ++ fresh-part s (now (plan .entry)) Segments) ⌝ }
 {
-    let table = put_zeros(out, at, s.n * PAIR_WORDS);
+    let table = at + s.n * PAIR_WORDS;
     let segments = put_table(s, plan, out, table);
     put_segments(s, plan, out, segments)
 }
@@ -86,6 +90,8 @@ fn put_image(s: Shape, plan: &[u16], out: &mut [u16])
     requires { ⌜ length (now out) ≡ total s ⌝ }
     ensures { λ _. ⌜ now (out .exit) ≡ fresh (now (plan .entry)) ⌝ }
 {
+    let starts = s.starts;
+    put_zeros(out, 0, starts[8]);
     let inputs = put_tables(s, plan, out);
     let ports = put_buffers(s, plan, out, inputs);
     put_rest(s, plan, out, ports);
@@ -95,15 +101,14 @@ fn put_image(s: Shape, plan: &[u16], out: &mut [u16])
 pub fn build(plan: &[u16], target: &mut [u16]) -> u16
     ensures { λ r. ⌜ Builds (now (plan .entry)) (now (target .entry)) r (now (target .exit)) ⌝ }
 {
-    let found = verdict(plan);
+    let found = size(plan);
     match found {
-        Verdict::Refused(r) => number_of_verdict(Verdict::Refused(r)),
-        Verdict::Fine => {
-            let s = shape_of_plan(plan);
-            if target.len() != total_of(s) {
+        Size::Refused(r) => number_of_verdict(Verdict::Refused(r)),
+        Size::Words(whole) => {
+            if target.len() != whole {
                 return number_of_verdict(Verdict::Refused(Refusal::WrongTarget));
             }
-            put_image(s, plan, target);
+            put_image(shape_sized(plan, whole), plan, target);
             0
         }
     }

@@ -1,14 +1,15 @@
 -- What the calls of this crate ask and make, as laws over values. Assumes nothing.
 use mathlib.Core.Path.{_≡_, refl, sym, ap, _∙_}
+use mathlib.Core.Bool.{Bool, true, false, true≢false}
 use mathlib.Core.List.{List, [], _∷_, _++_}
 use Prim.Native.Nat.{ℕ, zero, suc, _+_, _-_, _*_, _<_, _≤_}
 use native.Mathlib.Nat.{mul-le-mul-right, suc-mul, zero-mul}
 use native.Mathlib.Numerals.{add-one}
 use native.Mathlib.Omega.{arith}
-use lib.ListN.{length, getD, take, drop, replicate, length-append, length-drop}
+use lib.ListN.{length, getD, take, drop, replicate, length-append, length-drop, length-replicate}
 use lib.Seq.{length-take-le}
-use Rattle.paper.specs.Image.{mark, edition, most-words, begin, start, offsets, total, header}
-use Rattle.paper.specs.Plans.{plan-tasks, segment-length, program-length, segment-words, program-start, joined, fresh-row, fresh-segment, plan-shape}
+use Rattle.paper.specs.Image.{mark, edition, most-words, size, begin, start, offsets, total, header}
+use Rattle.paper.specs.Plans.{plan-tasks, segment-length, program-length, segment-words, program-start, joined, fresh-row, fresh-queue, fresh-segment, fresh-part, plan-shape}
 use Rattle.paper.specs.Numbers.{check-plan}
 use Rattle.paper.specs.declared.Shape.{Shape}
 use Rattle.paper.specs.declared.Part.{Part}
@@ -18,8 +19,9 @@ use Rattle.laws.specs.Rows.{rising}
 use Rattle.laws.specs.Places.{begins-later}
 use Rattle.laws.specs.Layout.{total-is, largest-offset}
 use Rattle.plans.specs.Needs.{Packed}
-use Rattle.laws.specs.Fresh.{planned, programs-later, segment-long}
-use Rattle.writes.specs.Written.{written, written-none, written-on, kept-length}
+use Rattle.laws.specs.Fresh.{planned, programs-later, segment-long, part-length}
+use Rattle.writes.specs.Written.{written, written-none, written-on, written-over, kept-length}
+use Rattle.writes.specs.Clear.{Clear, part-clear, later-clear, zeros-after, zeros-around}
 
 -- the shape of an accepted plan
 pub record Plan (s : Shape) (plan : List ℕ) : Type 0 where
@@ -58,6 +60,12 @@ module _ (f : ℕ → List ℕ) (pos : ℕ → ℕ) (o : List ℕ) (at : ℕ) wh
     pub row-room : (n : ℕ) → pos (suc k) ≡ pos k + length (f k) → pos (suc k) ≤ pos n → at + pos n ≤ length o → next + length (f k) ≤ length out
     row-room n e h room = omega (arith, r .place, kept-length o out at (joined k f) (r .made))
 
+    -- what is clear after all rows is clear after those so far
+    pub row-clear : (m room : ℕ) → Clear o at room → pos k + m ≤ room → Clear out next m
+    row-clear m room c h =
+        later-clear o out at (joined k f) next m (r .made) (omega (arith, r .place, r .sized))
+        (part-clear o at room next m c (omega (arith, r .place)) (omega (arith, r .place)))
+
     pub rows-done : (n : ℕ) → n ≤ k → k ≤ n → (next ≡ at + pos n) × (out ≡ written o at (joined n f))
     rows-done n h l = let z : n ≡ k = omega arith in rw z (r .place, r .made)
 
@@ -76,6 +84,27 @@ module _ (f : ℕ → List ℕ) (w : ℕ) (o : List ℕ) (at : ℕ) where
 
     pub wide-row-room : (n : ℕ) → k < n → at + n * w ≤ length o → next + w ≤ length out
     wide-row-room n h room = omega (arith, r .place, kept-length o out at (joined k f) (r .made), mul-le-mul-right w h, suc-mul k w)
+
+    pub wide-row-clear : (n : ℕ) → k < n → Clear o at (n * w) → Clear out next w
+    wide-row-clear n h c = row-clear f (by-width w) o at k next out r w (n * w) c (omega (arith, mul-le-mul-right w h, suc-mul k w))
+
+-- a task and an empty queue are one word in clear ones
+pub task-in-clear : (o out : List ℕ) (at l : ℕ) → Clear o at 9 → out ≡ written o (at + 1) (l ∷ []) → out ≡ written o at (0 ∷ l ∷ replicate 7 0)
+task-in-clear o out at l c e = zeros-around o out at 1 (l ∷ []) 7 c e
+
+pub queue-in-clear : (o out : List ℕ) (at c v : ℕ) → Clear o at (4 + c) → v ≡ c → out ≡ written o (at + 3) (v ∷ []) → out ≡ written o at (fresh-queue c)
+queue-in-clear o out at c v clear ev e =
+    let d : 4 + c ≡ 3 + (1 + c) = omega arith in
+    let wide : Clear o at (3 + (1 + c)) = rw (← d) clear in
+    zeros-around o out at 3 (c ∷ []) c wide (rw (← ev) e)
+
+-- a program is followed by zeros where the words after it are clear
+pub program-in-clear : (o out plan : List ℕ) (at from p l : ℕ) → p ≤ l → from + p ≤ length plan → (clear : Bool) → (clear ≡ true → Clear o at l) → clear ≡ true
+    → out ≡ written o at (take p (drop from plan)) → out ≡ written o at (take p (drop from plan) ++ replicate (l - p) 0)
+program-in-clear o out plan at from p l h inside clear cleared so e =
+    let long : length (take p (drop from plan)) ≡ p = length-take-le p (drop from plan) (simp length-drop (omega arith)) in
+    let d : length (take p (drop from plan)) + (l - p) ≡ l = omega arith in
+    zeros-after o out at (take p (drop from plan)) (l - p) (rw d (cleared so)) e
 
 -- a program within its plan has its length
 pub program-size : (plan : List ℕ) (from p at r : ℕ) → from + p ≤ length plan → r ≡ at + p → r ≡ at + length (take p (drop from plan))
@@ -119,6 +148,27 @@ module _ (s : Shape) (plan : List ℕ) (p : Plan s plan) where
   pub segment-size : (k : ℕ) → k < s .n → length (fresh-segment plan k) ≡ segment-length plan k
   segment-size k h = segment-long plan (p .fine) k (omega (arith, plan-count))
 
+-- the size of a part of the fresh image
+pub part-size : (s : Shape) (plan : List ℕ) → Plan s plan → (p : Part) → length (fresh-part s plan p) ≡ size s p
+part-size s plan h p = rw (h .shape) (part-length plan (h .fine) p)
+
+-- the segments over zeros
+pub segments-over : (s : Shape) (plan : List ℕ) → Plan s plan → (o a out : List ℕ) (at : ℕ) → a ≡ written o at (replicate (s .words) 0)
+    → out ≡ written a at (fresh-part s plan Part.Segments) → out ≡ written o at (fresh-part s plan Part.Segments)
+segments-over s plan p o a out at ea eo =
+    let zeros : List ℕ = replicate (s .words) 0 in
+    let whole : size s Part.Segments ≡ s .words = omega arith in
+    let long : length zeros ≡ length (fresh-part s plan Part.Segments) =
+    length-replicate (s .words) 0 ∙ sym whole ∙ sym (part-size s plan p Part.Segments) in
+    eo ∙ ap (λ (x : List ℕ). written x at (fresh-part s plan Part.Segments)) ea ∙ written-over o at zeros (fresh-part s plan Part.Segments) long
+
+pub room-kept : (s : Shape) (o a : List ℕ) (at : ℕ) → a ≡ written o at (replicate (s .words) 0) → at + s .words ≤ length o → at + s .words ≤ length a
+room-kept s o a at e room = omega (arith, kept-length o a at _ e)
+
+-- nothing is claimed of words that are not clear
+pub unclear : (out : List ℕ) (at n : ℕ) → false ≡ true → Clear out at n
+unclear out at n e = absurd (true≢false (sym e))
+
 -- a task's row as it is written
 pub task-made : (s : Shape) (plan : List ℕ) (k l at : ℕ) (o out : List ℕ) → l ≡ segment-length plan k
     → out ≡ written o at (0 ∷ l ∷ replicate 7 0) → out ≡ written o at (fresh-row s plan Part.TaskTable k)
@@ -156,6 +206,11 @@ module _ (s : Shape) (plan : List ℕ) (p : Plan s plan) where
     pub segment-room : (l l′ : ℕ) → k < s .n → l ≡ segment-length plan k → l′ ≡ l → at + s .words ≤ length o → next + l′ ≤ length out
     segment-room l l′ h el el′ room =
         omega (arith, r .place, kept-length o out at _ (r .made), words-upto s plan p (suc k) h)
+
+    pub segment-clear : (l l′ : ℕ) (clear : Bool) → k < s .n → l ≡ segment-length plan k → l′ ≡ l → (clear ≡ true → Clear o at (s .words))
+        → clear ≡ true → Clear out next l′
+    segment-clear l l′ clear h el el′ cleared so =
+        row-clear (fresh-segment plan) (segment-words plan) o at k next out r l′ (s .words) (cleared so) (omega (arith, words-upto s plan p (suc k) h))
 
     pub segment-more : (out′ : List ℕ) (next′ l l′ : ℕ) → k < s .n → l ≡ segment-length plan k → l′ ≡ l → out′ ≡ written out next (fresh-segment plan k)
         → next′ ≡ next + l′ → Rows (fresh-segment plan) (segment-words plan) o at (k + 1) next′ out′

@@ -1,5 +1,6 @@
-// The rows and parts of a fresh image, each word written once.
+// The rows and parts of a fresh image.
 ghost use mathlib.Core.Path.{_≡_};
+ghost use mathlib.Core.Bool.{true};
 ghost use mathlib.Core.List.{[], _∷_, _++_};
 ghost use Prim.Native.Nat.{_+_, _-_, _*_, _≤_, _<_};
 ghost use lib.ListN.{length as list-length, take, drop, replicate};
@@ -8,6 +9,7 @@ ghost use Rattle.paper.specs.Plans.{joined, fresh-queue, fresh-part};
 ghost use Rattle.paper.specs.declared.Part.the-variants.{TaskTable, SegmentTable, Segments};
 ghost use Rattle.plans.specs.Needs.{Packed};
 ghost use Rattle.writes.specs.Written.{written};
+ghost use Rattle.writes.specs.Clear.{Clear};
 ghost use Rattle.parts.specs.Needs.{Plan};
 use paper::Shape;
 use places::wide;
@@ -29,8 +31,16 @@ const LEADING_WORDS: usize = 5;
 
 const PAIR_WORDS: usize = 2;
 
-// The words of a task after R1.
+// Where R1 stands among the words of a task, and how many words come after it.
+const STACK: usize = 1;
+
 const LATER_WORDS: usize = 7;
+
+// Where the capacity stands among the words of a queue.
+const CAPACITY: usize = 3;
+
+// The most words for each task of a plan whose programs are short, so that it is faster to clear all segments at once.
+const SHORT_PLAN: usize = 128;
 
 // The header and the clock.
 pub fn put_header(s: Shape, out: &mut [u16]) -> usize
@@ -65,15 +75,15 @@ pub fn put_header(s: Shape, out: &mut [u16]) -> usize
     put_words(out, 0, &words, 0, HEADER_WORDS)
 }
 
-// A task: R1 = L, all else 0.
+// A task where the words are clear: R1 = L, all else 0.
 fn put_task(out: &mut [u16], at: usize, length: u16) -> usize
     requires { ⌜ at + 9 ≤ list-length (now out) ⌝ }
+    requires { ⌜ Clear (now out) at 9 ⌝ }
     ensures { λ r. ⌜ r ≡ at + 9 ⌝ }
     ensures { λ _. ⌜ now (out .exit) ≡ written (now (out .entry)) at (0 ∷ length ∷ replicate 7 0) ⌝ }
 {
-    let stack = put_word(out, at, 0);
-    let later = put_word(out, stack, length);
-    put_zeros(out, later, LATER_WORDS)
+    let later = put_word(out, at + STACK, length);
+    later + LATER_WORDS
 }
 
 // The leading words of a queue that starts at slot 0.
@@ -87,15 +97,16 @@ pub fn put_lead(out: &mut [u16], at: usize, count: u16, capacity: u16) -> usize
     put_word(out, last, capacity)
 }
 
-// An empty queue.
+// An empty queue where the words are clear.
 fn put_queue(out: &mut [u16], at: usize, capacity: usize) -> usize
     requires { ⌜ capacity ≤ 32 ⌝ }
     requires { ⌜ at + (4 + capacity) ≤ list-length (now out) ⌝ }
+    requires { ⌜ Clear (now out) at (4 + capacity) ⌝ }
     ensures { λ r. ⌜ r ≡ at + (4 + capacity) ⌝ }
     ensures { λ _. ⌜ now (out .exit) ≡ written (now (out .entry)) at (fresh-queue capacity) ⌝ }
 {
-    let slots = put_lead(out, at, 0, capacity as u16);
-    put_zeros(out, slots, capacity)
+    let slots = put_word(out, at + CAPACITY, capacity as u16);
+    slots + capacity
 }
 
 // A segment's entry in the segment table.
@@ -108,7 +119,7 @@ fn put_entry(out: &mut [u16], at: usize, base: u16, length: u16) -> usize
     put_word(out, second, length)
 }
 
-// A segment: program words followed by zeros.
+// A segment: program words followed by zeros, which are there already where the words are clear.
 fn put_segment(
     out: &mut [u16],
     at: usize,
@@ -116,13 +127,18 @@ fn put_segment(
     from: usize,
     program: usize,
     length: usize,
+    clear: bool,
 ) -> usize
     requires { ⌜ (program ≤ length) × (from + program ≤ list-length (now plan)) ⌝ }
     requires { ⌜ at + length ≤ list-length (now out) ⌝ }
+    requires { ⌜ (clear ≡ true → Clear (now out) at length) ⌝ }
     ensures { λ r. ⌜ r ≡ at + length ⌝ }
     ensures { λ _. ⌜ now (out .exit) ≡ written (now (out .entry)) at (take program (drop from (now (plan .entry))) ++ replicate (length - program) 0) ⌝ }
 {
     let zeros = put_words(out, at, plan, from, program);
+    if clear {
+        return at + length;
+    }
     put_zeros(out, zeros, length - program)
 }
 
@@ -142,10 +158,11 @@ pub fn put_numbers(out: &mut [u16], at: usize, n: usize) -> usize
     next
 }
 
-// Rows of empty queues.
+// Rows of empty queues where the words are clear.
 pub fn put_queues(out: &mut [u16], at: usize, rows: usize, capacity: usize) -> usize
     requires { ⌜ (rows ≤ 256) × (capacity ≤ 32) ⌝ }
     requires { ⌜ at + rows * (4 + capacity) ≤ list-length (now out) ⌝ }
+    requires { ⌜ Clear (now out) at (rows * (4 + capacity)) ⌝ }
     ensures { λ r. ⌜ r ≡ at + rows * (4 + capacity) ⌝ }
     ensures { λ _. ⌜ now (out .exit) ≡ written (now (out .entry)) at (joined rows (λ i. fresh-queue capacity)) ⌝ }
 {
@@ -158,10 +175,11 @@ pub fn put_queues(out: &mut [u16], at: usize, rows: usize, capacity: usize) -> u
     next
 }
 
-// The task table.
+// The task table where the words are clear.
 pub fn put_tasks(s: Shape, plan: &[u16], out: &mut [u16], at: usize) -> usize
     requires { ⌜ Plan s (now plan) ⌝ }
     requires { ⌜ at + s .n * 9 ≤ list-length (now out) ⌝ }
+    requires { ⌜ Clear (now out) at (s .n * 9) ⌝ }
     ensures { λ r. ⌜ r ≡ at + s .n * 9 ⌝ }
     ensures { λ _. ⌜ now (out .exit) ≡ written (now (out .entry)) at (fresh-part s (now (plan .entry)) TaskTable) ⌝ }
 {
@@ -194,10 +212,11 @@ pub fn put_table(s: Shape, plan: &[u16], out: &mut [u16], at: usize) -> usize
     next
 }
 
-// The segments.
-pub fn put_segments(s: Shape, plan: &[u16], out: &mut [u16], at: usize) -> usize
+// The segments where it is known whether their words are clear.
+fn put_programs(s: Shape, plan: &[u16], out: &mut [u16], at: usize, clear: bool) -> usize
     requires { ⌜ Plan s (now plan) ⌝ }
     requires { ⌜ at + s .words ≤ list-length (now out) ⌝ }
+    requires { ⌜ (clear ≡ true → Clear (now out) at (s .words)) ⌝ }
     ensures { λ r. ⌜ r ≡ at + s .words ⌝ }
     ensures { λ _. ⌜ now (out .exit) ≡ written (now (out .entry)) at (fresh-part s (now (plan .entry)) Segments) ⌝ }
 {
@@ -207,9 +226,23 @@ pub fn put_segments(s: Shape, plan: &[u16], out: &mut [u16], at: usize) -> usize
     while k < s.n {
         let length = wide(length_of(plan, k));
         let program = wide(program_of(plan, k));
-        next = put_segment(out, next, plan, from, program, length);
+        next = put_segment(out, next, plan, from, program, length, clear);
         from += program;
         k += 1;
     }
     next
+}
+
+// The segments.
+pub fn put_segments(s: Shape, plan: &[u16], out: &mut [u16], at: usize) -> usize
+    requires { ⌜ Plan s (now plan) ⌝ }
+    requires { ⌜ at + s .words ≤ list-length (now out) ⌝ }
+    ensures { λ r. ⌜ r ≡ at + s .words ⌝ }
+    ensures { λ _. ⌜ now (out .exit) ≡ written (now (out .entry)) at (fresh-part s (now (plan .entry)) Segments) ⌝ }
+{
+    if plan.len() <= SHORT_PLAN * s.n {
+        put_zeros(out, at, s.words);
+        return put_programs(s, plan, out, at, true);
+    }
+    put_programs(s, plan, out, at, false)
 }

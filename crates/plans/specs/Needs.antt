@@ -2,7 +2,7 @@
 use mathlib.Core.Path.{_≡_, refl, sym, _∙_, ap}
 use mathlib.Core.List.{List}
 use mathlib.Core.Bool.{Bool, true, false, not, _&&_, _||_}
-use Prim.Native.Nat.{ℕ, _+_, _*_, _<_, _≤_}
+use Prim.Native.Nat.{ℕ, _+_, _-_, _*_, _<_, _≤_}
 use native.Mathlib.Numerals.{add-one}
 use native.Mathlib.Omega.{arith}
 use borrow.Author.Tests.{lt-ltb, le-ltb}
@@ -12,7 +12,7 @@ use Rattle.paper.specs.Image.{most-words, offsets, start, total}
 use Rattle.paper.specs.Tests.{every}
 use Rattle.paper.specs.Plans.{plan-tasks, segment-length, program-length, program-start, segment-words, plan-shape}
 use Rattle.paper.specs.Numbers.{out-of-range, pair-right, plan-broken, check-plan}
-use Rattle.paper.specs.Calls.{plan-size, size-number, size-value}
+use Rattle.paper.specs.Calls.{plan-size, size-as, size-number, size-value}
 use Rattle.paper.specs.Promises.{Measures}
 use Rattle.paper.specs.declared.Shape.{Shape}
 use Rattle.paper.specs.declared.Part.{Part}
@@ -82,31 +82,72 @@ module _ (plan : List ℕ) where
         messages = rw (z .messages) (r .messages);
       }
 
-  pub planned-shape : (s : Shape) (l : List ℕ) (right : Bool) (w end : ℕ) → SizesOf plan s → l ≡ offsets s → Summed plan (s .n) right w end
+  pub planned-shape : (s : Shape) (l : List ℕ) (w : ℕ) → SizesOf plan s → l ≡ offsets s → w ≡ segment-words plan (plan-tasks plan)
       → shaped (s .n) (s .slice) (s .ci) (s .co) (s .cm) l w ≡ plan-shape plan
   unfolding plan-shape
-  planned-shape s l right w end z el sum =
-      rw (el, sum .segments, z .tasks, z .slice, z .inputs, z .outputs, z .messages)
+  planned-shape s l w z el ew = rw (el, ew, z .tasks, z .slice, z .inputs, z .outputs, z .messages)
 
-  pub planned-packed : (s : Shape) (l : List ℕ) (right : Bool) (w end : ℕ) → SizesOf plan s → l ≡ offsets s → Summed plan (s .n) right w end
-      → Ranged s → Packed (shaped (s .n) (s .slice) (s .ci) (s .co) (s .cm) l w)
-  planned-packed s l right w end z el sum r =
+  pub planned-packed : (s : Shape) (l : List ℕ) (w : ℕ) → l ≡ offsets s → w ≤ 1048560 → Ranged s
+      → Packed (shaped (s .n) (s .slice) (s .ci) (s .co) (s .cm) l w)
+  planned-packed s l w el h r =
       record {
         ranged = record { tasks = r .tasks; slice = r .slice; inputs = r .inputs; outputs = r .outputs; messages = r .messages };
         packed = el;
-        words = omega (arith, sum .small, r .tasks);
+        words = h;
       }
 
--- T of a packed shape
-module _ (s : Shape) (p : Packed s) where
-  first-is : getD (s .starts) 8 0 ≡ start s Part.Segments
-  first-is = rw (p .packed)
+  -- the words of the segments: added up, or what T leaves
+  pub words-added : (n w end : ℕ) (right : Bool) → n ≡ getD plan 0 0 → n ≤ 16 → Summed plan n right w end
+      → (w ≡ segment-words plan (plan-tasks plan)) × (w ≤ 1048560)
+  words-added n w end right e h sum = (rw (← e) (sum .segments), omega (arith, sum .small))
 
+  start-planned : (s : Shape) → SizesOf plan s → start s Part.Segments ≡ start (plan-shape plan) Part.Segments
+  unfolding plan-shape
+  start-planned s z = rw (z .tasks, z .inputs, z .outputs, z .messages)
+
+  words-planned : plan-shape plan .words ≡ segment-words plan (plan-tasks plan)
+  unfolding plan-shape
+  words-planned = refl
+
+  pub words-left : (s : Shape) (first whole : ℕ) → SizesOf plan s → first ≡ start s Part.Segments → check-plan plan ≡ Verdict.Fine
+      → whole ≡ total (plan-shape plan) → (whole - first ≡ segment-words plan (plan-tasks plan)) × (whole - first ≤ 1048560)
+  words-left s first whole z ef fine ew =
+      (omega (arith, start-planned s z, total-is (plan-shape plan), words-planned), omega (arith, planned plan fine .fit .words))
+
+  pub first-inside : (s : Shape) (first whole : ℕ) → SizesOf plan s → first ≡ start s Part.Segments → whole ≡ total (plan-shape plan) → first ≤ whole
+  first-inside s first whole z ef ew = omega (arith, start-planned s z, total-is (plan-shape plan))
+
+  pub total-planned : (s : Shape) (first w end : ℕ) (right : Bool) → SizesOf plan s → first ≡ start s Part.Segments → Summed plan (s .n) right w end
+      → first + w ≡ total (plan-shape plan)
+  total-planned s first w end right z ef sum =
+      let e : w ≡ segment-words plan (plan-tasks plan) = rw (← z .tasks) (sum .segments) in
+      omega (arith, start-planned s z, total-is (plan-shape plan), words-planned)
+
+-- sizes that are not out of range
+pub range-inside : (s : Shape) (r : Bool) → r ≡ out-of-range s → r ≡ false → Ranged s
+range-inside s r er inside =
+    let h = ranged-is s .0 (sym er ∙ inside) in
+    record { tasks = h .0; slice = h .1; inputs = h .2; outputs = h .3; messages = h .4 }
+
+pub few-sizes : (plan : List ℕ) (s : Shape) (r : Bool) → SizesOf plan s → r ≡ out-of-range s → r ≡ false → (s .n ≤ 16) × (s .n ≡ plan-tasks plan)
+few-sizes plan s r z er inside = (range-inside s r er inside .tasks .1, z .tasks)
+
+pub sum-small : (plan : List ℕ) (s : Shape) (r : Bool) (first w end : ℕ) (right : Bool) → r ≡ out-of-range s → r ≡ false → first ≡ start s Part.Segments
+    → Summed plan (s .n) right w end → first + w ≤ 1059206
+sum-small plan s r first w end right er inside ef sum =
+    let h = range-inside s r er inside in
+    omega (arith, largest-offset s h, sum .small, h .tasks)
+
+-- the offset of the segments, and T of a packed shape
+pub first-is : (s : Shape) (l : List ℕ) → l ≡ offsets s → getD l 8 0 ≡ start s Part.Segments
+first-is s l e = rw e
+
+module _ (s : Shape) (p : Packed s) where
   pub total-made : getD (s .starts) 8 0 + s .words ≡ total s
-  total-made = rw first-is (sym (total-is s))
+  total-made = rw (first-is s (s .starts) (p .packed)) (sym (total-is s))
 
   pub total-small : getD (s .starts) 8 0 + s .words ≤ 1059206
-  total-small = omega (arith, first-is, largest-offset s (p .ranged), p .words)
+  total-small = omega (arith, first-is s (s .starts) (p .packed), largest-offset s (p .ranged), p .words)
 
 -- the other rules of plans
 module _ (plan : List ℕ) where
@@ -114,52 +155,60 @@ module _ (plan : List ℕ) where
   unfolding plan-shape
   few-tasks n e r = rw e (r .tasks .1)
 
-  pub broken-tested : (n w end t : ℕ) (right a b o : Bool) (s : Shape) → n ≡ getD plan 0 0 → Summed plan n right w end
-      → a ≡ (ltb (length plan) (5 + 2 * n) || not right) → b ≡ (a || not (eqb (length plan) end)) → s ≡ plan-shape plan → t ≡ total s
+  pub broken-tested : (n w end t : ℕ) (right a b o : Bool) → n ≡ getD plan 0 0 → Summed plan n right w end
+      → a ≡ (ltb (length plan) (5 + 2 * n) || not right) → b ≡ (a || not (eqb (length plan) end)) → t ≡ total (plan-shape plan)
       → o ≡ (b || ltb most-words t) → o ≡ plan-broken plan
   unfolding plan-broken
-  broken-tested n w end t right a b o s en sum ea eb es et eo =
-      rw (eo, eb, ea, et, es, sum .pairs, sum .programs, en)
+  broken-tested n w end t right a b o en sum ea eb et eo = rw (eo, eb, ea, et, sum .pairs, sum .programs, en)
 
-  -- the verdict, test by test
-  pub short-so : length plan < 5 → Verdict.Refused Refusal.BadPlan ≡ check-plan plan
-  unfolding check-plan
-  short-so h = rw (lt-ltb (length plan) 5 h)
-
-  module _ (long : 5 ≤ length plan) (s : Shape) (z : SizesOf plan s) (r : Bool) (er : r ≡ out-of-range s) where
-    pub range-so : r ≡ true → Verdict.Refused Refusal.OutOfRange ≡ check-plan plan
-    unfolding check-plan
-    range-so e = rw (le-ltb (length plan) 5 long, ← same-range plan s z, ← er, e)
-
-    module _ (inside : r ≡ false) (b : Bool) (eb : b ≡ plan-broken plan) where
-      pub broken-so : b ≡ true → Verdict.Refused Refusal.BadPlan ≡ check-plan plan
-      unfolding check-plan
-      broken-so e = rw (le-ltb (length plan) 5 long, ← same-range plan s z, ← er, inside, ← eb, e)
-
-      pub plan-fine : b ≡ false → Verdict.Fine ≡ check-plan plan
-      unfolding check-plan
-      plan-fine e = rw (le-ltb (length plan) 5 long, ← same-range plan s z, ← er, inside, ← eb, e)
-
-  -- what an accepted plan and a plan in range leave to the later steps
-  pub range-inside : (s : Shape) (r : Bool) → SizesOf plan s → r ≡ out-of-range s → r ≡ false → Ranged (plan-shape plan)
-  range-inside s r z er inside =
-      let h = ranged-is (plan-shape plan) .0 (sym (same-range plan s z) ∙ sym er ∙ inside) in
-      record { tasks = h .0; slice = h .1; inputs = h .2; outputs = h .3; messages = h .4 }
-
-  pub fine-ranged : check-plan plan ≡ Verdict.Fine → Ranged (plan-shape plan)
-  fine-ranged e = fit-ranged (plan-shape plan) (planned plan e .fit)
-
-  -- the size
+  -- the answer that a verdict gives
   measured : (answer : Size) → answer ≡ plan-size plan → Measures plan answer
   measured answer e = record { answered = e; numbered = ap size-number e; valued = ap size-value e }
 
-  pub size-words : (t : ℕ) (s : Shape) → check-plan plan ≡ Verdict.Fine → s ≡ plan-shape plan → t ≡ total s → Measures plan (Size.Words t)
+  refused : (r : Refusal) → check-plan plan ≡ Verdict.Refused r → Measures plan (Size.Refused r)
   unfolding plan-size
-  size-words t s e es et = measured (Size.Words t) (rw (e, et, es))
+  refused r e = measured (Size.Refused r) (rw e)
 
-  pub size-refused : (v : Verdict) (r : Refusal) → v ≡ check-plan plan → v ≡ Verdict.Refused r → Measures plan (Size.Refused r)
+  -- the answer, test by test
+  pub short-so : length plan < 5 → Measures plan (Size.Refused Refusal.BadPlan)
+  unfolding check-plan
+  short-so h = refused Refusal.BadPlan (rw (lt-ltb (length plan) 5 h))
+
+  module _ (long : 5 ≤ length plan) (s : Shape) (z : SizesOf plan s) (r : Bool) (er : r ≡ out-of-range s) where
+    pub range-so : r ≡ true → Measures plan (Size.Refused Refusal.OutOfRange)
+    unfolding check-plan
+    range-so e = refused Refusal.OutOfRange (rw (le-ltb (length plan) 5 long, ← same-range plan s z, ← er, e))
+
+    module _ (inside : r ≡ false) (b : Bool) (eb : b ≡ plan-broken plan) where
+      pub broken-so : b ≡ true → Measures plan (Size.Refused Refusal.BadPlan)
+      unfolding check-plan
+      broken-so e = refused Refusal.BadPlan (rw (le-ltb (length plan) 5 long, ← same-range plan s z, ← er, inside, ← eb, e))
+
+      pub size-so : b ≡ false → (t : ℕ) → t ≡ total (plan-shape plan) → Measures plan (Size.Words t)
+      unfolding check-plan plan-size
+      size-so e t et = measured (Size.Words t) (rw (le-ltb (length plan) 5 long, ← same-range plan s z, ← er, inside, ← eb, e, et))
+
+  -- the verdict that an answer tells
+  words-from : (v : Verdict) (t : ℕ) → Size.Words t ≡ size-as v plan → (v ≡ Verdict.Fine) × (t ≡ total (plan-shape plan))
+  words-from Verdict.Fine t e = (refl, ap size-value e)
+  words-from (Verdict.Refused r) t e = let z : _≡_ {A = ℕ} 0 1 = cc in absurd (omega arith)
+
+  refusal-from : (v : Verdict) (r : Refusal) → Size.Refused r ≡ size-as v plan → v ≡ Verdict.Refused r
+  refusal-from Verdict.Fine r e = let z : _≡_ {A = ℕ} 0 1 = cc in absurd (omega arith)
+  refusal-from (Verdict.Refused q) r e = cc
+
+  pub told-words : (answer : Size) (t : ℕ) → Measures plan answer → answer ≡ Size.Words t
+      → (check-plan plan ≡ Verdict.Fine) × (t ≡ total (plan-shape plan))
   unfolding plan-size
-  size-refused v r ev er = measured (Size.Refused r) (rw (← ev, er))
+  told-words answer t m e = words-from (check-plan plan) t (sym e ∙ m .answered)
+
+  pub told-refusal : (answer : Size) (r : Refusal) → Measures plan answer → answer ≡ Size.Refused r → check-plan plan ≡ Verdict.Refused r
+  unfolding plan-size
+  told-refusal answer r m e = refusal-from (check-plan plan) r (sym e ∙ m .answered)
+
+  -- what an accepted plan leaves to the later steps
+  pub fine-ranged : check-plan plan ≡ Verdict.Fine → Ranged (plan-shape plan)
+  fine-ranged e = fit-ranged (plan-shape plan) (planned plan e .fit)
 
 pub all-pairs : (plan : List ℕ) (n k : ℕ) (right : Bool) (words end : ℕ) → Summed plan k right words end → n ≤ k → k ≤ n → Summed plan n right words end
 all-pairs plan n k right words end sum h l = let z : n ≡ k = omega arith in rw z sum

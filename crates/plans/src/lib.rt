@@ -1,10 +1,12 @@
 // A plan: its verdict, its shape and its size.
 ghost use mathlib.Core.Path.{_≡_};
 ghost use Prim.Native.Nat.{_≤_};
-ghost use Rattle.paper.specs.Plans.{plan-tasks, segment-length, program-length, plan-shape as shape-planned};
-ghost use Rattle.paper.specs.Image.{total};
+ghost use Rattle.paper.specs.Plans.{plan-tasks, segment-length, program-length, segment-words, plan-shape as shape-planned};
+ghost use Rattle.paper.specs.Image.{start, total};
 ghost use Rattle.paper.specs.Numbers.{plan-broken, check-plan as verdict-on-plan};
 ghost use Rattle.paper.specs.Promises.{Measures};
+ghost use Rattle.paper.specs.declared.Part.the-variants.{Segments};
+ghost use Rattle.paper.specs.declared.Verdict.the-variants.{Fine};
 ghost use Rattle.laws.specs.Layout.{Ranged};
 ghost use Rattle.plans.specs.Needs.{Summed, SizesOf, Packed};
 use headers::header_word;
@@ -89,15 +91,15 @@ fn sizes_of(plan: &[u16]) -> Shape
     }
 }
 
-// The shape that a plan in range gives.
-pub fn shape_of_plan(plan: &[u16]) -> Shape
+// The shape of a plan in range whose segments have so many words.
+fn shape_with(plan: &[u16], words: usize) -> Shape
     requires { ⌜ Ranged (shape-planned (now plan)) ⌝ }
+    requires { ⌜ (words ≡ segment-words (now plan) (plan-tasks (now plan))) × (words ≤ 1048560) ⌝ }
     ensures { λ r. ⌜ r ≡ shape-planned (now (plan .entry)) ⌝ }
     ensures { λ r. ⌜ Packed r ⌝ }
 {
     let sizes = sizes_of(plan);
     let starts = offsets(sizes);
-    let all = add_up(plan, sizes.n);
     Shape {
         n: sizes.n,
         slice: sizes.slice,
@@ -105,8 +107,18 @@ pub fn shape_of_plan(plan: &[u16]) -> Shape
         co: sizes.co,
         cm: sizes.cm,
         starts: starts,
-        words: all.words,
+        words: words,
     }
+}
+
+// The shape that a plan in range gives.
+pub fn shape_of_plan(plan: &[u16]) -> Shape
+    requires { ⌜ Ranged (shape-planned (now plan)) ⌝ }
+    ensures { λ r. ⌜ r ≡ shape-planned (now (plan .entry)) ⌝ }
+    ensures { λ r. ⌜ Packed r ⌝ }
+{
+    let all = add_up(plan, header_word(plan, 0));
+    shape_with(plan, all.words)
 }
 
 // T of a packed shape.
@@ -118,42 +130,65 @@ pub fn total_of(s: Shape) -> usize
     starts[8] + s.words
 }
 
-// Whether a plan in range breaks another rule of plans.
-fn is_broken(plan: &[u16]) -> bool
-    requires { ⌜ Ranged (shape-planned (now plan)) ⌝ }
+// Where the segments of a shape in range start.
+fn first_segment(s: Shape) -> usize
+    requires { ⌜ Ranged s ⌝ }
+    ensures { λ r. ⌜ r ≡ start s Segments ⌝ }
+{
+    let starts = offsets(s);
+    starts[8]
+}
+
+// The shape of an accepted plan whose T is known.
+pub fn shape_sized(plan: &[u16], whole: usize) -> Shape
+    requires { ⌜ verdict-on-plan (now plan) ≡ Fine ⌝ }
+    requires { ⌜ whole ≡ total (shape-planned (now plan)) ⌝ }
+    ensures { λ r. ⌜ r ≡ shape-planned (now (plan .entry)) ⌝ }
+    ensures { λ r. ⌜ Packed r ⌝ }
+{
+    let first = first_segment(sizes_of(plan));
+    shape_with(plan, whole - first)
+}
+
+// Whether a plan of n tasks in range, whose pairs and whose T are known, breaks another rule of plans.
+fn is_broken(plan: &[u16], n: usize, all: Sums, whole: usize) -> bool
+    requires { ⌜ (n ≤ 16) × (n ≡ plan-tasks (now plan)) ⌝ }
+    requires { ⌜ Summed (now plan) n (all .right) (all .words) (all .end) ⌝ }
+    requires { ⌜ whole ≡ total (shape-planned (now plan)) ⌝ }
     ensures { λ r. ⌜ r ≡ plan-broken (now (plan .entry)) ⌝ }
 {
-    let n = header_word(plan, 0);
-    let all = add_up(plan, n);
     let missing = plan.len() < LEADING_WORDS + PAIR_WORDS * n;
     let pairs = either(missing, !all.right);
     let programs = either(pairs, plan.len() != all.end);
-    either(programs, MOST_WORDS < total_of(shape_of_plan(plan)))
-}
-
-// The verdict on a plan.
-pub fn verdict(plan: &[u16]) -> Verdict
-    ensures { λ r. ⌜ r ≡ verdict-on-plan (now (plan .entry)) ⌝ }
-{
-    if plan.len() < LEADING_WORDS {
-        return Verdict::Refused(Refusal::BadPlan);
-    }
-    if out_of_range(sizes_of(plan)) {
-        return Verdict::Refused(Refusal::OutOfRange);
-    }
-    if is_broken(plan) {
-        return Verdict::Refused(Refusal::BadPlan);
-    }
-    Verdict::Fine
+    either(programs, MOST_WORDS < whole)
 }
 
 // How many words a plan needs.
 pub fn size(plan: &[u16]) -> Size
     ensures { λ r. ⌜ Measures (now (plan .entry)) r ⌝ }
 {
-    let found = verdict(plan);
+    if plan.len() < LEADING_WORDS {
+        return Size::Refused(Refusal::BadPlan);
+    }
+    let sizes = sizes_of(plan);
+    if out_of_range(sizes) {
+        return Size::Refused(Refusal::OutOfRange);
+    }
+    let all = add_up(plan, sizes.n);
+    let whole = first_segment(sizes) + all.words;
+    if is_broken(plan, sizes.n, all, whole) {
+        return Size::Refused(Refusal::BadPlan);
+    }
+    Size::Words(whole)
+}
+
+// The verdict on a plan.
+pub fn verdict(plan: &[u16]) -> Verdict
+    ensures { λ r. ⌜ r ≡ verdict-on-plan (now (plan .entry)) ⌝ }
+{
+    let found = size(plan);
     match found {
-        Verdict::Fine => Size::Words(total_of(shape_of_plan(plan))),
-        Verdict::Refused(r) => Size::Refused(r),
+        Size::Words(_) => Verdict::Fine,
+        Size::Refused(r) => Verdict::Refused(r),
     }
 }

@@ -1,12 +1,12 @@
 -- A list with words written over it from a place on. Assumes nothing.
 use mathlib.Core.Path.{_≡_, refl, sym, ap, _∙_}
 use mathlib.Core.List.{List, [], _∷_, _++_, append-nil}
-use Prim.Native.Nat.{ℕ, suc, _+_, _<_, _≤_}
+use Prim.Native.Nat.{ℕ, zero, suc, _+_, _<_, _≤_}
 use native.Mathlib.Nat.{add-zero, zero-add, add-suc, suc-add}
 use native.Mathlib.Numerals.{add-one}
 use native.Mathlib.Omega.{arith}
 use lib.ListN.{length, getD, set, take, drop, replicate, length-drop, length-replicate, replicate-append-replicate}
-use lib.Seq.{sets, length-sets, sets-eq, length-take-le, take-suc, getD-drop, drop-length}
+use lib.Seq.{sets, length-sets, sets-eq, set-set, length-take-le, take-suc, getD-drop, drop-length}
 
 -- vs stored from index i on
 unfoldable pub written : List ℕ → ℕ → List ℕ → List ℕ
@@ -34,6 +34,27 @@ written-on l i (x ∷ a) b = ap (λ (k : ℕ). sets (sets (set l i x) (suc i) a)
 pub written-all : (l vs : List ℕ) → length l ≡ length vs → written l 0 vs ≡ vs
 unfolding written
 written-all l vs e = sets-eq vs l 0 (omega arith) ∙ rw (zero-add, ← e, drop-length) (append-nil vs)
+
+-- a word set before those written, and words written over as many others
+set-before : (l : List ℕ) (i j a b : ℕ) → i < j → set (set l j b) i a ≡ set (set l i a) j b
+set-before [] i j a b h = refl
+set-before (x ∷ l) i zero a b h = absurd (omega arith)
+set-before (x ∷ l) zero (suc j) a b h = refl
+set-before (x ∷ l) (suc i) (suc j) a b h = ap (λ (r : List ℕ). x ∷ r) (set-before l i j a b (omega arith))
+
+written-past : (l : List ℕ) (i j v : ℕ) (vs : List ℕ) → i < j → set (sets l j vs) i v ≡ sets (set l i v) j vs
+written-past l i j v [] h = refl
+written-past l i j v (x ∷ vs) h =
+    written-past (set l j x) i (suc j) v vs (omega arith) ∙ ap (λ (r : List ℕ). sets r (suc j) vs) (set-before l i j v x h)
+
+pub written-over : (l : List ℕ) (i : ℕ) (us vs : List ℕ) → length us ≡ length vs → written (written l i us) i vs ≡ written l i vs
+unfolding written
+written-over l i [] [] e = refl
+written-over l i [] (v ∷ vs) e = absurd (omega arith)
+written-over l i (u ∷ us) [] e = absurd (omega arith)
+written-over l i (u ∷ us) (v ∷ vs) e =
+    ap (λ (r : List ℕ). sets r (suc i) vs) (written-past (set l i u) i (suc i) v us (omega arith)) ∙
+    ap (λ (r : List ℕ). sets (sets r (suc i) us) (suc i) vs) (set-set l i u v) ∙ written-over (set l i v) (suc i) us vs (omega arith)
 
 -- one word more
 one-more : (l a : List ℕ) (at k v : ℕ) → k ≡ length a → set (written l at a) (at + k) v ≡ written l at (a ++ (v ∷ []))

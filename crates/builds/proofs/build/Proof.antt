@@ -1,25 +1,23 @@
 -- Assumes nothing.
-use mathlib.Core.Path.{sym, _∙_}
-use Rattle.plans.specs.Needs.{fine-ranged}
-use Rattle.builds.specs.Needs.{refused-plan, refused-target, built-plan}
+use Rattle.builds.specs.Needs.{refused-plan, refused-target, built-plan, sized-fine, sized-total, sized-plan, target-long}
 use borrow.Author.Needs.{needs}
 use Rattle.builds.proofs.build.Statement.{statement}
 use Rattle.builds.proofs.build.Tie as tie
 
-shape-of-plan-requires : tie.Need-shape-of-plan-requires
-shape-of-plan-requires c κs = fine-ranged _ (sym (c .before .before .verdict .ensures) ∙ c .enum-told .given .1)
-
 returns : tie.Need-returns
-returns c = refused-target _ _ (sym (c .before .before .before .before .before .before .verdict .ensures) ∙ c .before .before .before .before .enum-told .given .1) _ (c .before .before .before .shape-of-plan .ensures .0) _ (c .before .before .total-of .ensures) _ (c .before .if1 .taken) (c .number-of-verdict2 .ensures)
+returns c = search refused-target
+
+shape-sized-requires : tie.Need-shape-sized-requires
+shape-sized-requires c κs = (search sized-fine, search sized-total)
 
 put-image-requires : tie.Need-put-image-requires
-put-image-requires c κs = (record { shape = c .before .before .before .shape-of-plan .ensures .0; fine = sym (c .before .before .before .before .before .before .verdict .ensures) ∙ c .before .before .before .before .enum-told .given .1 }, (c .before .before .before .shape-of-plan .ensures .1, c .before .if1 .left ∙ c .before .before .total-of .ensures))
+put-image-requires c κs = (search sized-plan, (search needs, search target-long))
 
 returns-2 : tie.Need-returns-2
-returns-2 c = refused-plan _ _ _ _ (sym (c .before .before .before .before .verdict .ensures) ∙ c .before .before .found .given .1) (c .number-of-verdict .ensures)
+returns-2 c = search refused-plan
 
 returns-3 : tie.Need-returns-3
-returns-3 c = built-plan _ _ (sym (c .before .before .before .before .before .before .before .before .before .verdict .ensures) ∙ c .before .before .before .before .before .before .before .enum-told .given .1) _ (c .before .before .before .before .before .before .shape-of-plan .ensures .0) _ (c .before .before .before .before .before .total-of .ensures) _ (c .before .before .before .before .if1 .left) (c .before .before .put-image .ensures)
+returns-3 c = search built-plan
 
 pub build-spec : {M : Type 1} → statement M
 build-spec =
@@ -29,10 +27,9 @@ build-spec =
     (λ c. search needs)
     (λ c κs. search needs)
     (λ c. search needs)
-    shape-of-plan-requires
-    (λ c κs. search needs)
     (λ c κs. search needs)
     returns
+    shape-sized-requires
     put-image-requires
     returns-2
     (λ c. search needs)

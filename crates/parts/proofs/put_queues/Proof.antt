@@ -3,7 +3,7 @@ use Prim.Native.Nat.{_+_, _-_, _≤_}
 use native.Mathlib.Omega.{arith}
 use Rattle.paper.specs.Plans.{fresh-queue}
 use Rattle.writes.specs.Written.{kept-length}
-use Rattle.parts.specs.Needs.{Rows, no-wide-rows, wide-row-more, wide-row-room, rows-done, by-width}
+use Rattle.parts.specs.Needs.{Rows, no-wide-rows, wide-row-more, wide-row-room, wide-row-clear, rows-done, by-width}
 use Rattle.laws.specs.Fresh.{queue-long}
 use borrow.Author.Needs.{needs}
 use Rattle.parts.proofs.put_queues.Statement.{statement}
@@ -19,7 +19,11 @@ loop-holds : tie.Need-loop-holds Inv-loop μ-loop
 loop-holds c = (no-wide-rows _ _ _ _, omega arith)
 
 put-queue-requires : tie.Need-put-queue-requires Inv-loop μ-loop
-put-queue-requires c κs = (c .before .before .before .before .pre .0 .1, wide-row-room _ _ _ _ _ _ _ (c .before .before .loop .inv .0) (queue-long _) _ (c .before .loop-test .taken) (c .before .before .before .before .pre .1))
+put-queue-requires c κs =
+    let p = c .before .before .before .before .pre in
+    let r = c .before .before .loop .inv .0 in
+    let k = c .before .loop-test .taken in
+    (p .0 .1, (wide-row-room _ _ _ _ _ _ _ r (queue-long _) _ k (p .1 .0), wide-row-clear _ _ _ _ _ _ _ r (queue-long _) _ k (p .1 .1)))
 
 loop-again : tie.Need-loop-again Inv-loop μ-loop
 loop-again c = (wide-row-more _ _ _ _ _ _ _ (c .before .before .before .before .before .loop .inv .0) (queue-long _) _ _ (c .before .before .put-queue .ensures .1) (c .before .before .put-queue .ensures .0), omega arith)

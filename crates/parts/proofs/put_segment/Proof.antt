@@ -1,12 +1,16 @@
 -- Assumes nothing.
+use mathlib.Core.Path.{refl}
 use native.Mathlib.Omega.{arith}
-use Rattle.parts.specs.Needs.{then-on, program-size}
+use Rattle.parts.specs.Needs.{then-on, program-size, program-in-clear}
 use borrow.Author.Needs.{needs}
 use Rattle.parts.proofs.put_segment.Statement.{statement}
 use Rattle.parts.proofs.put_segment.Tie as tie
 
 returns : tie.Need-returns
-returns c = (omega arith, then-on _ _ _ _ _ _ _ (c .before .before .before .before .before .before .put-words .ensures .1) (program-size _ _ _ _ _ (c .before .before .before .before .before .before .before .before .before .before .pre .0 .1) (c .before .before .before .before .before .before .put-words .ensures .0)) (c .before .before .put-zeros .ensures .1))
+returns c = (refl, search program-in-clear)
+
+returns-2 : tie.Need-returns-2
+returns-2 c = (omega arith, search (then-on, program-size))
 
 pub put-segment-spec : {M : Type 1} → statement M
 put-segment-spec =
@@ -14,6 +18,9 @@ put-segment-spec =
     (tie.spec
     (λ c κs. search needs)
     (λ c. search needs)
+    (λ c. search needs)
+    returns
+    (λ c. search needs)
     (λ c κs. search needs)
     (λ c. search needs)
-    returns)
+    returns-2)

@@ -1,68 +1,32 @@
--- The segments before k are written, and where the next program starts is known. Assumes nothing.
-use mathlib.Core.Path.{_≡_, refl}
-use Prim.Native.Nat.{_-_, _≤_}
+-- Assumes nothing.
 use native.Mathlib.Omega.{arith}
-use Rattle.paper.specs.Plans.{segment-words, program-start, fresh-segment}
-use Rattle.writes.specs.Written.{kept-length}
-use Rattle.parts.specs.Needs.{Rows, no-rows, plan-few, first-program, segment-asks, segment-room, segment-made, segment-more, next-program, segments-done}
+use Rattle.writes.specs.Clear.{zeros-clear}
+use Rattle.parts.specs.Needs.{plan-few, room-kept, segments-over, unclear}
 use borrow.Author.Needs.{needs}
 use Rattle.parts.proofs.put_segments.Statement.{statement}
 use Rattle.parts.proofs.put_segments.Tie as tie
 
-abbrev Inv-loop : tie.InvT-loop
-Inv-loop s plan out₀ at from₀ next₀ k₀ out from next k =
-    Rows (fresh-segment plan) (segment-words plan) out₀ at k next out × (k ≤ s .n) × (from ≡ program-start plan k)
+mul-if1 : tie.Need-mul-if1
+mul-if1 c = omega (arith, plan-few _ _ (c .before .before .before .pre .0))
 
-abbrev μ-loop : tie.MeasureT-loop
-μ-loop s plan out₀ at from₀ next₀ k₀ out from next k = s .n - k
+put-programs-requires : tie.Need-put-programs-requires
+put-programs-requires c κs = (search needs, (search room-kept, λ so. search zeros-clear))
 
-mul-from : tie.Need-mul-from Inv-loop μ-loop
-mul-from c = omega (arith, plan-few _ _ (c .before .before .before .pre .0))
+returns : tie.Need-returns
+returns c = (search needs, search segments-over)
 
-add-from : tie.Need-add-from Inv-loop μ-loop
-add-from c = omega (arith, plan-few _ _ (c .before .before .before .pre .0))
-
-loop-holds : tie.Need-loop-holds Inv-loop μ-loop
-loop-holds c = (no-rows _ _ _ _ refl, omega arith, first-program _ _ (c .before .before .before .pre .0))
-
-length-of-requires : tie.Need-length-of-requires Inv-loop μ-loop
-length-of-requires c κs = omega (arith, plan-few _ _ (c .before .before .before .before .before .before .pre .0))
-
-program-of-requires : tie.Need-program-of-requires Inv-loop μ-loop
-program-of-requires c κs = omega (arith, plan-few _ _ (c .before .before .before .before .before .before .before .before .pre .0))
-
-put-segment-requires : tie.Need-put-segment-requires Inv-loop μ-loop
-put-segment-requires c κs = (segment-asks _ _ (c .before .before .before .before .before .before .before .before .before .before .before .pre .0) _ _ _ _ _ _ (c .before .before .before .before .before .if1 .taken) (c .before .before .before .before .length-of .ensures) (c .before .before .program-of .ensures) (c .before .before .before .wide .ensures) (c .before .wide2 .ensures) (c .before .before .before .before .before .before .before .loop .inv .2), segment-room _ _ (c .before .before .before .before .before .before .before .before .before .before .before .pre .0) _ _ _ _ _ (c .before .before .before .before .before .before .before .loop .inv .0) _ _ (c .before .before .before .before .before .if1 .taken) (c .before .before .before .before .length-of .ensures) (c .before .before .before .wide .ensures) (c .before .before .before .before .before .before .before .before .before .before .before .pre .1))
-
-add-from-2 : tie.Need-add-from-2 Inv-loop μ-loop
-add-from-2 c = omega (arith, segment-asks _ _ (c .before .before .before .before .before .before .before .before .before .before .before .before .before .before .pre .0) _ _ _ _ _ _ (c .before .before .before .before .before .before .before .before .if1 .taken) (c .before .before .before .before .before .before .before .length-of .ensures) (c .before .before .before .before .before .program-of .ensures) (c .before .before .before .before .before .before .wide .ensures) (c .before .before .before .before .wide2 .ensures) (c .before .before .before .before .before .before .before .before .before .before .loop .inv .2))
-
-loop-again : tie.Need-loop-again Inv-loop μ-loop
-loop-again c = (segment-more _ _ (c .before .before .before .before .before .before .before .before .before .before .before .before .before .before .pre .0) _ _ _ _ _ (c .before .before .before .before .before .before .before .before .before .before .loop .inv .0) _ _ _ _ (c .before .before .before .before .before .before .before .before .if1 .taken) (c .before .before .before .before .before .before .before .length-of .ensures) (c .before .before .before .before .before .before .wide .ensures) (segment-made (c .before .before .before .before .before .before .before .before .before .before .before .before .before .before .args .plan .now) (c .before .before .before .before .before .before .before .before .before .before .loop .k) _ _ _ _ _ _ _ _ (c .before .before .before .before .before .before .before .length-of .ensures) (c .before .before .before .before .before .program-of .ensures) (c .before .before .before .before .before .before .wide .ensures) (c .before .before .before .before .wide2 .ensures) (c .before .before .before .before .before .before .before .before .before .before .loop .inv .2) (c .before .before .put-segment .ensures .1)) (c .before .before .put-segment .ensures .0), omega arith, next-program (c .before .before .before .before .before .before .before .before .before .before .before .before .before .before .args .plan .now) (c .before .before .before .before .before .before .before .before .before .before .loop .k) _ _ _ (c .before .before .before .before .before .before .before .before .before .before .loop .inv .2) (c .before .before .before .before .before .program-of .ensures) (c .before .before .before .before .wide2 .ensures))
-
-same-length : tie.Need-same-length Inv-loop μ-loop
-same-length c = kept-length _ _ _ _ (c .before .before .loop .inv .0 .made)
-
-returns : tie.Need-returns Inv-loop μ-loop
-returns c = segments-done _ _ (c .before .before .before .before .before .before .pre .0) _ _ _ _ _ (c .before .before .loop .inv .0) (c .if1 .left) (c .before .before .loop .inv .1)
+put-programs-requires-2 : tie.Need-put-programs-requires-2
+put-programs-requires-2 c κs = (search needs, (search needs, λ so. search unclear))
 
 pub put-segments-spec : {M : Type 1} → statement M
 put-segments-spec =
     tie.close
     (tie.spec
-    Inv-loop
-    μ-loop
-    mul-from
-    add-from
-    loop-holds
-    length-of-requires
+    mul-if1
     (λ c κs. search needs)
-    program-of-requires
-    (λ c κs. search needs)
-    put-segment-requires
-    add-from-2
+    put-programs-requires
     (λ c. search needs)
+    returns
+    put-programs-requires-2
     (λ c. search needs)
-    loop-again
-    same-length
-    returns)
+    (λ c. search needs))

@@ -1,19 +1,19 @@
 -- Assumes nothing.
 use native.Mathlib.Omega.{arith}
-use Rattle.parts.specs.Needs.{then-again}
+use Rattle.parts.specs.Needs.{task-in-clear}
 use borrow.Author.Needs.{needs}
 use Rattle.parts.proofs.put_task.Statement.{statement}
 use Rattle.parts.proofs.put_task.Tie as tie
 
 returns : tie.Need-returns
-returns c = (omega arith, then-again _ _ _ _ _ _ _ (c .before .before .before .before .before .before .before .before .before .before .put-word .ensures .1) (c .before .before .before .before .before .before .before .before .before .before .put-word .ensures .0) (c .before .before .before .before .before .before .put-word2 .ensures .1) _ _ _ (c .before .before .before .before .before .before .put-word2 .ensures .0) (c .before .before .put-zeros .ensures .1))
+returns c = (omega arith, search task-in-clear)
 
 pub put-task-spec : {M : Type 1} → statement M
 put-task-spec =
     tie.close
     (tie.spec
+    (λ c. search needs)
     (λ c κs. search needs)
-    (λ c κs. search needs)
-    (λ c κs. search needs)
+    (λ c. search needs)
     (λ c. search needs)
     returns)

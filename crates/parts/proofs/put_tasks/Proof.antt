@@ -5,7 +5,7 @@ use native.Mathlib.Omega.{arith}
 use Rattle.paper.specs.Plans.{fresh-row}
 use Rattle.paper.specs.declared.Part.{Part}
 use Rattle.writes.specs.Written.{kept-length}
-use Rattle.parts.specs.Needs.{Rows, no-wide-rows, wide-row-more, wide-row-room, rows-done, by-width, plan-few, task-made}
+use Rattle.parts.specs.Needs.{Rows, no-wide-rows, wide-row-more, wide-row-room, wide-row-clear, rows-done, by-width, plan-few, task-made}
 use borrow.Author.Needs.{needs}
 use Rattle.parts.proofs.put_tasks.Statement.{statement}
 use Rattle.parts.proofs.put_tasks.Tie as tie
@@ -23,7 +23,11 @@ length-of-requires : tie.Need-length-of-requires Inv-loop μ-loop
 length-of-requires c κs = omega (arith, plan-few _ _ (c .before .before .before .before .before .before .pre .0))
 
 put-task-requires : tie.Need-put-task-requires Inv-loop μ-loop
-put-task-requires c κs = wide-row-room _ _ _ _ _ _ _ (c .before .before .before .before .loop .inv .0) refl _ (c .before .before .if1 .taken) (c .before .before .before .before .before .before .before .pre .1)
+put-task-requires c κs =
+    let p = c .before .before .before .before .before .before .before .pre in
+    let r = c .before .before .before .before .loop .inv .0 in
+    let k = c .before .before .if1 .taken in
+    (wide-row-room _ _ _ _ _ _ _ r refl _ k (p .1 .0), wide-row-clear _ _ _ _ _ _ _ r refl _ k (p .1 .1))
 
 loop-again : tie.Need-loop-again Inv-loop μ-loop
 loop-again c = (wide-row-more _ _ _ _ _ _ _ (c .before .before .before .before .before .before .before .loop .inv .0) refl _ _ (task-made (c .before .before .before .before .before .before .before .before .before .before .args .s) (c .before .before .before .before .before .before .before .before .before .before .args .plan .now) (c .before .before .before .before .before .before .before .loop .k) _ _ _ _ (c .before .before .before .length-of .ensures) (c .before .before .put-task .ensures .1)) (c .before .before .put-task .ensures .0), omega arith)

@@ -1,23 +1,22 @@
 -- Assumes nothing.
-use Rattle.plans.specs.Needs.{sizes-ranged, planned-shape, planned-packed, few-tasks}
+use Rattle.plans.specs.Needs.{few-tasks, words-added}
 use borrow.Author.Needs.{needs}
 use Rattle.plans.proofs.shape_of_plan.Statement.{statement}
 use Rattle.plans.proofs.shape_of_plan.Tie as tie
 
-offsets-requires : tie.Need-offsets-requires
-offsets-requires c κs = search sizes-ranged
-
 add-up-requires : tie.Need-add-up-requires
-add-up-requires c κs = (few-tasks _ _ (c .before .sizes-of .ensures .tasks) (c .before .before .before .pre), c .before .sizes-of .ensures .tasks)
+add-up-requires c κs = (search few-tasks, search needs)
 
-returns : tie.Need-returns
-returns c = (planned-shape _ _ _ _ _ _ (c .before .before .sizes-of .ensures) (c .before .offsets .ensures) (c .add-up .ensures), planned-packed _ _ _ _ _ _ (c .before .before .sizes-of .ensures) (c .before .offsets .ensures) (c .add-up .ensures) (sizes-ranged _ _ (c .before .before .sizes-of .ensures) (c .before .before .before .before .pre)))
+shape-with-requires : tie.Need-shape-with-requires
+shape-with-requires c κs =
+    let n = c .before .header-word .ensures in
+    (search needs, words-added _ _ _ _ _ n (few-tasks _ _ n (c .before .before .before .pre)) (c .add-up .ensures))
 
 pub shape-of-plan-spec : {M : Type 1} → statement M
 shape-of-plan-spec =
     tie.close
     (tie.spec
     (λ c κs. search needs)
-    offsets-requires
     add-up-requires
-    returns)
+    shape-with-requires
+    (λ c. search needs))
