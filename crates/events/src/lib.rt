@@ -151,7 +151,7 @@ fn asked(p: u16) -> Asked
 }
 
 // Rules 2 to 5, of the first task.
-fn turn_of(s: Shape, im: &mut [u16], shapes: &[u8; 256], t: Task) -> Reply
+pub fn turn_of(s: Shape, im: &mut [u16], shapes: &[u8; 256], t: Task) -> Reply
     requires { ⌜ Sound s (now im) ⌝ }
     requires { ⌜ t .0 < s .n ⌝ }
     requires { ⌜ Shapes (now shapes) ⌝ }

@@ -1,3 +1,4 @@
 pub mod Clock
 pub mod Row
 pub mod Ticks
+pub mod Needs

@@ -5,7 +5,7 @@ use mathlib.Core.Bool.{not}
 use Prim.Native.Nat.{ℕ, zero, suc, _+_, _<_}
 use native.Mathlib.Omega.{arith}
 use lib.Dec.{T, eqb}
-use Rattle.paper.specs.Image.{lead, ord, cell, Valid, at}
+use Rattle.paper.specs.Image.{lead, ord, cell, Valid, at, flags}
 use Rattle.paper.specs.Queues.{head, first, empty}
 use Rattle.paper.specs.Orders.{order, after-order}
 use Rattle.paper.specs.declared.Task.{Task}
@@ -21,6 +21,10 @@ use Rattle.laws.specs.Orders.{order-keeps, not-own, keeps-sound}
 abbrev pub in-a-row : Shape → List ℕ → Task → ℕ → List ℕ
 in-a-row s im i zero = im
 in-a-row s im i (suc k) = after-order s (in-a-row s im i k) i (order s (in-a-row s im i k) i)
+
+-- before each of n orders the task had no error and nothing pending; shut, as contracts say it
+unfoldable pub Quiet : Shape → List ℕ → Task → ℕ → Type 0
+Quiet s im i n = (k : ℕ) → k < n → at s (in-a-row s im i k) (flags i) < 4
 
 module _ (s : Shape) (im : List ℕ) (i : Task) (h : Sound s im) (hi : i .0 < s .n) where
   -- the image stays sound
