@@ -1,18 +1,19 @@
 -- A list of events taken one by one. Assumes nothing.
-use mathlib.Core.Path.{_≡_, ap, _∙_}
+use mathlib.Core.Path.{_≡_, refl, sym, ap, _∙_}
 use mathlib.Core.List.{List, _∷_}
-use Prim.Native.Nat.{ℕ, suc, _+_, _*_, _%_, _/_, _<_}
+use Prim.Native.Nat.{ℕ, zero, suc, _+_, _*_, _%_, _/_, _<_, _≤_}
 use native.Mathlib.Omega.{arith}
 use lib.ListN.{length, getD, drop}
 use lib.Seq.{drop-cons, drop-length}
 use Rattle.paper.specs.Calls.{Ran, stopped-at, goes-on, run-from}
-use Rattle.paper.specs.Events.{event-of, happening}
+use Rattle.paper.specs.Events.{event-of, tick, happening}
 use Rattle.paper.specs.declared.Shape.{Shape}
 use Rattle.paper.specs.declared.Event.{Event}
 use Rattle.paper.specs.declared.Answer.{Answer}
 use Rattle.paper.specs.declared.Refusal.{Refusal}
 use Rattle.paper.specs.declared.Reply.{Reply}
 use Rattle.paper.specs.declared.Verdict.{Verdict}
+use Rattle.stretches.specs.Ticks.{ticked, Taken, Ticks}
 
 -- event k of a list
 unfoldable pub nth-event : Shape → List ℕ → ℕ → Event
@@ -75,3 +76,35 @@ module _ (s : Shape) (im events : List ℕ) where
   taken-all k m whole all h =
       let end : 3 * k ≡ length events = omega arith in
       h ∙ ap (λ l. onward k (run-from s m l)) (ap (λ (j : ℕ). drop j events) end ∙ drop-length events)
+
+-- ticks that stand in a row in a list of events
+module _ (s : Shape) (im events : List ℕ) (k : ℕ) (m : List ℕ) (h : TakenFrom s im events k m) where
+  -- an event that is a tick
+  tick-happens : (x : List ℕ) (e : Event) → e ≡ Event.Tick → happening s x e ≡ tick s x
+  unfolding happening
+  tick-happens x e z = rw z
+
+  -- one of them
+  tick-taken : (n : ℕ) → TakenFrom s im events (k + n) (ticked s m n) → nth-event s events (k + n) ≡ Event.Tick → 3 * (k + n) + 2 < length events
+      → (r : Reply) → tick s (ticked s m n) .reply ≡ r → Taken r → TakenFrom s im events (k + n + 1) (ticked s m (suc n))
+  tick-taken n before e l (Reply.Accepted told) t y =
+      let here = tick-happens (ticked s m n) (nth-event s events (k + n)) e in
+      taken-more s im events (k + n) (ticked s m n) _ l before (ap (λ o. o .image) (sym here)) told (sym t ∙ ap (λ o. o .reply) (sym here))
+  tick-taken n before e l (Reply.Refused r) t y = absurd y
+
+  -- all of them
+  ticked-taken : (n : ℕ) → ((j : ℕ) → j < n → Taken (tick s (ticked s m j) .reply)) → ((j : ℕ) → j < n → nth-event s events (k + j) ≡ Event.Tick)
+      → 3 * (k + n) ≤ length events → TakenFrom s im events (k + n) (ticked s m n)
+  ticked-taken zero a e l =
+      let z : k + 0 ≡ k = omega arith in
+      rw z h
+  ticked-taken (suc n) a e l =
+      let z : k + suc n ≡ k + n + 1 = omega arith in
+      let before = ticked-taken n (λ j hj. a j (omega arith)) (λ j hj. e j (omega arith)) (omega arith) in
+      rw z (tick-taken n before (e n (omega arith)) (omega arith) (tick s (ticked s m n) .reply) refl (a n (omega arith)))
+
+  -- and so ticks that were accepted
+  pub ticks-taken : (n : ℕ) (out : List ℕ) → Ticks s m n out → ((j : ℕ) → j < n → nth-event s events (k + j) ≡ Event.Tick)
+      → 3 * (k + n) ≤ length events → TakenFrom s im events (k + n) out
+  unfolding Ticks
+  ticks-taken n out t e l = rw (t .0) (ticked-taken n (t .1) e l)

@@ -3,7 +3,7 @@ use mathlib.Core.Logic.{_≢_}
 use mathlib.Core.Path.{_≡_, refl, sym, ap, _∙_}
 use mathlib.Core.List.{List}
 use mathlib.Core.Bool.{Bool, true, false, not}
-use Prim.Native.Nat.{ℕ, _+_, _*_, _%_, _/_, _<_, _≤_}
+use Prim.Native.Nat.{ℕ, _+_, _-_, _*_, _%_, _/_, _<_, _≤_}
 use native.Mathlib.Nat.{add-zero}
 use native.Mathlib.Omega.{arith}
 use borrow.Author.Tests.{eqb-true, eq-eqb, ne-eqb}
@@ -22,7 +22,9 @@ use Rattle.paper.specs.declared.Reply.{Reply}
 use Rattle.paper.specs.declared.Verdict.{Verdict}
 use Rattle.laws.specs.Checked.{never-fine, then-fine}
 use Rattle.laws.specs.Stays.{Lawful, good, inspected-lawful}
-use Rattle.kernel.specs.Lists.{nth-event, onward, TakenFrom, taken-more, taken-refused, taken-all}
+use Rattle.kernel.specs.Lists.{nth-event, onward, TakenFrom, taken-more, taken-refused, taken-all, ticks-taken}
+use Rattle.kernel.specs.Ahead.{Ahead, ahead-ticks}
+use Rattle.stretches.specs.Ticks.{Ticks}
 
 -- one event
 module _ (im : List ℕ) (k d c : ℕ) where
@@ -107,21 +109,42 @@ event-there events k count e h = omega arith
 
 module _ (s : Shape) (im events : List ℕ) (k : ℕ) (m out : List ℕ) (reply : Reply) (whole : 3 * k + 2 < length events)
     (h : TakenFrom s im events k m) (er : reply ≡ happening s m (nth-event s events k) .reply) (eo : out ≡ happening s m (nth-event s events k) .image) where
-  pub one-taken : (a : Answer) → reply ≡ Reply.Accepted a → TakenFrom s im events (k + 1) out
+  one-taken : (a : Answer) → reply ≡ Reply.Accepted a → TakenFrom s im events (k + 1) out
   one-taken a f = taken-more s im events k m out whole h eo a (sym f ∙ er)
 
   module _ (r : Refusal) (f : reply ≡ Reply.Refused r) where
     stops : run-from s im events ≡ onward k (stopped-at (Verdict.Refused r) out)
     stops = taken-refused s im events k m out whole h eo r (sym f ∙ er)
 
-    pub stopped-count : k ≡ run-from s im events .taken
+    stopped-count : k ≡ run-from s im events .taken
     stopped-count = rw stops (sym (add-zero k))
 
-    pub stopped-stop : Verdict.Refused r ≡ run-from s im events .stop
+    stopped-stop : Verdict.Refused r ≡ run-from s im events .stop
     stopped-stop = rw stops
 
-    pub stopped-image : out ≡ run-from s im events .image
+    stopped-image : out ≡ run-from s im events .image
     stopped-image = rw stops
+
+-- ticks that follow, and the event after them
+module _ (s : Shape) (im events : List ℕ) (k n to count : ℕ) (m₁ m : List ℕ) (h : TakenFrom s im events k m₁) (t : Ticks s m₁ n m) (ahead : Ahead events k to)
+    (low : n ≤ to - k) (from : k ≤ to) (ends : to ≤ count) (ec : count ≡ length events / 3) where
+  pub ticks-follow : TakenFrom s im events (k + n) m
+  ticks-follow = ticks-taken s im events k m₁ h n m t (λ j hj. ahead-ticks s events k to ahead j (omega arith)) (omega arith)
+
+  module _ (out : List ℕ) (reply : Reply) (few : k + n < count) (er : reply ≡ happening s m (nth-event s events (k + n)) .reply)
+      (eo : out ≡ happening s m (nth-event s events (k + n)) .image) where
+    pub next-taken : (a : Answer) → reply ≡ Reply.Accepted a → TakenFrom s im events (k + n + 1) out
+    next-taken = one-taken s im events (k + n) m out reply (event-there events (k + n) count ec few) ticks-follow er eo
+
+    module _ (r : Refusal) (f : reply ≡ Reply.Refused r) where
+      pub next-count : k + n ≡ run-from s im events .taken
+      next-count = stopped-count s im events (k + n) m out reply (event-there events (k + n) count ec few) ticks-follow er eo r f
+
+      pub next-stop : Verdict.Refused r ≡ run-from s im events .stop
+      next-stop = stopped-stop s im events (k + n) m out reply (event-there events (k + n) count ec few) ticks-follow er eo r f
+
+      pub next-image : out ≡ run-from s im events .image
+      next-image = stopped-image s im events (k + n) m out reply (event-there events (k + n) count ec few) ticks-follow er eo r f
 
 module _ (s : Shape) (im events : List ℕ) (k count : ℕ) (m : List ℕ) (whole : length events % 3 ≡ 0) (ec : count ≡ length events / 3)
     (low : k ≤ count) (done : count ≤ k) (h : TakenFrom s im events k m) where

@@ -1,7 +1,7 @@
 // The public kernel: checking an image, the size of a plan, building, one event, and a run. No call requires anything.
 ghost use mathlib.Core.Path.{_≡_};
 ghost use mathlib.Core.Bool.{not};
-ghost use Prim.Native.Nat.{_+_, _*_, _%_, _<_};
+ghost use Prim.Native.Nat.{_+_, _*_, _%_, _<_, _≤_};
 ghost use lib.Dec.{eqb};
 ghost use lib.ListN.{length};
 ghost use Rattle.paper.specs.Calls.{run-from};
@@ -13,6 +13,7 @@ ghost use Rattle.paper.specs.declared.Verdict.the-variants.{Fine};
 ghost use Rattle.laws.specs.Stays.{Lawful};
 ghost use Rattle.shapes.specs.Entries.{Shapes};
 ghost use Rattle.kernel.specs.Lists.{nth-event};
+ghost use Rattle.kernel.specs.Ahead.{zeros-at, Ahead};
 pub use builds::build;
 use happening::step;
 pub use inspect::check;
@@ -24,9 +25,14 @@ use paper::Shape;
 use paper::Verdict;
 pub use plans::size;
 use shapes::order_shapes;
+use stretches::take_ticks;
+use truths::both;
 
 // The words of an event.
 const EVENT_WORDS: usize = 3;
+
+// How many events are looked at together.
+const LOOK: usize = 8;
 
 // One event: kind, device, character.
 pub fn event(im: &mut [u16], kind: u16, device: u16, character: u16) -> Reply
@@ -56,6 +62,52 @@ fn take_event(s: Shape, im: &mut [u16], shapes: &[u8; 256], events: &[u16], k: u
     step(s, im, shapes, events[at], events[at + 1], events[at + 2])
 }
 
+// Whether n words of a list, from a place on, are 0.
+fn zeros(l: &[u16], from: usize, n: usize) -> bool
+    requires { ⌜ from + n ≤ length (now l) ⌝ }
+    ensures { λ r. ⌜ r ≡ zeros-at (now (l .entry)) from n ⌝ }
+{
+    let mut right = true;
+    let mut k: usize = 0;
+    while k < n {
+        right = both(right, l[from + k] == 0);
+        k += 1;
+    }
+    right
+}
+
+// Where events that are ticks end, from one event on, as far as looks at several of them tell.
+fn looked_ahead(events: &[u16], from: usize, count: usize) -> usize
+    requires { ⌜ (from ≤ count) × (3 * count ≤ length (now events)) ⌝ }
+    ensures { λ r. ⌜ (from ≤ r) × (r ≤ count) ⌝ }
+    ensures { λ r. ⌜ Ahead (now (events .entry)) from r ⌝ }
+{
+    let mut to = from;
+    while LOOK <= count - to {
+        if !zeros(events, EVENT_WORDS * to, EVENT_WORDS * LOOK) {
+            return to;
+        }
+        to += LOOK;
+    }
+    to
+}
+
+// Where events that are ticks end, from one event on.
+fn ticks_ahead(events: &[u16], from: usize, count: usize) -> usize
+    requires { ⌜ (from ≤ count) × (3 * count ≤ length (now events)) ⌝ }
+    ensures { λ r. ⌜ (from ≤ r) × (r ≤ count) ⌝ }
+    ensures { λ r. ⌜ Ahead (now (events .entry)) from r ⌝ }
+{
+    let mut to = looked_ahead(events, from, count);
+    while to < count {
+        if !zeros(events, EVENT_WORDS * to, EVENT_WORDS) {
+            return to;
+        }
+        to += 1;
+    }
+    to
+}
+
 // Takes the events of a list, one after another, up to the first refused one.
 fn take_events(s: Shape, im: &mut [u16], shapes: &[u8; 256], events: &[u16]) -> Ended
     requires { ⌜ Lawful s (now im) ⌝ }
@@ -68,14 +120,17 @@ fn take_events(s: Shape, im: &mut [u16], shapes: &[u8; 256], events: &[u16]) -> 
     let count = events.len() / EVENT_WORDS;
     let mut taken: usize = 0;
     while taken < count {
-        let reply = take_event(s, im, shapes, events, taken);
-        match reply {
-            Reply::Accepted(_) => taken += 1,
-            Reply::Refused(r) => {
-                return Ended {
-                    taken: taken,
-                    stop: Verdict::Refused(r),
-                };
+        let ticks = ticks_ahead(events, taken, count);
+        taken += take_ticks(s, im, shapes, ticks - taken);
+        if taken < count {
+            match take_event(s, im, shapes, events, taken) {
+                Reply::Accepted(_) => taken += 1,
+                Reply::Refused(r) => {
+                    return Ended {
+                        taken: taken,
+                        stop: Verdict::Refused(r),
+                    };
+                }
             }
         }
     }
