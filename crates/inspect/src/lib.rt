@@ -23,8 +23,8 @@ use paper::Task;
 use paper::Verdict;
 use places::word_of;
 use rules::buffers_hold;
-use rules::characters;
-use rules::held_below;
+use rules::characters_hold;
+use rules::count_ready;
 use rules::queued;
 use standing::flags_hold;
 use standing::is_empty;
@@ -47,29 +47,18 @@ pub struct Inspected {
 }
 
 // Whether the rules of task i hold.
-fn task_holds(s: Shape, im: &[u16], i: Task) -> bool
-    requires { ⌜ Sized s (now im) ⌝ }
-    requires { ⌜ i .0 < s .n ⌝ }
-    requires { ⌜ is-queued s (now im) Ready ≡ true ⌝ }
-    ensures { λ r. ⌜ r ≡ does-task-hold s (now (im .entry)) i ⌝ }
+fn task_holds(s: Shape, im: &[u16], i: Task, found: &[u8; 16]) -> bool
 {
-    if !buffers_hold(s, im, i) {
-        return false;
-    }
-    let words = both(characters(s, im, i), readied_once(s, im, i));
-    let port = both(words, port_holds(s, im, i));
-    both(both(port, flags_hold(s, im, i)), status_holds(s, im, i))
+    let words = both(readied_once(s, im, i, found), port_holds(s, im, i));
+    both(both(words, flags_hold(s, im, i)), status_holds(s, im, i))
 }
 
 // Whether the rules of every task hold.
-fn tasks_hold(s: Shape, im: &[u16]) -> bool
-    requires { ⌜ Sized s (now im) ⌝ }
-    requires { ⌜ is-queued s (now im) Ready ≡ true ⌝ }
-    ensures { λ r. ⌜ r ≡ every-task s (does-task-hold s (now (im .entry))) ⌝ }
+fn tasks_hold(s: Shape, im: &[u16], found: &[u8; 16]) -> bool
 {
     let mut k: usize = 0;
     while k < s.n {
-        if !task_holds(s, im, Task(k as u16)) {
+        if !task_holds(s, im, Task(k as u16), found) {
             return false;
         }
         k += 1;
@@ -105,12 +94,24 @@ fn rules_hold(s: Shape, im: &[u16]) -> bool
     if !queued(s, im, Queue::Ready) {
         return false;
     }
-    let ready = both(held_below(s, im, Queue::Ready, s.n), clock_holds(s, im));
-    both(ready, tasks_hold(s, im))
+    if !clock_holds(s, im) {
+        return false;
+    }
+    if !buffers_hold(s, im) {
+        return false;
+    }
+    if !characters_hold(s, im) {
+        return false;
+    }
+    let mut found: [u8; 16] = [0; 16];
+    if !count_ready(s, im, &mut found) {
+        return false;
+    }
+    tasks_hold(s, im, &found)
 }
 
 // The verdict on an image.
-fn verdict(im: &[u16]) -> Verdict
+fn verdict(s: Shape, im: &[u16]) -> Verdict
     ensures { λ r. ⌜ r ≡ verdict-on (now (im .entry)) ⌝ }
 {
     if im.len() < HEADER_WORDS {
@@ -119,7 +120,6 @@ fn verdict(im: &[u16]) -> Verdict
     if !both(header_word(im, 0) == MARK, header_word(im, 1) == EDITION) {
         return Verdict::Refused(Refusal::NotMarked);
     }
-    let s = shape_of(im);
     if out_of_range(s) {
         return Verdict::Refused(Refusal::OutOfRange);
     }
@@ -139,10 +139,9 @@ fn verdict(im: &[u16]) -> Verdict
 pub fn inspect(im: &[u16]) -> Inspected
     ensures { λ r. ⌜ (r .verdict ≡ verdict-on (now (im .entry))) × (r .shape ≡ shape-given (now (im .entry))) ⌝ }
 {
-    let found = verdict(im);
     let shape = shape_of(im);
     Inspected {
-        verdict: found,
+        verdict: verdict(shape, im),
         shape: shape,
     }
 }
@@ -151,5 +150,6 @@ pub fn inspect(im: &[u16]) -> Inspected
 pub fn check(im: &[u16]) -> u16
     ensures { λ r. ⌜ Checks (now (im .entry)) r ⌝ }
 {
-    number_of_verdict(verdict(im))
+    let found = inspect(im);
+    number_of_verdict(found.verdict)
 }

@@ -6,7 +6,7 @@ use Prim.Native.Nat.{ℕ, suc, _+_, _-_, _%_, _<_, _≤_}
 use native.Mathlib.Omega.{arith}
 use borrow.Author.Tests.{lt-ltb, le-ltb, not-true}
 use lib.Dec.{eqb, leb, ltb}
-use Rattle.paper.specs.Image.{lead, most-character, cell, Valid, at, task}
+use Rattle.paper.specs.Image.{lead, most-capacity, most-character, cell, Valid, at, task}
 use Rattle.paper.specs.Queues.{Has, header-capacity, queue-word, head, tail, count, capacity, slot, step, words-from, held}
 use Rattle.paper.specs.Rules.{Queued, times}
 use Rattle.paper.specs.Tests.{every-task, all-below, queued, buffers-hold, characters}
@@ -14,6 +14,7 @@ use Rattle.paper.specs.declared.Task.{Task}
 use Rattle.paper.specs.declared.Shape.{Shape}
 use Rattle.paper.specs.declared.Cell.{Cell}
 use Rattle.paper.specs.declared.Queue.{Queue}
+use Rattle.laws.specs.Sound.{Sized, sized-fit}
 use Rattle.laws.specs.Steps.{step-below}
 use Rattle.laws.specs.Queues.{word-valid}
 use Rattle.laws.specs.Every.{every-fails}
@@ -42,6 +43,13 @@ pub queued-tested : (s : Shape) (im : List ℕ) (q : Queue) (given h t n c : ℕ
 unfolding queued
 queued-tested s im q given h t n c r eh et en ec eg er = rw (er, eh, et, en, ec, eg)
 
+-- the capacity that the header gives is in range
+pub given-fits : (s : Shape) (im : List ℕ) (q : Queue) (g : ℕ) → Sized s im → g ≡ header-capacity s q → (0 < g) × (g ≤ most-capacity)
+given-fits s im Queue.Ready g z e = let r = sized-fit s im z .tasks in (omega arith, omega arith)
+given-fits s im (Queue.Input i) g z e = let r = sized-fit s im z .inputs in (omega arith, omega arith)
+given-fits s im (Queue.Output i) g z e = let r = sized-fit s im z .outputs in (omega arith, omega arith)
+given-fits s im (Queue.Message i j) g z e = let r = sized-fit s im z .messages in (omega arith, omega arith)
+
 -- the words that a queue holds, one after another: a is the slot of the next, n how many are left
 module _ (s : Shape) (im : List ℕ) (q : Queue) (ok : queued s im q ≡ true) where
   rules : Queued s im q
@@ -59,17 +67,17 @@ module _ (s : Shape) (im : List ℕ) (q : Queue) (ok : queued s im q ≡ true) w
   pub below-capacity : (a c : ℕ) → c ≡ at s im (capacity s q) → a < at s im (capacity s q) → a < c
   below-capacity a c e h = rw e h
 
-held-from : (s : Shape) (im : List ℕ) (q : Queue) (a n : ℕ) → a ≡ at s im (head s q) → n ≡ at s im (count s q) → words-from s im q a n ≡ held s im q
+pub held-from : (s : Shape) (im : List ℕ) (q : Queue) (a n : ℕ) → a ≡ at s im (head s q) → n ≡ at s im (count s q) → words-from s im q a n ≡ held s im q
 unfolding held
 held-from s im q a n ea en = rw (ea, en)
 
-held-next : (s : Shape) (im : List ℕ) (q : Queue) (a n : ℕ) → 0 < n
+pub held-next : (s : Shape) (im : List ℕ) (q : Queue) (a n : ℕ) → 0 < n
     → words-from s im q a n ≡ at s im (slot s q a) ∷ words-from s im q (step a (at s im (capacity s q))) (n - 1)
 held-next s im q a n h =
     let e : n ≡ suc (n - 1) = omega arith in
     ap (words-from s im q a) e
 
-held-none : (s : Shape) (im : List ℕ) (q : Queue) (a n : ℕ) → n ≤ 0 → words-from s im q a n ≡ []
+pub held-none : (s : Shape) (im : List ℕ) (q : Queue) (a n : ℕ) → n ≤ 0 → words-from s im q a n ≡ []
 held-none s im q a n h = let e : n ≡ 0 = omega arith in rw e
 
 module _ (s : Shape) (im : List ℕ) (q : Queue) (m a n : ℕ) where

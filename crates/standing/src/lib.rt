@@ -17,7 +17,6 @@ use paper::Task;
 use places::wide;
 use places::word_of;
 use rules::queue_word;
-use rules::times_ready;
 use truths::both;
 use truths::either;
 use truths::implies;
@@ -148,14 +147,13 @@ pub fn is_empty(s: Shape, im: &[u16], q: Queue) -> bool
     queue_word(s, im, q, 2) == 0
 }
 
+fn wide8(x: u8) -> usize { x as usize }
+
 // Whether the ready queue holds task i once if it is ready, and else not.
-pub fn readied_once(s: Shape, im: &[u16], i: Task) -> bool
-    requires { ⌜ Sized s (now im) ⌝ }
-    requires { ⌜ i .0 < s .n ⌝ }
-    requires { ⌜ queued s (now im) Ready ≡ true ⌝ }
-    ensures { λ r. ⌜ r ≡ is-readied-once s (now (im .entry)) i ⌝ }
+pub fn readied_once(s: Shape, im: &[u16], i: Task, found: &[u8; 16]) -> bool
 {
-    times_ready(s, im, i.0) == one_if(status(s, im, i) == READY)
+    let k = i.0 as usize;
+    wide8(found[k]) == one_if(status(s, im, i) == READY)
 }
 
 // Whether the port of task i obeys its rules.
@@ -270,13 +268,23 @@ pub fn status_holds(s: Shape, im: &[u16], i: Task) -> bool
     ensures { λ r. ⌜ r ≡ does-status-hold s (now (im .entry)) i ⌝ }
 {
     let k = status(s, im, i);
-    let sends = both(k <= STOPPED, implies(k == SEND, may_send(s, im, i)));
-    let receives = both(sends, implies(k == RECEIVE, may_receive(s, im, i)));
-    let inputs = both(receives, implies(k == INPUT, may_input(s, im, i)));
-    let outputs = both(inputs, implies(k == OUTPUT, may_output(s, im, i)));
-    let stops = both(outputs, implies(k == STOPPED, error(s, im, i) != 0));
-    both(
-        stops,
-        either(either(k == SEND, k == RECEIVE), peer(s, im, i) == 0),
-    )
+    if k == READY {
+        return peer(s, im, i) == 0;
+    }
+    if k == SEND {
+        return may_send(s, im, i);
+    }
+    if k == RECEIVE {
+        return may_receive(s, im, i);
+    }
+    if peer(s, im, i) != 0 {
+        return false;
+    }
+    if k == INPUT {
+        return may_input(s, im, i);
+    }
+    if k == OUTPUT {
+        return may_output(s, im, i);
+    }
+    both(k == STOPPED, error(s, im, i) != 0)
 }
