@@ -1,14 +1,14 @@
 // The rules of a task, tested: its place in the ready queue, its port, its flags and its status.
 ghost use mathlib.Core.Path.{_≡_};
-ghost use mathlib.Core.Bool.{true};
 ghost use Prim.Native.Nat.{_<_};
 ghost use Rattle.paper.specs.Image.{at as word-at, reg as reg-cell, flags as flags-cell, status as status-cell, peer as peer-cell};
-ghost use Rattle.paper.specs.Queues.{Has, empty as empty-of, full as full-of};
+ghost use Rattle.paper.specs.Queues.{Has, held, empty as empty-of, full as full-of};
 ghost use Rattle.paper.specs.Flags.{error as error-of-task, pending as pending-of-task};
-ghost use Rattle.paper.specs.Tests.{queued, readied-once as is-readied-once, port-holds as does-port-hold, flags-hold as do-flags-hold, peered as is-peered, standing as is-standing, status-holds as does-status-hold};
+ghost use Rattle.paper.specs.Tests.{readied-once as is-readied-once, port-holds as does-port-hold, flags-hold as do-flags-hold, peered as is-peered, standing as is-standing, status-holds as does-status-hold};
 ghost use Rattle.paper.specs.declared.Queue.the-variants.{Ready};
 ghost use Rattle.paper.specs.declared.Service.the-variants.{Send, Receive, Input, Output};
 ghost use Rattle.laws.specs.Sound.{Sized};
+ghost use Rattle.rules.specs.Rows.{All-found};
 use paper::Cell;
 use paper::Part;
 use paper::Queue;
@@ -20,7 +20,6 @@ use rules::queue_word;
 use truths::both;
 use truths::either;
 use truths::implies;
-use truths::one_if;
 
 // The numbers of the services, which are those of the statuses that wait for them.
 const SEND: u16 = 1;
@@ -147,13 +146,19 @@ pub fn is_empty(s: Shape, im: &[u16], q: Queue) -> bool
     queue_word(s, im, q, 2) == 0
 }
 
-fn wide8(x: u8) -> usize { x as usize }
-
-// Whether the ready queue holds task i once if it is ready, and else not.
+// Whether the ready queue holds task i once if it is ready, and else not; found tells how often it holds each task.
 pub fn readied_once(s: Shape, im: &[u16], i: Task, found: &[u8; 16]) -> bool
+    requires { ⌜ Sized s (now im) ⌝ }
+    requires { ⌜ i .0 < s .n ⌝ }
+    requires { ⌜ All-found (now found) (held s (now im) Ready) ⌝ }
+    ensures { λ r. ⌜ r ≡ is-readied-once s (now (im .entry)) i ⌝ }
 {
     let k = i.0 as usize;
-    wide8(found[k]) == one_if(status(s, im, i) == READY)
+    let times = found[k];
+    if status(s, im, i) == READY {
+        return times == 1;
+    }
+    times == 0
 }
 
 // Whether the port of task i obeys its rules.
