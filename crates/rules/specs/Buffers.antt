@@ -19,7 +19,7 @@ use Rattle.laws.specs.Checked.{every-is, queued-is, buffers-are}
 use Rattle.rules.specs.Rows.{row-right}
 
 -- a test that cannot pass fails; two tests that pass together are one
-refuted : (b : Bool) → ¬ (b ≡ true) → false ≡ b
+pub refuted : (b : Bool) → ¬ (b ≡ true) → false ≡ b
 refuted true n = absurd (n refl)
 refuted false n = refl
 

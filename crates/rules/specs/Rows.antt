@@ -1,5 +1,5 @@
 -- Queues as code goes over them: rows of words in a list, how often each task was found, the bits of many words.
-use mathlib.Core.Path.{_≡_}
+use mathlib.Core.Path.{_≡_, refl}
 use mathlib.Core.List.{List, [], _∷_}
 use mathlib.Core.Bool.{Bool, true, _&&_}
 use mathlib.Core.Logic.{dite}
@@ -9,7 +9,7 @@ use native.Mathlib.Decide.{ℕ-discrete, decLt}
 use native.Mathlib.Omega.{arith}
 use lib.Bits.{bitOr, or-add-and, and-le-l, and-le-r}
 use lib.Dec.{eqb, leb, ltb}
-use lib.ListN.{getD, length}
+use lib.ListN.{getD, length, replicate, getD-replicate}
 use Rattle.paper.specs.Image.{most-tasks}
 use Rattle.paper.specs.Rules.{times}
 
@@ -69,3 +69,8 @@ covers-more im from at m w e f k l h =
 pub covers-done : (im : List ℕ) (from at end m : ℕ) → end ≤ at → Covers im from at m → Covers im from end m
 unfolding Covers
 covers-done im from at end m g f k l h = f k l (omega arith)
+
+-- so many zeros
+pub none-found : None-found (replicate most-tasks 0)
+unfolding None-found
+none-found = (refl, λ k l. getD-replicate most-tasks k 0 0 l)

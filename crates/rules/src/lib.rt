@@ -22,6 +22,8 @@ use truths::both;
 
 const LEAD_WORDS: usize = 4;
 
+const MOST_TASKS: usize = 16;
+
 const CHARACTERS: usize = 256;
 
 const WORD_END: usize = 65536;
@@ -151,7 +153,7 @@ pub fn held_below(s: Shape, im: &[u16], q: Queue, m: usize) -> bool
 }
 
 // Counts how often the ready queue holds each task, up to a word that is no task; whether there is none.
-pub fn count_ready(s: Shape, im: &[u16], found: &mut [u8; 16]) -> bool
+pub fn count_ready(s: Shape, im: &[u16], found: &mut [u8; MOST_TASKS]) -> bool
     requires { ⌜ Sized s (now im) ⌝ }
     requires { ⌜ is-queued s (now im) Ready ≡ true ⌝ }
     requires { ⌜ None-found (now found) ⌝ }

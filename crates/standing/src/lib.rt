@@ -34,6 +34,8 @@ const READY: u16 = 0;
 
 const STOPPED: u16 = 5;
 
+const MOST_TASKS: usize = 16;
+
 const MOST_CHARACTER: u16 = 255;
 
 const MOST_CC: u16 = 2;
@@ -147,7 +149,7 @@ pub fn is_empty(s: Shape, im: &[u16], q: Queue) -> bool
 }
 
 // Whether the ready queue holds task i once if it is ready, and else not; found tells how often it holds each task.
-pub fn readied_once(s: Shape, im: &[u16], i: Task, found: &[u8; 16]) -> bool
+pub fn readied_once(s: Shape, im: &[u16], i: Task, found: &[u8; MOST_TASKS]) -> bool
     requires { ⌜ Sized s (now im) ⌝ }
     requires { ⌜ i .0 < s .n ⌝ }
     requires { ⌜ All-found (now found) (held s (now im) Ready) ⌝ }
