@@ -1,4 +1,3 @@
--- Assumes nothing.
 use Rattle.headers.specs.Needs.{segment-tested}
 use borrow.Author.Needs.{needs}
 use Rattle.headers.proofs.segment_right.Statement.{statement}
@@ -11,7 +10,6 @@ pub segment-right-spec : {M : Type 1} → statement M
 segment-right-spec =
     tie.close
     (tie.spec
-    (λ c. search needs)
     (λ c κs. search needs)
     (λ c κs. search needs)
     (λ c κs. search needs)
