@@ -6,10 +6,10 @@ use Prim.Native.Nat.{ℕ, zero, suc, _+_, _<_, _≤_}
 use native.Mathlib.Omega.{arith}
 use borrow.Author.Tests.{lt-ltb, not-true}
 use lib.ListN.{length, getD}
-use Rattle.paper.specs.Image.{most-character, lead, begin, ord, total, place, at, task}
+use Rattle.paper.specs.Image.{most-character, lead, ord, total, place, at, task}
 use Rattle.paper.specs.Queues.{part-of, Has, header-capacity, head, count, capacity, slot, step, words-from, held}
 use Rattle.paper.specs.Rules.{Queued}
-use Rattle.paper.specs.Tests.{every, every-task, all-below, queued, buffers-hold, characters}
+use Rattle.paper.specs.Tests.{every-task, all-below, buffers-hold, characters}
 use Rattle.paper.specs.declared.Shape.{Shape}
 use Rattle.paper.specs.declared.Queue.{Queue}
 use Rattle.laws.specs.Places.{begins-later, from-start, before-next}
@@ -17,7 +17,7 @@ use Rattle.laws.specs.Queues.{word-valid}
 use Rattle.laws.specs.Sound.{Sized, sized-fit, sized-words}
 use Rattle.laws.specs.Steps.{step-below}
 use Rattle.laws.specs.Every.{every-fails}
-use Rattle.laws.specs.Checked.{every-is, queued-is, buffers-are}
+use Rattle.laws.specs.Checked.{every-is, buffers-are}
 use Rattle.rules.specs.Rows.{Covers}
 
 module _ (s : Shape) (im : List ℕ) (z : Sized s im) where

@@ -1,10 +1,9 @@
 -- The ready queue gone over once: how often each task was found. Assumes nothing.
 use mathlib.Core.Path.{_≡_, refl, sym, _∙_}
-use mathlib.Core.List.{List, [], _∷_}
+use mathlib.Core.List.{List, _∷_}
 use mathlib.Core.Bool.{true, cond}
 use mathlib.Core.Logic.{dite}
-use Prim.Native.Nat.{ℕ, suc, _+_, _-_, _%_, _<_, _≤_}
-use native.Mathlib.Nat.{mod-lt}
+use Prim.Native.Nat.{ℕ, _+_, _-_, _%_, _<_, _≤_}
 use native.Mathlib.Decide.{ℕ-discrete}
 use native.Mathlib.Omega.{arith}
 use borrow.Author.Tests.{eq-eqb, ne-eqb}
@@ -12,16 +11,15 @@ use lib.Dec.{eqb}
 use lib.ListN.{getD, set, length, length-set}
 use lib.Seq.{getD-set-same, getD-set-other}
 use Rattle.paper.specs.Image.{most-tasks, at}
-use Rattle.paper.specs.Queues.{head, count, capacity, slot, step, words-from, held}
+use Rattle.paper.specs.Queues.{head, count, slot, words-from, held}
 use Rattle.paper.specs.Rules.{Queued, times}
 use Rattle.paper.specs.Tests.{all-below, queued}
 use Rattle.paper.specs.declared.Shape.{Shape}
 use Rattle.paper.specs.declared.Queue.{Queue}
 use Rattle.laws.specs.Sound.{Sized, sized-few}
-use Rattle.laws.specs.Steps.{step-mod}
 use Rattle.laws.specs.Checked.{queued-is}
 use Rattle.rules.specs.Rows.{None-found, All-found}
-use Rattle.rules.specs.Needs.{held-from, held-next, held-none}
+use Rattle.rules.specs.Needs.{next-step, held-from, held-next, held-none}
 
 -- each task found so far, and those left to find, are all
 unfoldable pub Found : List ℕ → List ℕ → List ℕ → Type 0
@@ -63,9 +61,6 @@ module _ (s : Shape) (im : List ℕ) (z : Sized s im) (ok : queued s im Queue.Re
   rules = queued-is s im Queue.Ready .0 ok
 
   module _ (found : List ℕ) (a h n : ℕ) (ea : a ≡ h) (eh : h ≡ at s im (head s Queue.Ready)) (en : n ≡ at s im (count s Queue.Ready)) where
-    pub start-inside : a < s .n
-    start-inside = omega (arith, rules .headed, rules .sized)
-
     pub start-rest : all-below (s .n) (words-from s im Queue.Ready a n) ≡ all-below (s .n) (held s im Queue.Ready)
     start-rest = rw (held-from s im Queue.Ready a n (ea ∙ eh) en)
 
@@ -79,18 +74,12 @@ module _ (s : Shape) (im : List ℕ) (z : Sized s im) (ok : queued s im Queue.Re
 
   -- the next of them, in slot a
   module _ (a n : ℕ) (some : 0 < n) (inside : a < s .n) where
-    pub next-step : (b : ℕ) → b ≡ (a + 1) % s .n → b ≡ step a (at s im (capacity s Queue.Ready))
-    next-step b e = e ∙ rw (rules .sized) (sym (step-mod a (s .n) inside))
-
-    pub next-inside : (b : ℕ) → b ≡ (a + 1) % s .n → b < s .n
-    next-inside b e = rw e (mod-lt (a + 1) (omega arith))
-
     pub next-found : (found : List ℕ) (v t b n′ : ℕ) → v ≡ at s im (slot s Queue.Ready a) → t ≡ v → t < s .n → Small found n → b ≡ (a + 1) % s .n → n′ ≡ n - 1
         → Found found (words-from s im Queue.Ready a n) (held s im Queue.Ready)
         → Found (set found t (getD found t 0 + 1)) (words-from s im Queue.Ready b n′) (held s im Queue.Ready)
     next-found found v t b n′ ev et l small eb en f =
         let low : t < most-tasks = omega (arith, sized-few s im z) in
-        rw (next-step b eb, en)
+        rw (next-step s im Queue.Ready ok a inside (s .n) b refl eb, en)
         (found-more found n t some low small _ _ _ (sym (et ∙ ev)) (rw (held-next s im Queue.Ready a n some) at f))
 
     pub next-small : (found : List ℕ) (t : ℕ) → t < s .n → Small found n → Small (set found t (getD found t 0 + 1)) (n - 1)

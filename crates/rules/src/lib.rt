@@ -17,7 +17,6 @@ use paper::Task;
 use places::head_of;
 use places::wide;
 use places::word_of;
-use rings::step;
 use truths::both;
 
 const LEAD_WORDS: usize = 4;
@@ -133,20 +132,20 @@ pub fn queued(s: Shape, im: &[u16], q: Queue) -> bool
 }
 
 // Whether each word that a queue holds is below m.
-pub fn held_below(s: Shape, im: &[u16], q: Queue, m: usize) -> bool
+fn held_below(s: Shape, im: &[u16], q: Queue, m: usize) -> bool
     requires { ⌜ Sized s (now im) ⌝ }
     requires { ⌜ Has s q ⌝ }
     requires { ⌜ is-queued s (now im) q ≡ true ⌝ }
     ensures { λ r. ⌜ r ≡ all-below m (held s (now (im .entry)) q) ⌝ }
 {
-    let capacity = queue_word(s, im, q, 3);
-    let mut at = queue_word(s, im, q, 0);
+    let capacity = capacity_of(s, q);
+    let mut at = wide(queue_word(s, im, q, 0));
     let mut left = queue_word(s, im, q, 2);
     while 0 < left {
-        if m <= wide(queue_word(s, im, q, LEAD_WORDS + wide(at))) {
+        if m <= wide(queue_word(s, im, q, LEAD_WORDS + at)) {
             return false;
         }
-        at = step(at, capacity);
+        at = wrapped(at + 1, capacity);
         left -= 1;
     }
     true

@@ -1,3 +1,4 @@
+-- Assumes nothing.
 use Rattle.headers.specs.Needs.{segment-tested}
 use borrow.Author.Needs.{needs}
 use Rattle.headers.proofs.segment_right.Statement.{statement}

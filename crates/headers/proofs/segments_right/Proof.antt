@@ -1,3 +1,4 @@
+-- The segments of the tasks before k are right, and the next is to start at end. Assumes nothing.
 use mathlib.Core.Path.{_≡_, sym, _∙_}
 use mathlib.Core.List.{List}
 use mathlib.Core.Bool.{true}

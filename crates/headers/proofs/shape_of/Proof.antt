@@ -1,3 +1,4 @@
+-- Assumes nothing.
 use Rattle.headers.specs.Needs.{shape-read}
 use borrow.Author.Needs.{needs}
 use Rattle.headers.proofs.shape_of.Statement.{statement}

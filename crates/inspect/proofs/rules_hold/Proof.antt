@@ -1,3 +1,4 @@
+-- Assumes nothing.
 use borrow.Author.Tests.{not-false}
 use Rattle.rules.specs.Rows.{none-found}
 use Rattle.inspect.specs.Needs.{ready-fails, clock-fails, buffers-fail, characters-fail, others-fail, rules-tested, passed-so}

@@ -1,3 +1,4 @@
+-- Assumes nothing.
 use Rattle.inspect.specs.Needs.{task-tested}
 use borrow.Author.Needs.{needs}
 use Rattle.inspect.proofs.task_holds.Statement.{statement}

@@ -1,3 +1,4 @@
+-- Assumes nothing.
 use Rattle.inspect.specs.Needs.{too-short-so, not-marked-so, out-of-range-so, ranged-so, not-packed-so, packed-so, wrong-segments-so, sized-so, rule-broken-so, fine-so}
 use borrow.Author.Needs.{needs}
 use Rattle.inspect.proofs.verdict.Statement.{statement}

@@ -1,3 +1,4 @@
+-- Assumes nothing.
 use native.Mathlib.Omega.{arith}
 use Rattle.rules.specs.Buffers.{inputs-fit, outputs-fit, messages-fit, inputs-wrong, outputs-wrong, messages-decide}
 use Rattle.laws.specs.Sound.{sized-few}

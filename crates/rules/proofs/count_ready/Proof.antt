@@ -1,3 +1,4 @@
+-- What was found and what is left to find are all. Assumes nothing.
 use mathlib.Core.Path.{_≡_, refl, sym}
 use mathlib.Core.List.{List}
 use mathlib.Core.Bool.{true≢false}
@@ -9,8 +10,8 @@ use Rattle.paper.specs.declared.Shape.{Shape}
 use Rattle.paper.specs.declared.Queue.{Queue}
 use Rattle.laws.specs.Cells.{in-lead}
 use Rattle.laws.specs.Sound.{sized-few}
-use Rattle.rules.specs.Needs.{below-fails, below-more, below-done}
-use Rattle.rules.specs.Counted.{Found, Small, small-at, start-inside, start-rest, start-found, start-small, next-step, next-inside, next-found, next-small, found-all}
+use Rattle.rules.specs.Needs.{head-inside, next-step, next-inside, below-fails, below-more, below-done}
+use Rattle.rules.specs.Counted.{Found, Small, small-at, start-rest, start-found, start-small, next-found, next-small, found-all}
 use borrow.Author.Needs.{needs}
 use Rattle.rules.proofs.count_ready.Statement.{statement}
 use Rattle.rules.proofs.count_ready.Tie as tie
@@ -35,7 +36,7 @@ queue-word-requires-2 : tie.Need-queue-word-requires-2 Inv-loop μ-loop
 queue-word-requires-2 c κs = search in-lead
 
 loop-holds : tie.Need-loop-holds Inv-loop μ-loop
-loop-holds c = record { counted = start-found _ _ (c .before .before .before .before .pre .0) (c .before .before .before .before .pre .1 .0) _ _ _ _ (c .before .wide .ensures) (c .before .before .queue-word .ensures) (c .queue-word2 .ensures) (c .before .before .before .before .pre .1 .1); rest = start-rest _ _ (c .before .before .before .before .pre .0) (c .before .before .before .before .pre .1 .0) (c .before .before .before .before .args .found .now) _ _ _ (c .before .wide .ensures) (c .before .before .queue-word .ensures) (c .queue-word2 .ensures); small = start-small _ _ (c .before .before .before .before .pre .0) (c .before .before .before .before .pre .1 .0) _ _ _ _ (c .before .wide .ensures) (c .before .before .queue-word .ensures) (c .queue-word2 .ensures) (c .before .before .before .before .pre .1 .1); inside = start-inside _ _ (c .before .before .before .before .pre .0) (c .before .before .before .before .pre .1 .0) (c .before .before .before .before .args .found .now) _ _ _ (c .before .wide .ensures) (c .before .before .queue-word .ensures) (c .queue-word2 .ensures) }
+loop-holds c = record { counted = start-found _ _ (c .before .before .before .before .pre .0) (c .before .before .before .before .pre .1 .0) _ _ _ _ (c .before .wide .ensures) (c .before .before .queue-word .ensures) (c .queue-word2 .ensures) (c .before .before .before .before .pre .1 .1); rest = start-rest _ _ (c .before .before .before .before .pre .0) (c .before .before .before .before .pre .1 .0) (c .before .before .before .before .args .found .now) _ _ _ (c .before .wide .ensures) (c .before .before .queue-word .ensures) (c .queue-word2 .ensures); small = start-small _ _ (c .before .before .before .before .pre .0) (c .before .before .before .before .pre .1 .0) _ _ _ _ (c .before .wide .ensures) (c .before .before .queue-word .ensures) (c .queue-word2 .ensures) (c .before .before .before .before .pre .1 .1); inside = head-inside _ _ Queue.Ready (c .before .before .before .before .pre .1 .0) _ _ (c .before .wide .ensures) (c .before .before .queue-word .ensures) }
 
 add-queue-word : tie.Need-add-queue-word Inv-loop μ-loop
 add-queue-word c = omega (arith, c .before .loop .inv .inside, sized-few _ _ (c .before .before .before .before .before .before .pre .0))
@@ -62,7 +63,7 @@ wrapped-requires : tie.Need-wrapped-requires Inv-loop μ-loop
 wrapped-requires c κs = let i = c .before .before .before .before .before .before .loop .inv .inside in omega arith
 
 loop-again : tie.Need-loop-again Inv-loop μ-loop
-loop-again c = record { counted = next-found _ _ (c .before .before .before .before .before .before .before .before .before .before .before .before .pre .0) (c .before .before .before .before .before .before .before .before .before .before .before .before .pre .1 .0) _ _ (c .before .before .before .before .before .before .loop-test .taken) (c .before .before .before .before .before .before .before .loop .inv .inside) _ _ _ _ _ (c .before .before .before .before .before .queue-word3 .ensures) (c .before .before .before .before .wide2 .ensures) (c .before .before .if1 .left) (c .before .before .before .before .before .before .before .loop .inv .small) (c .wrapped .ensures) refl (c .before .before .before .before .before .before .before .loop .inv .counted); rest = below-more _ _ _ _ _ _ _ (c .before .before .before .before .before .before .before .loop .inv .rest) _ _ _ _ _ _ (c .before .before .before .before .before .before .loop-test .taken) refl (c .before .before .before .before .before .queue-word3 .ensures) (c .before .before .before .before .wide2 .ensures) (c .before .before .if1 .left) refl (next-step _ _ (c .before .before .before .before .before .before .before .before .before .before .before .before .pre .0) (c .before .before .before .before .before .before .before .before .before .before .before .before .pre .1 .0) _ _ (c .before .before .before .before .before .before .loop-test .taken) (c .before .before .before .before .before .before .before .loop .inv .inside) _ (c .wrapped .ensures)) refl; small = next-small _ _ (c .before .before .before .before .before .before .before .before .before .before .before .before .pre .0) (c .before .before .before .before .before .before .before .before .before .before .before .before .pre .1 .0) _ _ (c .before .before .before .before .before .before .loop-test .taken) (c .before .before .before .before .before .before .before .loop .inv .inside) _ _ (c .before .before .if1 .left) (c .before .before .before .before .before .before .before .loop .inv .small); inside = next-inside _ _ (c .before .before .before .before .before .before .before .before .before .before .before .before .pre .0) (c .before .before .before .before .before .before .before .before .before .before .before .before .pre .1 .0) _ _ (c .before .before .before .before .before .before .loop-test .taken) (c .before .before .before .before .before .before .before .loop .inv .inside) _ (c .wrapped .ensures) }
+loop-again c = record { counted = next-found _ _ (c .before .before .before .before .before .before .before .before .before .before .before .before .pre .0) (c .before .before .before .before .before .before .before .before .before .before .before .before .pre .1 .0) _ _ (c .before .before .before .before .before .before .loop-test .taken) (c .before .before .before .before .before .before .before .loop .inv .inside) _ _ _ _ _ (c .before .before .before .before .before .queue-word3 .ensures) (c .before .before .before .before .wide2 .ensures) (c .before .before .if1 .left) (c .before .before .before .before .before .before .before .loop .inv .small) (c .wrapped .ensures) refl (c .before .before .before .before .before .before .before .loop .inv .counted); rest = below-more _ _ _ _ _ _ _ (c .before .before .before .before .before .before .before .loop .inv .rest) _ _ _ _ _ _ (c .before .before .before .before .before .before .loop-test .taken) refl (c .before .before .before .before .before .queue-word3 .ensures) (c .before .before .before .before .wide2 .ensures) (c .before .before .if1 .left) refl (next-step _ _ Queue.Ready (c .before .before .before .before .before .before .before .before .before .before .before .before .pre .1 .0) _ (c .before .before .before .before .before .before .before .loop .inv .inside) _ _ refl (c .wrapped .ensures)) refl; small = next-small _ _ (c .before .before .before .before .before .before .before .before .before .before .before .before .pre .0) (c .before .before .before .before .before .before .before .before .before .before .before .before .pre .1 .0) _ _ (c .before .before .before .before .before .before .loop-test .taken) (c .before .before .before .before .before .before .before .loop .inv .inside) _ _ (c .before .before .if1 .left) (c .before .before .before .before .before .before .before .loop .inv .small); inside = next-inside _ _ Queue.Ready (c .before .before .before .before .before .before .before .before .before .before .before .before .pre .1 .0) _ (c .before .before .before .before .before .before .before .loop .inv .inside) _ _ refl (c .wrapped .ensures) }
 
 returns-2 : tie.Need-returns-2 Inv-loop μ-loop
 returns-2 c = (below-done _ _ _ _ _ _ _ (c .before .loop .inv .rest) (c .loop-test .left), λ _. found-all _ _ _ _ _ (c .loop-test .left) (c .before .loop .inv .counted))

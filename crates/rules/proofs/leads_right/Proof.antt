@@ -1,3 +1,4 @@
+-- Assumes nothing.
 use native.Mathlib.Omega.{arith}
 use Rattle.rules.specs.Leads.{leads-unused, leads-high, leads-size, size-fits, end-fits, leads-done}
 use borrow.Author.Needs.{needs}

@@ -1,3 +1,4 @@
+-- Assumes nothing.
 use Rattle.standing.specs.Needs.{task-few, once-ready, once-else}
 use borrow.Author.Needs.{needs}
 use Rattle.standing.proofs.readied_once.Statement.{statement}

@@ -1,3 +1,4 @@
+-- Assumes nothing.
 use Rattle.standing.specs.Needs.{status-ready, status-sends, status-receives, status-peer, status-inputs, status-outputs, status-stops}
 use borrow.Author.Needs.{needs}
 use Rattle.standing.proofs.status_holds.Statement.{statement}
