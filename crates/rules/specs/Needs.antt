@@ -47,6 +47,9 @@ module _ (s : Shape) (im : List ℕ) (q : Queue) (ok : queued s im q ≡ true) w
   rules : Queued s im q
   rules = queued-is s im q .0 ok
 
+  pub capacity-given : (g c : ℕ) → g ≡ c → c ≡ at s im (capacity s q) → g ≡ header-capacity s q
+  capacity-given g c eg ec = eg ∙ ec ∙ rules .sized
+
   pub head-inside : (a h : ℕ) → a ≡ h → h ≡ at s im (head s q) → a < header-capacity s q
   head-inside a h ea eh = omega (arith, rules .headed, rules .sized)
 

@@ -138,7 +138,7 @@ fn held_below(s: Shape, im: &[u16], q: Queue, m: usize) -> bool
     requires { ⌜ is-queued s (now im) q ≡ true ⌝ }
     ensures { λ r. ⌜ r ≡ all-below m (held s (now (im .entry)) q) ⌝ }
 {
-    let capacity = capacity_of(s, q);
+    let capacity = wide(queue_word(s, im, q, 3));
     let mut at = wide(queue_word(s, im, q, 0));
     let mut left = queue_word(s, im, q, 2);
     while 0 < left {
