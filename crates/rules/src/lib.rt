@@ -9,7 +9,7 @@ ghost use Rattle.paper.specs.Queues.{Has, header-capacity, queue-word, held};
 ghost use Rattle.paper.specs.Tests.{every, all-below, every-task, queued as is-queued, buffers-hold as do-buffers-hold, characters as are-characters};
 ghost use Rattle.paper.specs.declared.Queue.the-variants.{Ready};
 ghost use Rattle.laws.specs.Sound.{Sized};
-ghost use Rattle.rules.specs.Rows.{row-right, Covers, None-found, All-found};
+ghost use Rattle.rules.specs.Rows.{row-right, Rows, Passed, Covers, None-found, All-found};
 use paper::Cell;
 use paper::Queue;
 use paper::Shape;
@@ -70,37 +70,67 @@ fn wrapped(slots: usize, capacity: usize) -> usize
     slots - capacity
 }
 
-// Whether a queue's four leading words are right, where the header gives the capacity given; those of a queue never used are told first.
+// Whether a queue's four leading words are right, where the header gives the capacity given.
 fn leads_right(given: usize, head: u16, tail: u16, count: u16, capacity: u16) -> bool
-    requires { ⌜ (0 < given) × (given ≤ most-capacity) ⌝ }
     ensures { λ r. ⌜ r ≡ (eqb capacity given && ltb head capacity && ltb tail capacity && leb count capacity && eqb ((head + count) % capacity) tail) ⌝ }
 {
-    let from = wide(head);
-    let to = wide(tail);
-    let none = WORD_END * given;
-    let size = WORD_END * wide(capacity) + wide(count);
-    if both(size == none, from + to == 0) {
-        return true;
-    }
-    if given <= from {
+    if wide(capacity) != given {
         return false;
     }
-    if !both(none <= size, size <= none + given) {
+    if capacity <= head {
         return false;
     }
-    wrapped(from + (size - none), given) == to
+    if capacity < count {
+        return false;
+    }
+    wrapped(wide(head) + wide(count), given) == wide(tail)
+}
+
+// Whether a queue's four leading words, as one number, are those of a queue never used.
+fn leads_unused(given: usize, head: u16, tail: u16, count: u16, capacity: u16) -> bool
+    requires { ⌜ (0 < given) × (given ≤ most-capacity) ⌝ }
+    ensures { λ r. ⌜ (r ≡ true → (eqb capacity given && ltb head capacity && ltb tail capacity && leb count capacity && eqb ((head + count) % capacity) tail) ≡ true) ⌝ }
+{
+    let size = wide(count) + WORD_END * wide(capacity);
+    let leads = wide(head) + WORD_END * (wide(tail) + WORD_END * size);
+    leads == WORD_END * (WORD_END * (WORD_END * given))
 }
 
 // Whether the row at a place is a queue of the capacity given.
 fn row_queued(im: &[u16], at: usize, given: usize) -> bool
-    requires { ⌜ (0 < given) × (given ≤ most-capacity) ⌝ }
     requires { ⌜ at + lead ≤ length (now im) ⌝ }
     ensures { λ r. ⌜ r ≡ row-right (now (im .entry)) at given ⌝ }
 {
     leads_right(given, im[at], im[at + 1], im[at + 2], im[at + 3])
 }
 
-// Whether so many rows from a place on are queues of the capacity given.
+// Whether the row at a place is a queue never used, of the capacity given.
+fn row_unused(im: &[u16], at: usize, given: usize) -> bool
+    requires { ⌜ (0 < given) × (given ≤ most-capacity) ⌝ }
+    requires { ⌜ at + lead ≤ length (now im) ⌝ }
+    ensures { λ r. ⌜ (r ≡ true → row-right (now (im .entry)) at given ≡ true) ⌝ }
+{
+    leads_unused(given, im[at], im[at + 1], im[at + 2], im[at + 3])
+}
+
+// The first row from a place on that is not a queue never used, or the end.
+fn first_used(im: &[u16], from: usize, end: usize, given: usize) -> usize
+    requires { ⌜ (0 < given) × (given ≤ most-capacity) ⌝ }
+    requires { ⌜ Rows from end given ⌝ }
+    requires { ⌜ (end ≤ length (now im)) × (length (now im) ≤ most-words) ⌝ }
+    ensures { λ r. ⌜ Passed (now (im .entry)) from end given r ⌝ }
+{
+    let mut at = from;
+    while at < end {
+        if !row_unused(im, at, given) {
+            return at;
+        }
+        at += LEAD_WORDS + given;
+    }
+    at
+}
+
+// Whether so many rows from a place on are queues of the capacity given; those never used, which are most, are told at a look.
 fn rows_queued(im: &[u16], from: usize, rows: usize, given: usize) -> bool
     requires { ⌜ (0 < given) × (given ≤ most-capacity) ⌝ }
     requires { ⌜ (from + rows * (lead + given) ≤ length (now im)) × (length (now im) ≤ most-words) ⌝ }
@@ -108,12 +138,12 @@ fn rows_queued(im: &[u16], from: usize, rows: usize, given: usize) -> bool
 {
     let width = LEAD_WORDS + given;
     let end = from + rows * width;
-    let mut at = from;
+    let mut at = first_used(im, from, end, given);
     while at < end {
         if !row_queued(im, at, given) {
             return false;
         }
-        at += width;
+        at = first_used(im, at + width, end, given);
     }
     true
 }

@@ -1,6 +1,6 @@
 -- Assumes nothing.
 use Rattle.laws.specs.Cells.{in-lead}
-use Rattle.rules.specs.Needs.{given-fits, queued-tested}
+use Rattle.rules.specs.Needs.{queued-tested}
 use borrow.Author.Needs.{needs}
 use Rattle.rules.proofs.queued.Statement.{statement}
 use Rattle.rules.proofs.queued.Tie as tie
@@ -17,9 +17,6 @@ queue-word-requires-3 c κs = search in-lead
 queue-word-requires-4 : tie.Need-queue-word-requires-4
 queue-word-requires-4 c κs = search in-lead
 
-leads-right-requires : tie.Need-leads-right-requires
-leads-right-requires c κs = given-fits _ _ (c .before .before .before .before .before .before .args .q) _ (c .before .before .before .before .before .before .pre .0) (c .capacity-of .ensures)
-
 returns : tie.Need-returns
 returns c = search queued-tested
 
@@ -32,5 +29,5 @@ queued-spec =
     queue-word-requires-3
     queue-word-requires-4
     (λ c κs. search needs)
-    leads-right-requires
+    (λ c κs. search needs)
     returns)

@@ -1,27 +1,15 @@
 -- The rows before that at at are right. Assumes nothing.
-use mathlib.Core.Path.{_≡_, refl, sym, _∙_}
-use mathlib.Core.List.{List}
-use mathlib.Core.Bool.{true}
-use Prim.Native.Nat.{ℕ, _+_, _-_, _*_, _≤_}
+use mathlib.Core.Path.{refl, sym, _∙_}
+use Prim.Native.Nat.{_+_, _-_, _*_}
 use native.Mathlib.Omega.{arith}
-use borrow.Author.Tests.{not-true, not-false}
+use borrow.Author.Tests.{not-false}
 use Rattle.paper.specs.Image.{lead}
-use Rattle.paper.specs.Tests.{every}
-use Rattle.laws.specs.Every.{every-none, every-more, every-fails, every-done}
-use Rattle.rules.specs.Rows.{row-right, row-left, row-ends, row-after, rows-over}
-use borrow.Author.Needs.{needs}
+use Rattle.rules.specs.Rows.{Passed, row-fits, rows-after, passed-on, rows-right, rows-wrong}
 use Rattle.rules.proofs.rows_queued.Statement.{statement}
 use Rattle.rules.proofs.rows_queued.Tie as tie
 
--- row k starts at at, and the rows before it are right
-pub record Inv (im : List ℕ) (from rows given at : ℕ) : Type 0 where
-  pub k : ℕ
-  pub here : at ≡ from + k * (lead + given)
-  pub passed : every k (λ j. row-right im (from + j * (lead + given)) given) ≡ true
-  pub upto : k ≤ rows
-
 abbrev Inv-loop : tie.InvT-loop
-Inv-loop im from rows given width end at₀ at = Inv im from rows given at
+Inv-loop im from rows given width end at₀ at = Passed im from (from + rows * (lead + given)) given at
 
 abbrev μ-loop : tie.MeasureT-loop
 μ-loop im from rows given width end at₀ at = end - at
@@ -35,26 +23,32 @@ mul-end c = omega arith
 add-end : tie.Need-add-end Inv-loop μ-loop
 add-end c = omega arith
 
+first-used-requires : tie.Need-first-used-requires Inv-loop μ-loop
+first-used-requires c κs = (c .before .pre .0, (record { rows = c .before .args .rows; ends = refl }, c .before .pre .1))
+
 loop-holds : tie.Need-loop-holds Inv-loop μ-loop
-loop-holds c = record { k = 0; here = omega arith; passed = every-none _; upto = omega arith }
+loop-holds c = c .first-used .ensures
 
 row-queued-requires : tie.Need-row-queued-requires Inv-loop μ-loop
-row-queued-requires c κs = (c .before .before .before .pre .0, omega (arith, row-ends _ _ _ _ _ (c .before .loop .inv .here) (c .loop-test .taken)))
+row-queued-requires c κs = let f = row-fits _ _ _ (c .before .loop .inv .left) (c .loop-test .taken) in let l = c .before .before .before .before .pre .1 .0 in omega arith
 
 returns : tie.Need-returns Inv-loop μ-loop
-returns c = sym (every-fails _ (c .before .before .before .loop .inv .k) _ (row-left _ _ _ _ _ (c .before .before .before .loop .inv .here) (c .before .before .loop-test .taken)) (rw (← c .before .before .before .loop .inv .here) (sym (c .before .row-queued .ensures) ∙ not-true _ (c .if1 .taken))))
+returns c = rows-wrong _ _ _ _ _ (c .before .before .before .loop .inv) (c .before .before .loop-test .taken) _ (c .before .row-queued .ensures) (c .if1 .taken)
 
-add-at : tie.Need-add-at Inv-loop μ-loop
-add-at c = omega (arith, row-ends _ _ _ _ _ (c .before .before .before .loop .inv .here) (c .before .before .loop-test .taken))
+add-first-used : tie.Need-add-first-used Inv-loop μ-loop
+add-first-used c = omega (arith, row-fits _ _ _ (c .before .before .before .loop .inv .left) (c .before .before .loop-test .taken), c .before .before .before .before .before .before .pre)
+
+first-used-requires-2 : tie.Need-first-used-requires-2 Inv-loop μ-loop
+first-used-requires-2 c κs = (c .before .before .before .before .before .before .pre .0, (rows-after _ _ _ (c .before .before .before .loop .inv .left) (c .before .before .loop-test .taken), c .before .before .before .before .before .before .pre .1))
 
 loop-less : tie.Need-loop-less Inv-loop μ-loop
-loop-less c = omega (arith, row-ends _ _ _ _ _ (c .before .before .before .loop .inv .here) (c .before .before .loop-test .taken))
+loop-less c = omega (arith, row-fits _ _ _ (c .before .before .before .before .loop .inv .left) (c .before .before .before .loop-test .taken), c .first-used2 .ensures .here)
 
 loop-again : tie.Need-loop-again Inv-loop μ-loop
-loop-again c = record { k = c .before .before .before .loop .inv .k + 1; here = row-after _ _ _ _ (c .before .before .before .loop .inv .here); passed = every-more _ _ (c .before .before .before .loop .inv .passed) (rw (← c .before .before .before .loop .inv .here) (sym (c .before .row-queued .ensures) ∙ not-false _ (c .if1 .left))); upto = let l = row-left _ _ _ _ _ (c .before .before .before .loop .inv .here) (c .before .before .loop-test .taken) in omega arith }
+loop-again c = passed-on _ _ _ _ _ (c .before .before .before .before .loop .inv) (c .before .before .before .loop-test .taken) (sym (c .before .before .row-queued .ensures) ∙ not-false _ (c .before .if1 .left)) _ (c .first-used2 .ensures)
 
 returns-2 : tie.Need-returns-2 Inv-loop μ-loop
-returns-2 c = sym (every-done _ _ _ (c .before .loop .inv .passed) (rows-over _ _ _ _ _ (c .before .loop .inv .here) (omega arith) (c .before .loop .inv .upto) (c .loop-test .left)) (c .before .loop .inv .upto))
+returns-2 c = rows-right _ _ _ _ _ (c .before .loop .inv) (c .loop-test .left)
 
 pub rows-queued-spec : {M : Type 1} → statement M
 rows-queued-spec =
@@ -65,10 +59,12 @@ rows-queued-spec =
     add-width
     mul-end
     add-end
+    first-used-requires
     loop-holds
     row-queued-requires
     returns
-    add-at
+    add-first-used
+    first-used-requires-2
     loop-less
     loop-again
     returns-2)
