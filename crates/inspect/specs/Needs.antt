@@ -29,21 +29,37 @@ four true true false d e = absurd (false≢true e)
 four true false c d e = absurd (false≢true e)
 four false b c d e = absurd (false≢true e)
 
-first-two : (a b c d e f : Bool) → (a && b && c && d && e && f) ≡ true → (a ≡ true) × (b ≡ true)
-first-two true true c d e f h = (refl, refl)
-first-two true false c d e f h = absurd (false≢true h)
-first-two false b c d e f h = absurd (false≢true h)
+five : (a b c d e f : Bool) → (a && b && c && d && e && f) ≡ true → (a ≡ true) × (b ≡ true) × (c ≡ true) × (d ≡ true) × (e ≡ true)
+five true true true true true f h = (refl, refl, refl, refl, refl)
+five true true true true false f h = absurd (false≢true h)
+five true true true false e f h = absurd (false≢true h)
+five true true false d e f h = absurd (false≢true h)
+five true false c d e f h = absurd (false≢true h)
+five false b c d e f h = absurd (false≢true h)
 
--- the rules of a task, where those of its buffers hold
-pub task-tested : (s : Shape) (im : List ℕ) (i : Task) (r p f t x y o : Bool) → buffers-hold s im i ≡ true → characters s im i ≡ true
-    → r ≡ readied-once s im i → p ≡ port-holds s im i → x ≡ (r && p) → f ≡ flags-hold s im i → y ≡ (x && f) → t ≡ status-holds s im i → o ≡ (y && t)
-    → o ≡ task-holds s im i
-unfolding task-holds
-task-tested s im i r p f t x y o hb hc er ep ex ef ey et eo = rw (eo, ey, ex, er, ep, ef, et, hb, hc)
+-- the rules of a task, in whatever order they are tested
+module _ (s : Shape) (im : List ℕ) (i : Task) where
+  task-parts : task-holds s im i ≡ true → (buffers-hold s im i ≡ true) × (characters s im i ≡ true) × (readied-once s im i ≡ true) ×
+      (port-holds s im i ≡ true) × (flags-hold s im i ≡ true)
+  unfolding task-holds
+  task-parts h = five _ _ _ _ _ _ h
 
-task-buffers : (s : Shape) (im : List ℕ) (i : Task) → task-holds s im i ≡ true → (buffers-hold s im i ≡ true) × (characters s im i ≡ true)
-unfolding task-holds
-task-buffers s im i h = first-two _ _ _ _ _ _ h
+  task-fails : (b x : Bool) → (task-holds s im i ≡ true → x ≡ true) → b ≡ x → not b ≡ true → false ≡ task-holds s im i
+  task-fails b x f e n = refuted _ (λ h. true≢false (sym (f h) ∙ sym e ∙ not-true b n))
+
+  pub once-fails : (b : Bool) → b ≡ readied-once s im i → not b ≡ true → false ≡ task-holds s im i
+  once-fails b e n = task-fails b _ (λ h. task-parts h .2) e n
+
+  pub port-fails : (b : Bool) → b ≡ port-holds s im i → not b ≡ true → false ≡ task-holds s im i
+  port-fails b e n = task-fails b _ (λ h. task-parts h .3) e n
+
+  pub flags-fail : (b : Bool) → b ≡ flags-hold s im i → not b ≡ true → false ≡ task-holds s im i
+  flags-fail b e n = task-fails b _ (λ h. task-parts h .4) e n
+
+  pub task-tested : (r p f t : Bool) → buffers-hold s im i ≡ true → characters s im i ≡ true → r ≡ readied-once s im i → not r ≡ false
+      → p ≡ port-holds s im i → not p ≡ false → f ≡ flags-hold s im i → not f ≡ false → t ≡ status-holds s im i → t ≡ task-holds s im i
+  unfolding task-holds
+  task-tested r p f t hb hc er nr ep np ef nf et = rw (et, hb, hc, sym er ∙ not-false r nr, sym ep ∙ not-false p np, sym ef ∙ not-false f nf)
 
 -- what holds for every task holds for one
 module _ (s : Shape) (im : List ℕ) (k : ℕ) (l : k < s .n) where
@@ -54,7 +70,7 @@ module _ (s : Shape) (im : List ℕ) (k : ℕ) (l : k < s .n) where
   each-characters h = every-is (s .n) _ .0 h k l
 
   each-task : every-task s (task-holds s im) ≡ true → (buffers-hold s im (task k) ≡ true) × (characters s im (task k) ≡ true)
-  each-task h = task-buffers s im (task k) (every-is (s .n) _ .0 h k l)
+  each-task h = let p = task-parts s im (task k) (every-is (s .n) _ .0 h k l) in (p .0, p .1)
 
 -- one task after another
 pub tasks-fail : (s : Shape) (im : List ℕ) (k : ℕ) (r : Bool) → k < s .n → r ≡ task-holds s im (task k) → not r ≡ true

@@ -59,8 +59,16 @@ fn task_holds(s: Shape, im: &[u16], i: Task, found: &[u8; MOST_TASKS]) -> bool
     requires { ⌜ All-found (now found) (held s (now im) Ready) ⌝ }
     ensures { λ r. ⌜ r ≡ does-task-hold s (now (im .entry)) i ⌝ }
 {
-    let port = both(readied_once(s, im, i, found), port_holds(s, im, i));
-    both(both(port, flags_hold(s, im, i)), status_holds(s, im, i))
+    if !readied_once(s, im, i, found) {
+        return false;
+    }
+    if !port_holds(s, im, i) {
+        return false;
+    }
+    if !flags_hold(s, im, i) {
+        return false;
+    }
+    status_holds(s, im, i)
 }
 
 // Whether the rules of every task hold, where those of all buffers do.
