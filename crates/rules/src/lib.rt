@@ -1,14 +1,14 @@
 // The rules of an image's queues, tested.
 ghost use mathlib.Core.Path.{_≡_};
-ghost use mathlib.Core.Bool.{_&&_, true};
+ghost use mathlib.Core.Bool.{true};
 ghost use Prim.Native.Nat.{_+_, _*_, _%_, _<_, _≤_};
-ghost use lib.Dec.{eqb, leb, ltb};
 ghost use lib.ListN.{length};
 ghost use Rattle.paper.specs.Image.{lead, most-capacity, most-words, at as word-at};
 ghost use Rattle.paper.specs.Queues.{Has, header-capacity, queue-word, held};
 ghost use Rattle.paper.specs.Tests.{every, all-below, every-task, queued as is-queued, buffers-hold as do-buffers-hold, characters as are-characters};
 ghost use Rattle.paper.specs.declared.Queue.the-variants.{Ready};
 ghost use Rattle.laws.specs.Sound.{Sized};
+ghost use Rattle.rules.specs.Leads.{leads};
 ghost use Rattle.rules.specs.Rows.{row-right, Rows, Passed, Covers, None-found, All-found};
 use paper::Cell;
 use paper::Queue;
@@ -72,7 +72,7 @@ fn wrapped(slots: usize, capacity: usize) -> usize
 
 // Whether a queue's four leading words are right, where the header gives the capacity given.
 fn leads_right(given: usize, head: u16, tail: u16, count: u16, capacity: u16) -> bool
-    ensures { λ r. ⌜ r ≡ (eqb capacity given && ltb head capacity && ltb tail capacity && leb count capacity && eqb ((head + count) % capacity) tail) ⌝ }
+    ensures { λ r. ⌜ r ≡ leads given head tail count capacity ⌝ }
 {
     if wide(capacity) != given {
         return false;
@@ -89,11 +89,11 @@ fn leads_right(given: usize, head: u16, tail: u16, count: u16, capacity: u16) ->
 // Whether a queue's four leading words, as one number, are those of a queue never used.
 fn leads_unused(given: usize, head: u16, tail: u16, count: u16, capacity: u16) -> bool
     requires { ⌜ (0 < given) × (given ≤ most-capacity) ⌝ }
-    ensures { λ r. ⌜ (r ≡ true → (eqb capacity given && ltb head capacity && ltb tail capacity && leb count capacity && eqb ((head + count) % capacity) tail) ≡ true) ⌝ }
+    ensures { λ r. ⌜ (r ≡ true → leads given head tail count capacity ≡ true) ⌝ }
 {
     let size = wide(count) + WORD_END * wide(capacity);
-    let leads = wide(head) + WORD_END * (wide(tail) + WORD_END * size);
-    leads == WORD_END * (WORD_END * (WORD_END * given))
+    let words = wide(head) + WORD_END * (wide(tail) + WORD_END * size);
+    words == WORD_END * (WORD_END * (WORD_END * given))
 }
 
 // Whether the row at a place is a queue of the capacity given.
