@@ -13,7 +13,6 @@ use lib.ListN.{getD, length, List·getD-eq-default}
 use Rattle.paper.specs.Image.{lead, most-tasks, most-slice, most-capacity, most-words, offset-words, offsets, header-word, shape-of, task, total, start, segment-start, at, base, len}
 use Rattle.paper.specs.Tests.{every, every-task}
 use Rattle.paper.specs.Numbers.{within, out-of-range, not-packed, segment-right, wrong-segments}
-use Rattle.paper.specs.declared.Task.{Task}
 use Rattle.paper.specs.declared.Shape.{Shape}
 use Rattle.paper.specs.declared.Part.{Part}
 use Rattle.laws.specs.Layout.{Ranged, fit-ranged, largest-offset, total-is}
@@ -73,10 +72,10 @@ unfolding not-packed
 packed-tested s r l el er = rw (er, el)
 
 -- the test of one segment
-pub segment-tested : (s : Shape) (im : List ℕ) (i : Task) (start b w l : ℕ) (r : Bool) → start ≡ segment-start s im (i .0)
-    → b ≡ at s im (base i) → w ≡ b → l ≡ at s im (len i) → r ≡ (eqb w start && leb 1 l) → r ≡ segment-right s im i
+pub segment-tested : (s : Shape) (im : List ℕ) (k start b w l : ℕ) (r : Bool) → start ≡ segment-start s im k
+    → b ≡ at s im (base (task k)) → w ≡ b → l ≡ at s im (len (task k)) → r ≡ (eqb w start && leb 1 l) → r ≡ segment-right s im (task k)
 unfolding segment-right
-segment-tested s im i start b w l r es eb ew el er = rw (er, ew, eb, el, es)
+segment-tested s im k start b w l r es eb ew el er = rw (er, ew, eb, el, es)
 
 -- the segments, one after another; the first starts where the segments do
 module _ (s : Shape) (im : List ℕ) (h : Sized s im) where

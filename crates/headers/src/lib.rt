@@ -5,7 +5,7 @@ ghost use mathlib.Core.List.{map};
 ghost use Prim.Native.Nat.{_+_, _-_, _*_, _<_, _≤_};
 ghost use lib.Dec.{eqb};
 ghost use lib.ListN.{length, getD};
-ghost use Rattle.paper.specs.Image.{offset-words, offsets as packed-offsets, header-word as word-of-header, shape-of as shape-given, segment-start, total};
+ghost use Rattle.paper.specs.Image.{offset-words, offsets as packed-offsets, header-word as word-of-header, shape-of as shape-given, task, segment-start, total};
 ghost use Rattle.paper.specs.Tests.{every, every-task};
 ghost use Rattle.paper.specs.Numbers.{within as is-within, out-of-range as is-out-of-range, not-packed as is-not-packed, segment-right as is-segment-right, wrong-segments as has-wrong-segments};
 ghost use Rattle.laws.specs.Sound.{Sized};
@@ -13,7 +13,6 @@ ghost use Rattle.laws.specs.Layout.{Ranged};
 use paper::Cell;
 use paper::Part;
 use paper::Shape;
-use paper::Task;
 use places::wide;
 use places::word_of;
 use truths::both;
@@ -82,6 +81,7 @@ fn starts_of(im: &[u16]) -> [usize; 9]
 pub fn shape_of(im: &[u16]) -> Shape
     ensures { λ r. ⌜ r ≡ shape-given (now (im .entry)) ⌝ }
 {
+    let words = rest(header_word(im, 16), header_word(im, 15));
     let starts = starts_of(im);
     Shape {
         n: header_word(im, 2),
@@ -90,7 +90,7 @@ pub fn shape_of(im: &[u16]) -> Shape
         co: header_word(im, 5),
         cm: header_word(im, 6),
         starts: starts,
-        words: rest(header_word(im, 16), header_word(im, 15)),
+        words: words,
     }
 }
 
@@ -173,20 +173,19 @@ pub fn not_packed(s: Shape) -> bool
     !same(starts, offsets(s))
 }
 
-// Whether the segment of task t, which is to start at start, has its base and a length.
-fn segment_right(s: Shape, im: &[u16], t: Task, start: usize) -> bool
+// Whether the segment of task k, which is to start at start, has its base and a length.
+fn segment_right(s: Shape, im: &[u16], k: usize, start: usize) -> bool
     requires { ⌜ Sized s (now im) ⌝ }
-    requires { ⌜ t .0 < s .n ⌝ }
-    requires { ⌜ start ≡ segment-start s (now im) (t .0) ⌝ }
-    ensures { λ r. ⌜ r ≡ is-segment-right s (now (im .entry)) t ⌝ }
+    requires { ⌜ k < s .n ⌝ }
+    requires { ⌜ start ≡ segment-start s (now im) k ⌝ }
+    ensures { λ r. ⌜ r ≡ is-segment-right s (now (im .entry)) (task k) ⌝ }
 {
-    let row = t.0 as usize;
     let base = wide(word_of(
         s,
         im,
         Cell {
             part: Part::SegmentTable,
-            row: row,
+            row: k,
             column: 0,
         },
     ));
@@ -195,7 +194,7 @@ fn segment_right(s: Shape, im: &[u16], t: Task, start: usize) -> bool
         im,
         Cell {
             part: Part::SegmentTable,
-            row: row,
+            row: k,
             column: 1,
         },
     );
@@ -211,7 +210,7 @@ fn segments_right(s: Shape, im: &[u16]) -> bool
     let mut end = starts[8];
     let mut k: usize = 0;
     while k < s.n {
-        if !segment_right(s, im, Task(k as u16), end) {
+        if !segment_right(s, im, k, end) {
             return false;
         }
         end += wide(word_of(

@@ -1,7 +1,7 @@
 -- What the calls of this crate ask and make, as laws over values. Assumes nothing.
 use mathlib.Core.Path.{_≡_, refl, sym, _∙_}
 use mathlib.Core.List.{List}
-use mathlib.Core.Bool.{Bool, true, false, not, _&&_}
+use mathlib.Core.Bool.{Bool, true, false, not, _&&_, true≢false, false≢true}
 use Prim.Native.Nat.{ℕ, _<_, _≤_}
 use borrow.Author.Tests.{lt-ltb, le-ltb, not-true, not-false}
 use lib.Dec.{eqb, leb}
@@ -17,24 +17,60 @@ use Rattle.paper.specs.declared.Queue.{Queue}
 use Rattle.paper.specs.declared.Refusal.{Refusal}
 use Rattle.paper.specs.declared.Verdict.{Verdict}
 use Rattle.laws.specs.Every.{every-fails}
-use Rattle.laws.specs.Checked.{ranged-is, packed-is, segments-are}
+use Rattle.laws.specs.Checked.{every-is, ranged-is, packed-is, segments-are}
 use Rattle.laws.specs.Sound.{Sized, make-sized}
 use Rattle.laws.specs.Layout.{Ranged}
+use Rattle.rules.specs.Buffers.{refuted}
 
--- the rules of a task, side by side
-module _ (s : Shape) (im : List ℕ) (i : Task) (b : Bool) (eb : b ≡ buffers-hold s im i) where
-  pub task-fails : not b ≡ true → false ≡ task-holds s im i
+-- several tests at once
+four : (a b c d : Bool) → (a && b && c && d) ≡ true → (a ≡ true) × (b ≡ true) × (c ≡ true) × (d ≡ true)
+four true true true d e = (refl, refl, refl, e)
+four true true false d e = absurd (false≢true e)
+four true false c d e = absurd (false≢true e)
+four false b c d e = absurd (false≢true e)
+
+five : (a b c d e f : Bool) → (a && b && c && d && e && f) ≡ true → (a ≡ true) × (b ≡ true) × (c ≡ true) × (d ≡ true) × (e ≡ true)
+five true true true true true f h = (refl, refl, refl, refl, refl)
+five true true true true false f h = absurd (false≢true h)
+five true true true false e f h = absurd (false≢true h)
+five true true false d e f h = absurd (false≢true h)
+five true false c d e f h = absurd (false≢true h)
+five false b c d e f h = absurd (false≢true h)
+
+-- the rules of a task, in whatever order they are tested
+module _ (s : Shape) (im : List ℕ) (i : Task) where
+  task-parts : task-holds s im i ≡ true → (buffers-hold s im i ≡ true) × (characters s im i ≡ true) × (readied-once s im i ≡ true) ×
+      (port-holds s im i ≡ true) × (flags-hold s im i ≡ true)
   unfolding task-holds
-  task-fails n = let e = not-true b n in rw (← eb, e)
+  task-parts h = five _ _ _ _ _ _ h
 
-  pub buffers-so : not b ≡ false → buffers-hold s im i ≡ true
-  buffers-so n = sym eb ∙ not-false b n
+  task-fails : (b x : Bool) → (task-holds s im i ≡ true → x ≡ true) → b ≡ x → not b ≡ true → false ≡ task-holds s im i
+  task-fails b x f e n = refuted _ (λ h. true≢false (sym (f h) ∙ sym e ∙ not-true b n))
 
-  pub task-tested : (c r p f t w x y o : Bool) → not b ≡ false → c ≡ characters s im i → r ≡ readied-once s im i → w ≡ (c && r)
-      → p ≡ port-holds s im i → x ≡ (w && p) → f ≡ flags-hold s im i → y ≡ (x && f) → t ≡ status-holds s im i → o ≡ (y && t)
-      → o ≡ task-holds s im i
+  pub once-fails : (b : Bool) → b ≡ readied-once s im i → not b ≡ true → false ≡ task-holds s im i
+  once-fails b e n = task-fails b _ (λ h. task-parts h .2) e n
+
+  pub port-fails : (b : Bool) → b ≡ port-holds s im i → not b ≡ true → false ≡ task-holds s im i
+  port-fails b e n = task-fails b _ (λ h. task-parts h .3) e n
+
+  pub flags-fail : (b : Bool) → b ≡ flags-hold s im i → not b ≡ true → false ≡ task-holds s im i
+  flags-fail b e n = task-fails b _ (λ h. task-parts h .4) e n
+
+  pub task-tested : (r p f t : Bool) → buffers-hold s im i ≡ true → characters s im i ≡ true → r ≡ readied-once s im i → not r ≡ false
+      → p ≡ port-holds s im i → not p ≡ false → f ≡ flags-hold s im i → not f ≡ false → t ≡ status-holds s im i → t ≡ task-holds s im i
   unfolding task-holds
-  task-tested c r p f t w x y o n ec er ew ep ex ef ey et eo = rw (eo, ey, ex, ew, ec, er, ep, ef, et, buffers-so n)
+  task-tested r p f t hb hc er nr ep np ef nf et = rw (et, hb, hc, sym er ∙ not-false r nr, sym ep ∙ not-false p np, sym ef ∙ not-false f nf)
+
+-- what holds for every task holds for one
+module _ (s : Shape) (im : List ℕ) (k : ℕ) (l : k < s .n) where
+  pub each-buffers : every-task s (buffers-hold s im) ≡ true → buffers-hold s im (task k) ≡ true
+  each-buffers h = every-is (s .n) _ .0 h k l
+
+  pub each-characters : every-task s (characters s im) ≡ true → characters s im (task k) ≡ true
+  each-characters h = every-is (s .n) _ .0 h k l
+
+  each-task : every-task s (task-holds s im) ≡ true → (buffers-hold s im (task k) ≡ true) × (characters s im (task k) ≡ true)
+  each-task h = let p = task-parts s im (task k) (every-is (s .n) _ .0 h k l) in (p .0, p .1)
 
 -- one task after another
 pub tasks-fail : (s : Shape) (im : List ℕ) (k : ℕ) (r : Bool) → k < s .n → r ≡ task-holds s im (task k) → not r ≡ true
@@ -46,19 +82,39 @@ pub clock-tested : (s : Shape) (im : List ℕ) (c : ℕ) (e p o : Bool) → c �
 unfolding clock-holds
 clock-tested s im c e p o ec ee ep eo = rw (eo, ep, ee, ec)
 
--- all rules, once the ready queue is a queue
-module _ (s : Shape) (im : List ℕ) (b : Bool) (eb : b ≡ queued s im Queue.Ready) where
-  pub rules-fail : not b ≡ true → false ≡ rules-hold s im
-  unfolding rules-hold
-  rules-fail n = let e = not-true b n in rw (← eb, e)
-
-  pub ready-so : not b ≡ false → queued s im Queue.Ready ≡ true
-  ready-so n = sym eb ∙ not-false b n
-
-  pub rules-tested : (h c w t o : Bool) → not b ≡ false → h ≡ all-below (s .n) (held s im Queue.Ready) → c ≡ clock-holds s im → w ≡ (h && c)
-      → t ≡ every-task s (task-holds s im) → o ≡ (w && t) → o ≡ rules-hold s im
+-- all rules, in whatever order they are tested
+module _ (s : Shape) (im : List ℕ) where
+  parts : rules-hold s im ≡ true → (queued s im Queue.Ready ≡ true) × (all-below (s .n) (held s im Queue.Ready) ≡ true) × (clock-holds s im ≡ true) ×
+      (every-task s (task-holds s im) ≡ true)
   unfolding rules-hold readied-tasks
-  rules-tested h c w t o n eh ec ew et eo = rw (eo, ew, eh, ec, et, ready-so n)
+  parts h = four _ _ _ _ h
+
+  fails : (b x : Bool) → (rules-hold s im ≡ true → x ≡ true) → b ≡ x → not b ≡ true → false ≡ rules-hold s im
+  fails b x f e n = refuted _ (λ h. true≢false (sym (f h) ∙ sym e ∙ not-true b n))
+
+  pub ready-fails : (b : Bool) → b ≡ queued s im Queue.Ready → not b ≡ true → false ≡ rules-hold s im
+  ready-fails b e n = fails b _ (λ h. parts h .0) e n
+
+  pub clock-fails : (b : Bool) → b ≡ clock-holds s im → not b ≡ true → false ≡ rules-hold s im
+  clock-fails b e n = fails b _ (λ h. parts h .2) e n
+
+  pub buffers-fail : (b : Bool) → b ≡ every-task s (buffers-hold s im) → not b ≡ true → false ≡ rules-hold s im
+  buffers-fail b e n = fails b _ (λ h. every-is (s .n) _ .1 (λ k l. each-task s im k l (parts h .3) .0)) e n
+
+  pub characters-fail : (b : Bool) → b ≡ every-task s (characters s im) → not b ≡ true → false ≡ rules-hold s im
+  characters-fail b e n = fails b _ (λ h. every-is (s .n) _ .1 (λ k l. each-task s im k l (parts h .3) .1)) e n
+
+  pub others-fail : (b : Bool) → b ≡ all-below (s .n) (held s im Queue.Ready) → not b ≡ true → false ≡ rules-hold s im
+  others-fail b e n = fails b _ (λ h. parts h .1) e n
+
+  pub rules-tested : (q c h t : Bool) → q ≡ queued s im Queue.Ready → not q ≡ false → c ≡ clock-holds s im → not c ≡ false
+      → h ≡ all-below (s .n) (held s im Queue.Ready) → not h ≡ false → t ≡ every-task s (task-holds s im) → t ≡ rules-hold s im
+  unfolding rules-hold readied-tasks
+  rules-tested q c h t eq nq ec nc eh nh et = rw (et, sym eq ∙ not-false q nq, sym ec ∙ not-false c nc, sym eh ∙ not-false h nh)
+
+-- a test that was passed
+pub passed-so : (b x : Bool) → b ≡ x → not b ≡ false → x ≡ true
+passed-so b x e n = sym e ∙ not-false b n
 
 -- what the tests 3, 4 and 5 leave to the later ones
 pub ranged-so : (s : Shape) (r : Bool) → r ≡ out-of-range s → r ≡ false → Ranged s

@@ -3,11 +3,13 @@ ghost use mathlib.Core.Path.{_≡_};
 ghost use mathlib.Core.Bool.{true};
 ghost use Prim.Native.Nat.{_<_};
 ghost use Rattle.paper.specs.Image.{shape-of as shape-given};
-ghost use Rattle.paper.specs.Tests.{every-task, queued as is-queued, task-holds as does-task-hold, clock-holds as does-clock-hold, rules-hold as do-rules-hold};
+ghost use Rattle.paper.specs.Queues.{held};
+ghost use Rattle.paper.specs.Tests.{every-task, buffers-hold as do-buffers-hold, characters as are-characters, task-holds as does-task-hold, clock-holds as does-clock-hold, rules-hold as do-rules-hold};
 ghost use Rattle.paper.specs.Numbers.{check as verdict-on};
 ghost use Rattle.paper.specs.Promises.{Checks};
 ghost use Rattle.paper.specs.declared.Queue.the-variants.{Ready};
 ghost use Rattle.laws.specs.Sound.{Sized};
+ghost use Rattle.rules.specs.Rows.{All-found};
 use headers::header_word;
 use headers::not_packed;
 use headers::out_of_range;
@@ -23,8 +25,8 @@ use paper::Task;
 use paper::Verdict;
 use places::word_of;
 use rules::buffers_hold;
-use rules::characters;
-use rules::held_below;
+use rules::characters_hold;
+use rules::count_ready;
 use rules::queued;
 use standing::flags_hold;
 use standing::is_empty;
@@ -36,6 +38,8 @@ use truths::implies;
 
 const HEADER_WORDS: usize = 18;
 
+const MOST_TASKS: usize = 16;
+
 const MARK: usize = 19284;
 
 const EDITION: usize = 1;
@@ -46,30 +50,38 @@ pub struct Inspected {
     pub shape: Shape,
 }
 
-// Whether the rules of task i hold.
-fn task_holds(s: Shape, im: &[u16], i: Task) -> bool
+// Whether the rules of task i hold, where those of its buffers do; found tells how often the ready queue holds each task.
+fn task_holds(s: Shape, im: &[u16], i: Task, found: &[u8; MOST_TASKS]) -> bool
     requires { ⌜ Sized s (now im) ⌝ }
     requires { ⌜ i .0 < s .n ⌝ }
-    requires { ⌜ is-queued s (now im) Ready ≡ true ⌝ }
+    requires { ⌜ do-buffers-hold s (now im) i ≡ true ⌝ }
+    requires { ⌜ are-characters s (now im) i ≡ true ⌝ }
+    requires { ⌜ All-found (now found) (held s (now im) Ready) ⌝ }
     ensures { λ r. ⌜ r ≡ does-task-hold s (now (im .entry)) i ⌝ }
 {
-    if !buffers_hold(s, im, i) {
+    if !readied_once(s, im, i, found) {
         return false;
     }
-    let words = both(characters(s, im, i), readied_once(s, im, i));
-    let port = both(words, port_holds(s, im, i));
-    both(both(port, flags_hold(s, im, i)), status_holds(s, im, i))
+    if !port_holds(s, im, i) {
+        return false;
+    }
+    if !flags_hold(s, im, i) {
+        return false;
+    }
+    status_holds(s, im, i)
 }
 
-// Whether the rules of every task hold.
-fn tasks_hold(s: Shape, im: &[u16]) -> bool
+// Whether the rules of every task hold, where those of all buffers do.
+fn tasks_hold(s: Shape, im: &[u16], found: &[u8; MOST_TASKS]) -> bool
     requires { ⌜ Sized s (now im) ⌝ }
-    requires { ⌜ is-queued s (now im) Ready ≡ true ⌝ }
+    requires { ⌜ every-task s (do-buffers-hold s (now im)) ≡ true ⌝ }
+    requires { ⌜ every-task s (are-characters s (now im)) ≡ true ⌝ }
+    requires { ⌜ All-found (now found) (held s (now im) Ready) ⌝ }
     ensures { λ r. ⌜ r ≡ every-task s (does-task-hold s (now (im .entry))) ⌝ }
 {
     let mut k: usize = 0;
     while k < s.n {
-        if !task_holds(s, im, Task(k as u16)) {
+        if !task_holds(s, im, Task(k as u16), found) {
             return false;
         }
         k += 1;
@@ -105,12 +117,25 @@ fn rules_hold(s: Shape, im: &[u16]) -> bool
     if !queued(s, im, Queue::Ready) {
         return false;
     }
-    let ready = both(held_below(s, im, Queue::Ready, s.n), clock_holds(s, im));
-    both(ready, tasks_hold(s, im))
+    if !clock_holds(s, im) {
+        return false;
+    }
+    if !buffers_hold(s, im) {
+        return false;
+    }
+    if !characters_hold(s, im) {
+        return false;
+    }
+    let mut found: [u8; MOST_TASKS] = [0; MOST_TASKS];
+    if !count_ready(s, im, &mut found) {
+        return false;
+    }
+    tasks_hold(s, im, &found)
 }
 
-// The verdict on an image.
-fn verdict(im: &[u16]) -> Verdict
+// The verdict on an image whose header gives the shape s.
+fn verdict(s: Shape, im: &[u16]) -> Verdict
+    requires { ⌜ s ≡ shape-given (now im) ⌝ }
     ensures { λ r. ⌜ r ≡ verdict-on (now (im .entry)) ⌝ }
 {
     if im.len() < HEADER_WORDS {
@@ -119,7 +144,6 @@ fn verdict(im: &[u16]) -> Verdict
     if !both(header_word(im, 0) == MARK, header_word(im, 1) == EDITION) {
         return Verdict::Refused(Refusal::NotMarked);
     }
-    let s = shape_of(im);
     if out_of_range(s) {
         return Verdict::Refused(Refusal::OutOfRange);
     }
@@ -139,10 +163,9 @@ fn verdict(im: &[u16]) -> Verdict
 pub fn inspect(im: &[u16]) -> Inspected
     ensures { λ r. ⌜ (r .verdict ≡ verdict-on (now (im .entry))) × (r .shape ≡ shape-given (now (im .entry))) ⌝ }
 {
-    let found = verdict(im);
     let shape = shape_of(im);
     Inspected {
-        verdict: found,
+        verdict: verdict(shape, im),
         shape: shape,
     }
 }
@@ -151,5 +174,7 @@ pub fn inspect(im: &[u16]) -> Inspected
 pub fn check(im: &[u16]) -> u16
     ensures { λ r. ⌜ Checks (now (im .entry)) r ⌝ }
 {
-    number_of_verdict(verdict(im))
+    let inspected = inspect(im);
+    let found = inspected.verdict;
+    number_of_verdict(found)
 }

@@ -1,22 +1,23 @@
 -- What the calls of this crate ask and make, as laws over values. Assumes nothing.
 use mathlib.Core.Path.{_≡_, sym, ap, _∙_}
 use mathlib.Core.List.{List, [], _∷_}
-use mathlib.Core.Bool.{Bool, true, false, not, cond, _&&_, and-false}
+use mathlib.Core.Bool.{Bool, true, false, _&&_}
 use Prim.Native.Nat.{ℕ, suc, _+_, _-_, _%_, _<_, _≤_}
+use native.Mathlib.Nat.{mod-lt}
 use native.Mathlib.Omega.{arith}
-use borrow.Author.Tests.{lt-ltb, le-ltb, not-true}
+use borrow.Author.Tests.{lt-ltb, le-ltb}
 use lib.Dec.{eqb, leb, ltb}
-use Rattle.paper.specs.Image.{lead, most-character, cell, Valid, at, task}
+use Rattle.paper.specs.Image.{lead, most-capacity, most-character, cell, Valid, at, task}
 use Rattle.paper.specs.Queues.{Has, header-capacity, queue-word, head, tail, count, capacity, slot, step, words-from, held}
-use Rattle.paper.specs.Rules.{Queued, times}
-use Rattle.paper.specs.Tests.{every-task, all-below, queued, buffers-hold, characters}
+use Rattle.paper.specs.Rules.{Queued}
+use Rattle.paper.specs.Tests.{all-below, queued, buffers-hold, characters}
 use Rattle.paper.specs.declared.Task.{Task}
 use Rattle.paper.specs.declared.Shape.{Shape}
 use Rattle.paper.specs.declared.Cell.{Cell}
 use Rattle.paper.specs.declared.Queue.{Queue}
-use Rattle.laws.specs.Steps.{step-below}
+use Rattle.laws.specs.Sound.{Sized, sized-fit}
+use Rattle.laws.specs.Steps.{step-mod}
 use Rattle.laws.specs.Queues.{word-valid}
-use Rattle.laws.specs.Every.{every-fails}
 use Rattle.laws.specs.Checked.{queued-is, buffers-are}
 
 -- word k of a queue, in the row of its first word
@@ -28,48 +29,48 @@ module _ (s : Shape) (im : List ℕ) (q : Queue) (c : Cell) (k : ℕ) (e : c ≡
   word-got r er = rw (er, e)
 
 -- the leading words as they are tested
-pub leads-fail : (given h t n c : ℕ) → c ≤ h → false ≡ (eqb c given && ltb h c && ltb t c && leb n c && eqb ((h + n) % c) t)
-leads-fail given h t n c l = rw (le-ltb h c l, and-false)
-
-pub leads-tested : (given h t n c h′ n′ c′ c″ t′ : ℕ) (p q r o : Bool) → h′ ≡ h → n′ ≡ n → c′ ≡ c → c″ ≡ c → t′ ≡ t
-    → p ≡ (eqb c″ given && ltb h c) → q ≡ (p && ltb t c) → r ≡ (q && leb n c) → o ≡ (r && eqb ((h′ + n′) % c′) t′)
-    → o ≡ (eqb c given && ltb h c && ltb t c && leb n c && eqb ((h + n) % c) t)
-leads-tested given h t n c h′ n′ c′ c″ t′ p q r o eh en ec ed et ep eq er eo = rw (eo, er, eq, ep, eh, en, ec, ed, et)
-
 pub queued-tested : (s : Shape) (im : List ℕ) (q : Queue) (given h t n c : ℕ) (r : Bool) → h ≡ at s im (head s q) → t ≡ at s im (tail s q)
     → n ≡ at s im (count s q) → c ≡ at s im (capacity s q) → given ≡ header-capacity s q
     → r ≡ (eqb c given && ltb h c && ltb t c && leb n c && eqb ((h + n) % c) t) → r ≡ queued s im q
 unfolding queued
 queued-tested s im q given h t n c r eh et en ec eg er = rw (er, eh, et, en, ec, eg)
 
--- the words that a queue holds, one after another: a is the slot of the next, n how many are left
+-- the capacity that the header gives is in range
+pub given-fits : (s : Shape) (im : List ℕ) (q : Queue) (g : ℕ) → Sized s im → g ≡ header-capacity s q → (0 < g) × (g ≤ most-capacity)
+given-fits s im Queue.Ready g z e = let r = sized-fit s im z .tasks in (omega arith, omega arith)
+given-fits s im (Queue.Input i) g z e = let r = sized-fit s im z .inputs in (omega arith, omega arith)
+given-fits s im (Queue.Output i) g z e = let r = sized-fit s im z .outputs in (omega arith, omega arith)
+given-fits s im (Queue.Message i j) g z e = let r = sized-fit s im z .messages in (omega arith, omega arith)
+
+-- the words that a queue holds, one after another: a is the slot of the next, n how many are left, g the capacity given
 module _ (s : Shape) (im : List ℕ) (q : Queue) (ok : queued s im q ≡ true) where
   rules : Queued s im q
   rules = queued-is s im q .0 ok
 
-  pub head-inside : (a : ℕ) → a ≡ at s im (head s q) → a < at s im (capacity s q)
-  head-inside a e = rw e (rules .headed)
+  pub capacity-given : (g c : ℕ) → g ≡ c → c ≡ at s im (capacity s q) → g ≡ header-capacity s q
+  capacity-given g c eg ec = eg ∙ ec ∙ rules .sized
 
-  pub step-inside : (a b c : ℕ) → c ≡ at s im (capacity s q) → b ≡ step a c → a < at s im (capacity s q) → b < at s im (capacity s q)
-  step-inside a b c ec eb h = rw (eb, ec) (step-below a (at s im (capacity s q)) h)
+  pub head-inside : (a h : ℕ) → a ≡ h → h ≡ at s im (head s q) → a < header-capacity s q
+  head-inside a h ea eh = omega (arith, rules .headed, rules .sized)
 
-  pub slot-inside : (a w : ℕ) → w ≡ a → a < at s im (capacity s q) → lead + w < lead + header-capacity s q
-  slot-inside a w e h = omega (arith, rules .sized)
+  module _ (a : ℕ) (inside : a < header-capacity s q) (g b : ℕ) (eg : g ≡ header-capacity s q) (eb : b ≡ (a + 1) % g) where
+    pub next-step : b ≡ step a (at s im (capacity s q))
+    next-step = eb ∙ rw (eg, rules .sized) (sym (step-mod a (header-capacity s q) inside))
 
-  pub below-capacity : (a c : ℕ) → c ≡ at s im (capacity s q) → a < at s im (capacity s q) → a < c
-  below-capacity a c e h = rw e h
+    pub next-inside : b < header-capacity s q
+    next-inside = rw (eb, eg) (mod-lt (a + 1) (omega arith))
 
-held-from : (s : Shape) (im : List ℕ) (q : Queue) (a n : ℕ) → a ≡ at s im (head s q) → n ≡ at s im (count s q) → words-from s im q a n ≡ held s im q
+pub held-from : (s : Shape) (im : List ℕ) (q : Queue) (a n : ℕ) → a ≡ at s im (head s q) → n ≡ at s im (count s q) → words-from s im q a n ≡ held s im q
 unfolding held
 held-from s im q a n ea en = rw (ea, en)
 
-held-next : (s : Shape) (im : List ℕ) (q : Queue) (a n : ℕ) → 0 < n
+pub held-next : (s : Shape) (im : List ℕ) (q : Queue) (a n : ℕ) → 0 < n
     → words-from s im q a n ≡ at s im (slot s q a) ∷ words-from s im q (step a (at s im (capacity s q))) (n - 1)
 held-next s im q a n h =
     let e : n ≡ suc (n - 1) = omega arith in
     ap (words-from s im q a) e
 
-held-none : (s : Shape) (im : List ℕ) (q : Queue) (a n : ℕ) → n ≤ 0 → words-from s im q a n ≡ []
+pub held-none : (s : Shape) (im : List ℕ) (q : Queue) (a n : ℕ) → n ≤ 0 → words-from s im q a n ≡ []
 held-none s im q a n h = let e : n ≡ 0 = omega arith in rw e
 
 module _ (s : Shape) (im : List ℕ) (q : Queue) (m a n : ℕ) where
@@ -91,36 +92,8 @@ module _ (s : Shape) (im : List ℕ) (q : Queue) (m a n : ℕ) where
     pub below-done : n ≤ 0 → true ≡ all
     below-done h = rw (held-none s im q a n h) at so-far
 
-module _ (s : Shape) (im : List ℕ) (q : Queue) (x a n : ℕ) where
-  pub times-start : a ≡ at s im (head s q) → n ≡ at s im (count s q) → 0 + times x (words-from s im q a n) ≡ times x (held s im q)
-  times-start ea en = rw (held-from s im q a n ea en) (omega arith)
-
-  module _ (found all : ℕ) (so-far : found + times x (words-from s im q a n) ≡ all) where
-    pub times-more : (v r o b c n′ : ℕ) → 0 < n → v ≡ a → r ≡ at s im (slot s q v) → o ≡ cond (eqb x r) 1 0 → c ≡ at s im (capacity s q) → b ≡ step a c
-        → n′ ≡ n - 1 → (found + o) + times x (words-from s im q b n′) ≡ all
-    times-more v r o b c n′ h ev er eo ec eb en =
-        let e : o ≡ cond (eqb x (at s im (slot s q a))) 1 0 = rw (eo, er, ev) in
-        let z = rw (held-next s im q a n h, ← e) at so-far in
-        rw (eb, ec, en) (omega arith)
-
-    pub times-done : n ≤ 0 → found ≡ all
-    times-done h = let z = rw (held-none s im q a n h) at so-far in omega arith
-
-pub one-small : (b : Bool) (o : ℕ) → o ≡ cond b 1 0 → o ≤ 1
-one-small true o e = omega arith
-one-small false o e = omega arith
-
--- the message buffers, one after another
+-- the input and the output buffer of task i
 module _ (s : Shape) (im : List ℕ) (i : Task) where
-  pub message-fails : (k : ℕ) (r : Bool) → k < s .n → r ≡ queued s im (Queue.Message i (task k)) → not r ≡ true
-      → false ≡ every-task s (λ j. queued s im (Queue.Message i j))
-  message-fails k r hk er nr = sym (every-fails (s .n) k _ hk (sym er ∙ not-true r nr))
-
-  pub buffers-tested : (a b p c o : Bool) → a ≡ queued s im (Queue.Input i) → b ≡ queued s im (Queue.Output i) → p ≡ (a && b)
-      → c ≡ every-task s (λ j. queued s im (Queue.Message i j)) → o ≡ (p && c) → o ≡ buffers-hold s im i
-  unfolding buffers-hold
-  buffers-tested a b p c o ea eb ep ec eo = rw (eo, ep, ea, eb, ec)
-
   pub input-queued : buffers-hold s im i ≡ true → queued s im (Queue.Input i) ≡ true
   input-queued h = queued-is s im (Queue.Input i) .1 (buffers-are s im i .0 h .0)
 

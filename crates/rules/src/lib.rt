@@ -1,14 +1,15 @@
 // The rules of an image's queues, tested.
 ghost use mathlib.Core.Path.{_≡_};
-ghost use mathlib.Core.Bool.{_&&_, true};
-ghost use Prim.Native.Nat.{_+_, _%_, _<_};
-ghost use lib.Dec.{eqb, leb, ltb};
-ghost use Rattle.paper.specs.Image.{lead, at as word-at};
+ghost use mathlib.Core.Bool.{true};
+ghost use Prim.Native.Nat.{_+_, _*_, _%_, _<_, _≤_};
+ghost use lib.ListN.{length};
+ghost use Rattle.paper.specs.Image.{lead, most-capacity, most-words, at as word-at};
 ghost use Rattle.paper.specs.Queues.{Has, header-capacity, queue-word, held};
-ghost use Rattle.paper.specs.Rules.{times};
-ghost use Rattle.paper.specs.Tests.{all-below, every-task, queued as is-queued, buffers-hold as do-buffers-hold, characters as are-characters};
-ghost use Rattle.paper.specs.declared.Queue.the-variants.{Ready, Message};
+ghost use Rattle.paper.specs.Tests.{every, all-below, every-task, queued as is-queued, buffers-hold as do-buffers-hold, characters as are-characters};
+ghost use Rattle.paper.specs.declared.Queue.the-variants.{Ready};
 ghost use Rattle.laws.specs.Sound.{Sized};
+ghost use Rattle.rules.specs.Leads.{leads};
+ghost use Rattle.rules.specs.Rows.{row-right, Rows, Passed, Covers, None-found, All-found};
 use paper::Cell;
 use paper::Queue;
 use paper::Shape;
@@ -16,13 +17,15 @@ use paper::Task;
 use places::head_of;
 use places::wide;
 use places::word_of;
-use rings::step;
 use truths::both;
-use truths::one_if;
 
 const LEAD_WORDS: usize = 4;
 
+const MOST_TASKS: usize = 16;
+
 const CHARACTERS: usize = 256;
+
+const WORD_END: usize = 65536;
 
 // The capacity that the header gives a queue.
 fn capacity_of(s: Shape, q: Queue) -> usize
@@ -56,19 +59,93 @@ pub fn queue_word(s: Shape, im: &[u16], q: Queue, k: usize) -> u16
     )
 }
 
+// The slot that so many slots from the front come to, where they go past the end at most once.
+fn wrapped(slots: usize, capacity: usize) -> usize
+    requires { ⌜ slots < capacity + capacity ⌝ }
+    ensures { λ r. ⌜ r ≡ slots % capacity ⌝ }
+{
+    if slots < capacity {
+        return slots;
+    }
+    slots - capacity
+}
+
 // Whether a queue's four leading words are right, where the header gives the capacity given.
 fn leads_right(given: usize, head: u16, tail: u16, count: u16, capacity: u16) -> bool
-    ensures { λ r. ⌜ r ≡ (eqb capacity given && ltb head capacity && ltb tail capacity && leb count capacity && eqb ((head + count) % capacity) tail) ⌝ }
+    ensures { λ r. ⌜ r ≡ leads given head tail count capacity ⌝ }
 {
+    if wide(capacity) != given {
+        return false;
+    }
     if capacity <= head {
         return false;
     }
-    let wrapped = (wide(head) + wide(count)) % wide(capacity);
-    let ends = both(
-        both(wide(capacity) == given, head < capacity),
-        tail < capacity,
-    );
-    both(both(ends, count <= capacity), wrapped == wide(tail))
+    if capacity < count {
+        return false;
+    }
+    wrapped(wide(head) + wide(count), given) == wide(tail)
+}
+
+// Whether a queue's four leading words, as one number, are those of a queue never used.
+fn leads_unused(given: usize, head: u16, tail: u16, count: u16, capacity: u16) -> bool
+    requires { ⌜ (0 < given) × (given ≤ most-capacity) ⌝ }
+    ensures { λ r. ⌜ (r ≡ true → leads given head tail count capacity ≡ true) ⌝ }
+{
+    let size = wide(count) + WORD_END * wide(capacity);
+    let words = wide(head) + WORD_END * (wide(tail) + WORD_END * size);
+    words == WORD_END * (WORD_END * (WORD_END * given))
+}
+
+// Whether the row at a place is a queue of the capacity given.
+fn row_queued(im: &[u16], at: usize, given: usize) -> bool
+    requires { ⌜ at + lead ≤ length (now im) ⌝ }
+    ensures { λ r. ⌜ r ≡ row-right (now (im .entry)) at given ⌝ }
+{
+    leads_right(given, im[at], im[at + 1], im[at + 2], im[at + 3])
+}
+
+// Whether the row at a place is a queue never used, of the capacity given.
+fn row_unused(im: &[u16], at: usize, given: usize) -> bool
+    requires { ⌜ (0 < given) × (given ≤ most-capacity) ⌝ }
+    requires { ⌜ at + lead ≤ length (now im) ⌝ }
+    ensures { λ r. ⌜ (r ≡ true → row-right (now (im .entry)) at given ≡ true) ⌝ }
+{
+    leads_unused(given, im[at], im[at + 1], im[at + 2], im[at + 3])
+}
+
+// The first row from a place on that is not a queue never used, or the end.
+fn first_used(im: &[u16], from: usize, end: usize, given: usize) -> usize
+    requires { ⌜ (0 < given) × (given ≤ most-capacity) ⌝ }
+    requires { ⌜ Rows from end given ⌝ }
+    requires { ⌜ (end ≤ length (now im)) × (length (now im) ≤ most-words) ⌝ }
+    ensures { λ r. ⌜ Passed (now (im .entry)) from end given r ⌝ }
+{
+    let mut at = from;
+    while at < end {
+        if !row_unused(im, at, given) {
+            return at;
+        }
+        at += LEAD_WORDS + given;
+    }
+    at
+}
+
+// Whether so many rows from a place on are queues of the capacity given; those never used, which are most, are told at a look.
+fn rows_queued(im: &[u16], from: usize, rows: usize, given: usize) -> bool
+    requires { ⌜ (0 < given) × (given ≤ most-capacity) ⌝ }
+    requires { ⌜ (from + rows * (lead + given) ≤ length (now im)) × (length (now im) ≤ most-words) ⌝ }
+    ensures { λ r. ⌜ r ≡ every rows (λ k. row-right (now (im .entry)) (from + k * (lead + given)) given) ⌝ }
+{
+    let width = LEAD_WORDS + given;
+    let end = from + rows * width;
+    let mut at = first_used(im, from, end, given);
+    while at < end {
+        if !row_queued(im, at, given) {
+            return false;
+        }
+        at = first_used(im, at + width, end, given);
+    }
+    true
 }
 
 // Whether a queue obeys the rules of queues.
@@ -85,74 +162,64 @@ pub fn queued(s: Shape, im: &[u16], q: Queue) -> bool
 }
 
 // Whether each word that a queue holds is below m.
-pub fn held_below(s: Shape, im: &[u16], q: Queue, m: usize) -> bool
+fn held_below(s: Shape, im: &[u16], q: Queue, m: usize) -> bool
     requires { ⌜ Sized s (now im) ⌝ }
     requires { ⌜ Has s q ⌝ }
     requires { ⌜ is-queued s (now im) q ≡ true ⌝ }
     ensures { λ r. ⌜ r ≡ all-below m (held s (now (im .entry)) q) ⌝ }
 {
-    let capacity = queue_word(s, im, q, 3);
-    let mut at = queue_word(s, im, q, 0);
+    let capacity = wide(queue_word(s, im, q, 3));
+    let mut at = wide(queue_word(s, im, q, 0));
     let mut left = queue_word(s, im, q, 2);
     while 0 < left {
-        if m <= wide(queue_word(s, im, q, LEAD_WORDS + wide(at))) {
+        if m <= wide(queue_word(s, im, q, LEAD_WORDS + at)) {
             return false;
         }
-        at = step(at, capacity);
+        at = wrapped(at + 1, capacity);
         left -= 1;
     }
     true
 }
 
-// How often the ready queue holds a number.
-pub fn times_ready(s: Shape, im: &[u16], x: u16) -> usize
+// Counts how often the ready queue holds each task, up to a word that is no task; whether there is none.
+pub fn count_ready(s: Shape, im: &[u16], found: &mut [u8; MOST_TASKS]) -> bool
     requires { ⌜ Sized s (now im) ⌝ }
     requires { ⌜ is-queued s (now im) Ready ≡ true ⌝ }
-    ensures { λ r. ⌜ r ≡ times x (held s (now (im .entry)) Ready) ⌝ }
+    requires { ⌜ None-found (now found) ⌝ }
+    ensures { λ r. ⌜ r ≡ all-below (s .n) (held s (now (im .entry)) Ready) ⌝ }
+    ensures { λ r. ⌜ (r ≡ true → All-found (now (found .exit)) (held s (now (im .entry)) Ready)) ⌝ }
 {
-    let capacity = queue_word(s, im, Queue::Ready, 3);
-    let mut at = queue_word(s, im, Queue::Ready, 0);
+    let mut at = wide(queue_word(s, im, Queue::Ready, 0));
     let mut left = queue_word(s, im, Queue::Ready, 2);
-    let mut found: usize = 0;
     while 0 < left {
-        found += one_if(x == queue_word(s, im, Queue::Ready, LEAD_WORDS + wide(at)));
-        at = step(at, capacity);
-        left -= 1;
-    }
-    found
-}
-
-// Whether the message buffers from task i obey the rules of queues.
-fn messages_queued(s: Shape, im: &[u16], i: Task) -> bool
-    requires { ⌜ Sized s (now im) ⌝ }
-    requires { ⌜ i .0 < s .n ⌝ }
-    ensures { λ r. ⌜ r ≡ every-task s (λ j. is-queued s (now (im .entry)) (Message i j)) ⌝ }
-{
-    let mut k: usize = 0;
-    while k < s.n {
-        if !queued(s, im, Queue::Message(i, Task(k as u16))) {
+        let task = wide(queue_word(s, im, Queue::Ready, LEAD_WORDS + at));
+        if s.n <= task {
             return false;
         }
-        k += 1;
+        found[task] += 1;
+        at = wrapped(at + 1, s.n);
+        left -= 1;
     }
     true
 }
 
-// Whether the buffers of task i obey the rules of queues.
-pub fn buffers_hold(s: Shape, im: &[u16], i: Task) -> bool
+// Whether all buffers obey the rules of queues.
+pub fn buffers_hold(s: Shape, im: &[u16]) -> bool
     requires { ⌜ Sized s (now im) ⌝ }
-    requires { ⌜ i .0 < s .n ⌝ }
-    ensures { λ r. ⌜ r ≡ do-buffers-hold s (now (im .entry)) i ⌝ }
+    ensures { λ r. ⌜ r ≡ every-task s (do-buffers-hold s (now (im .entry))) ⌝ }
 {
-    let devices = both(
-        queued(s, im, Queue::Input(i)),
-        queued(s, im, Queue::Output(i)),
-    );
-    both(devices, messages_queued(s, im, i))
+    let starts = s.starts;
+    if !rows_queued(im, starts[3], s.n, s.ci) {
+        return false;
+    }
+    if !rows_queued(im, starts[4], s.n, s.co) {
+        return false;
+    }
+    rows_queued(im, starts[5], s.n * s.n, s.cm)
 }
 
 // Whether the words held in the input and output buffer of task i are characters.
-pub fn characters(s: Shape, im: &[u16], i: Task) -> bool
+fn characters(s: Shape, im: &[u16], i: Task) -> bool
     requires { ⌜ Sized s (now im) ⌝ }
     requires { ⌜ i .0 < s .n ⌝ }
     requires { ⌜ do-buffers-hold s (now im) i ≡ true ⌝ }
@@ -160,4 +227,38 @@ pub fn characters(s: Shape, im: &[u16], i: Task) -> bool
 {
     let typed = held_below(s, im, Queue::Input(i), CHARACTERS);
     both(typed, held_below(s, im, Queue::Output(i), CHARACTERS))
+}
+
+// All bits that are set in the words from a place up to another.
+fn bits_of(im: &[u16], from: usize, end: usize) -> u16
+    requires { ⌜ end ≤ length (now im) ⌝ }
+    ensures { λ r. ⌜ Covers (now (im .entry)) from end r ⌝ }
+{
+    let mut at = from;
+    let mut bits: u16 = 0;
+    while at < end {
+        bits = bits | im[at];
+        at += 1;
+    }
+    bits
+}
+
+// Whether the words held in input and output buffers are characters; free slots hold anything, but seldom do.
+pub fn characters_hold(s: Shape, im: &[u16]) -> bool
+    requires { ⌜ Sized s (now im) ⌝ }
+    requires { ⌜ every-task s (do-buffers-hold s (now im)) ≡ true ⌝ }
+    ensures { λ r. ⌜ r ≡ every-task s (are-characters s (now (im .entry))) ⌝ }
+{
+    let starts = s.starts;
+    if wide(bits_of(im, starts[3], starts[5])) < CHARACTERS {
+        return true;
+    }
+    let mut k: usize = 0;
+    while k < s.n {
+        if !characters(s, im, Task(k as u16)) {
+            return false;
+        }
+        k += 1;
+    }
+    true
 }

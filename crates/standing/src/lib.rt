@@ -1,14 +1,14 @@
 // The rules of a task, tested: its place in the ready queue, its port, its flags and its status.
 ghost use mathlib.Core.Path.{_≡_};
-ghost use mathlib.Core.Bool.{true};
 ghost use Prim.Native.Nat.{_<_};
 ghost use Rattle.paper.specs.Image.{at as word-at, reg as reg-cell, flags as flags-cell, status as status-cell, peer as peer-cell};
-ghost use Rattle.paper.specs.Queues.{Has, empty as empty-of, full as full-of};
+ghost use Rattle.paper.specs.Queues.{Has, held, empty as empty-of, full as full-of};
 ghost use Rattle.paper.specs.Flags.{error as error-of-task, pending as pending-of-task};
-ghost use Rattle.paper.specs.Tests.{queued, readied-once as is-readied-once, port-holds as does-port-hold, flags-hold as do-flags-hold, peered as is-peered, standing as is-standing, status-holds as does-status-hold};
+ghost use Rattle.paper.specs.Tests.{readied-once as is-readied-once, port-holds as does-port-hold, flags-hold as do-flags-hold, peered as is-peered, standing as is-standing, status-holds as does-status-hold};
 ghost use Rattle.paper.specs.declared.Queue.the-variants.{Ready};
 ghost use Rattle.paper.specs.declared.Service.the-variants.{Send, Receive, Input, Output};
 ghost use Rattle.laws.specs.Sound.{Sized};
+ghost use Rattle.rules.specs.Rows.{All-found};
 use paper::Cell;
 use paper::Part;
 use paper::Queue;
@@ -17,11 +17,9 @@ use paper::Task;
 use places::wide;
 use places::word_of;
 use rules::queue_word;
-use rules::times_ready;
 use truths::both;
 use truths::either;
 use truths::implies;
-use truths::one_if;
 
 // The numbers of the services, which are those of the statuses that wait for them.
 const SEND: u16 = 1;
@@ -35,6 +33,8 @@ const OUTPUT: u16 = 4;
 const READY: u16 = 0;
 
 const STOPPED: u16 = 5;
+
+const MOST_TASKS: usize = 16;
 
 const MOST_CHARACTER: u16 = 255;
 
@@ -148,14 +148,19 @@ pub fn is_empty(s: Shape, im: &[u16], q: Queue) -> bool
     queue_word(s, im, q, 2) == 0
 }
 
-// Whether the ready queue holds task i once if it is ready, and else not.
-pub fn readied_once(s: Shape, im: &[u16], i: Task) -> bool
+// Whether the ready queue holds task i once if it is ready, and else not; found tells how often it holds each task.
+pub fn readied_once(s: Shape, im: &[u16], i: Task, found: &[u8; MOST_TASKS]) -> bool
     requires { ⌜ Sized s (now im) ⌝ }
     requires { ⌜ i .0 < s .n ⌝ }
-    requires { ⌜ queued s (now im) Ready ≡ true ⌝ }
+    requires { ⌜ All-found (now found) (held s (now im) Ready) ⌝ }
     ensures { λ r. ⌜ r ≡ is-readied-once s (now (im .entry)) i ⌝ }
 {
-    times_ready(s, im, i.0) == one_if(status(s, im, i) == READY)
+    let k = i.0 as usize;
+    let times = found[k];
+    if status(s, im, i) == READY {
+        return times == 1;
+    }
+    times == 0
 }
 
 // Whether the port of task i obeys its rules.
@@ -270,13 +275,23 @@ pub fn status_holds(s: Shape, im: &[u16], i: Task) -> bool
     ensures { λ r. ⌜ r ≡ does-status-hold s (now (im .entry)) i ⌝ }
 {
     let k = status(s, im, i);
-    let sends = both(k <= STOPPED, implies(k == SEND, may_send(s, im, i)));
-    let receives = both(sends, implies(k == RECEIVE, may_receive(s, im, i)));
-    let inputs = both(receives, implies(k == INPUT, may_input(s, im, i)));
-    let outputs = both(inputs, implies(k == OUTPUT, may_output(s, im, i)));
-    let stops = both(outputs, implies(k == STOPPED, error(s, im, i) != 0));
-    both(
-        stops,
-        either(either(k == SEND, k == RECEIVE), peer(s, im, i) == 0),
-    )
+    if k == READY {
+        return peer(s, im, i) == 0;
+    }
+    if k == SEND {
+        return may_send(s, im, i);
+    }
+    if k == RECEIVE {
+        return may_receive(s, im, i);
+    }
+    if peer(s, im, i) != 0 {
+        return false;
+    }
+    if k == INPUT {
+        return may_input(s, im, i);
+    }
+    if k == OUTPUT {
+        return may_output(s, im, i);
+    }
+    both(k == STOPPED, error(s, im, i) != 0)
 }

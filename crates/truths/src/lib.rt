@@ -1,6 +1,6 @@
 // Tests joined without a branch in the caller, as the definitions join them.
 ghost use mathlib.Core.Path.{_≡_};
-ghost use mathlib.Core.Bool.{_&&_, _||_, cond};
+ghost use mathlib.Core.Bool.{_&&_, _||_};
 ghost use Rattle.paper.specs.Tests.{implies as if-then};
 
 // Whether both hold.
@@ -22,11 +22,4 @@ pub fn implies(a: bool, b: bool) -> bool
     ensures { λ r. ⌜ r ≡ if-then a b ⌝ }
 {
     if a { b } else { true }
-}
-
-// 1 where a holds, else 0.
-pub fn one_if(a: bool) -> usize
-    ensures { λ r. ⌜ r ≡ cond a 1 0 ⌝ }
-{
-    if a { 1 } else { 0 }
 }

@@ -11,7 +11,6 @@ pub segment-right-spec : {M : Type 1} → statement M
 segment-right-spec =
     tie.close
     (tie.spec
-    (λ c. search needs)
     (λ c κs. search needs)
     (λ c κs. search needs)
     (λ c κs. search needs)

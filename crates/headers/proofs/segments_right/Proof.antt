@@ -31,9 +31,6 @@ abbrev μ-loop : tie.MeasureT-loop
 loop-holds : tie.Need-loop-holds Inv-loop μ-loop
 loop-holds c = record { passed = every-none _; upto = omega arith; next = first-start _ _ (c .before .before .pre); small = first-small _ _ (c .before .before .pre) }
 
-cast-wide : tie.Need-cast-wide Inv-loop μ-loop
-cast-wide c = omega (arith, sized-few _ _ (c .before .before .before .before .before .pre))
-
 returns : tie.Need-returns Inv-loop μ-loop
 returns c = segment-fails _ _ (c .before .before .before .before .before .before .before .pre) _ _ (c .before .before .if1 .taken) (c .before .segment-right .ensures) (c .if2 .taken)
 
@@ -41,14 +38,7 @@ add-end : tie.Need-add-end Inv-loop μ-loop
 add-end c = omega (arith, sized-few _ _ (c .before .before .before .before .before .before .before .before .before .pre))
 
 loop-again : tie.Need-loop-again Inv-loop μ-loop
-loop-again c =
-    let b = c .before .before .before .before .before .before in
-    record {
-      passed = every-more _ _ (b .loop .inv .passed) (sym (c .before .before .before .segment-right .ensures) ∙ not-false _ (c .before .before .if2 .left));
-      upto = omega arith;
-      next = next-start _ _ (b .before .before .before .pre) _ _ _ _ (b .loop .inv .next) (c .before .word-of .ensures) (c .wide .ensures);
-      small = omega arith;
-    }
+loop-again c = record { passed = every-more _ _ (c .before .before .before .before .before .before .loop .inv .passed) (sym (c .before .before .before .segment-right .ensures) ∙ not-false _ (c .before .before .if2 .left)); upto = omega arith; next = next-start _ _ (c .before .before .before .before .before .before .before .before .before .pre) _ _ _ _ (c .before .before .before .before .before .before .loop .inv .next) (c .before .word-of .ensures) (c .wide .ensures); small = omega arith }
 
 returns-2 : tie.Need-returns-2 Inv-loop μ-loop
 returns-2 c = segments-end _ _ (c .before .before .before .before .before .pre) _ _ (c .before .before .loop .inv .passed) (c .if1 .left) (c .before .before .loop .inv .upto) (c .before .before .loop .inv .next)
@@ -61,7 +51,6 @@ segments-right-spec =
     μ-loop
     (λ c. search needs)
     loop-holds
-    cast-wide
     (λ c κs. search needs)
     returns
     (λ c κs. search needs)

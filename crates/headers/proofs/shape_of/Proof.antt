@@ -5,7 +5,7 @@ use Rattle.headers.proofs.shape_of.Statement.{statement}
 use Rattle.headers.proofs.shape_of.Tie as tie
 
 returns : tie.Need-returns
-returns c = shape-read _ _ _ _ _ _ _ _ _ _ (c .before .before .before .before .before .before .before .before .starts-of .ensures) (c .before .before .before .before .before .before .before .header-word .ensures) (c .before .before .before .before .before .before .word-or-zero .ensures) (c .before .before .before .before .before .header-word2 .ensures) (c .before .before .before .before .header-word3 .ensures) (c .before .before .before .header-word4 .ensures) (c .before .before .header-word5 .ensures) (c .before .header-word6 .ensures) (c .rest .ensures)
+returns c = shape-read _ _ _ _ _ _ _ _ _ _ (c .before .before .before .before .before .starts-of .ensures) (c .before .before .before .before .header-word3 .ensures) (c .before .before .before .word-or-zero .ensures) (c .before .before .header-word4 .ensures) (c .before .header-word5 .ensures) (c .header-word6 .ensures) (c .before .before .before .before .before .before .before .before .header-word .ensures) (c .before .before .before .before .before .before .before .header-word2 .ensures) (c .before .before .before .before .before .before .rest .ensures)
 
 pub shape-of-spec : {M : Type 1} → statement M
 shape-of-spec =

@@ -1,20 +1,37 @@
 -- Assumes nothing.
-use Rattle.inspect.specs.Needs.{rules-fail, ready-so, rules-tested}
+use borrow.Author.Tests.{not-false}
+use Rattle.rules.specs.Rows.{none-found}
+use Rattle.inspect.specs.Needs.{ready-fails, clock-fails, buffers-fail, characters-fail, others-fail, rules-tested, passed-so}
 use borrow.Author.Needs.{needs}
 use Rattle.inspect.proofs.rules_hold.Statement.{statement}
 use Rattle.inspect.proofs.rules_hold.Tie as tie
 
 returns : tie.Need-returns
-returns c = search rules-fail
-
-held-below-requires : tie.Need-held-below-requires
-held-below-requires c κs = search ready-so
-
-tasks-hold-requires : tie.Need-tasks-hold-requires
-tasks-hold-requires c κs = search ready-so
+returns c = search ready-fails
 
 returns-2 : tie.Need-returns-2
-returns-2 c = search rules-tested
+returns-2 c = search clock-fails
+
+returns-3 : tie.Need-returns-3
+returns-3 c = search buffers-fail
+
+characters-hold-requires : tie.Need-characters-hold-requires
+characters-hold-requires c κs = (c .before .before .before .before .before .before .before .pre, passed-so _ _ (c .before .buffers-hold .ensures) (c .if3 .left))
+
+returns-4 : tie.Need-returns-4
+returns-4 c = search characters-fail
+
+count-ready-requires : tie.Need-count-ready-requires
+count-ready-requires c κs = (c .before .before .before .before .before .before .before .before .before .before .pre, (passed-so _ _ (c .before .before .before .before .before .before .before .before .queued .ensures) (c .before .before .before .before .before .before .before .if1 .left), none-found))
+
+returns-5 : tie.Need-returns-5
+returns-5 c = search others-fail
+
+tasks-hold-requires : tie.Need-tasks-hold-requires
+tasks-hold-requires c κs = (c .before .before .before .before .before .before .before .before .before .before .before .before .before .pre, (passed-so _ _ (c .before .before .before .before .before .before .before .buffers-hold .ensures) (c .before .before .before .before .before .before .if3 .left), (passed-so _ _ (c .before .before .before .before .before .characters-hold .ensures) (c .before .before .before .before .if4 .left), c .before .before .count-ready .ensures .1 (not-false _ (c .before .if5 .left)))))
+
+returns-6 : tie.Need-returns-6
+returns-6 c = rules-tested _ _ _ _ _ _ (c .before .before .before .before .before .before .before .before .before .before .before .before .queued .ensures) (c .before .before .before .before .before .before .before .before .before .before .before .if1 .left) (c .before .before .before .before .before .before .before .before .before .before .clock-holds .ensures) (c .before .before .before .before .before .before .before .before .before .if2 .left) (c .before .before .before .count-ready .ensures .0) (c .before .before .if5 .left) (c .tasks-hold .ensures)
 
 pub rules-hold-spec : {M : Type 1} → statement M
 rules-hold-spec =
@@ -22,9 +39,13 @@ rules-hold-spec =
     (tie.spec
     (λ c κs. search needs)
     returns
-    held-below-requires
     (λ c κs. search needs)
+    returns-2
     (λ c κs. search needs)
+    returns-3
+    characters-hold-requires
+    returns-4
+    count-ready-requires
+    returns-5
     tasks-hold-requires
-    (λ c κs. search needs)
-    returns-2)
+    returns-6)

@@ -1,17 +1,20 @@
 -- Assumes nothing.
-use Rattle.inspect.specs.Needs.{task-fails, buffers-so, task-tested}
+use Rattle.inspect.specs.Needs.{once-fails, port-fails, flags-fail, task-tested}
 use borrow.Author.Needs.{needs}
 use Rattle.inspect.proofs.task_holds.Statement.{statement}
 use Rattle.inspect.proofs.task_holds.Tie as tie
 
 returns : tie.Need-returns
-returns c = search task-fails
-
-characters-requires : tie.Need-characters-requires
-characters-requires c κs = search buffers-so
+returns c = search once-fails
 
 returns-2 : tie.Need-returns-2
-returns-2 c = search task-tested
+returns-2 c = search port-fails
+
+returns-3 : tie.Need-returns-3
+returns-3 c = search flags-fail
+
+returns-4 : tie.Need-returns-4
+returns-4 c = search task-tested
 
 pub task-holds-spec : {M : Type 1} → statement M
 task-holds-spec =
@@ -19,13 +22,9 @@ task-holds-spec =
     (tie.spec
     (λ c κs. search needs)
     returns
-    characters-requires
     (λ c κs. search needs)
+    returns-2
     (λ c κs. search needs)
+    returns-3
     (λ c κs. search needs)
-    (λ c κs. search needs)
-    (λ c κs. search needs)
-    (λ c κs. search needs)
-    (λ c κs. search needs)
-    (λ c κs. search needs)
-    returns-2)
+    returns-4)

@@ -8,22 +8,25 @@ use Rattle.paper.specs.Image.{task}
 use Rattle.paper.specs.Tests.{every, task-holds}
 use Rattle.laws.specs.Every.{every-none, every-more, every-done}
 use Rattle.laws.specs.Sound.{sized-few}
-use Rattle.inspect.specs.Needs.{tasks-fail}
+use Rattle.inspect.specs.Needs.{each-buffers, each-characters, tasks-fail}
 use borrow.Author.Needs.{needs}
 use Rattle.inspect.proofs.tasks_hold.Statement.{statement}
 use Rattle.inspect.proofs.tasks_hold.Tie as tie
 
 abbrev Inv-loop : tie.InvT-loop
-Inv-loop s im k₀ k = (every k (λ j. task-holds s im (task j)) ≡ true) × (k ≤ s .n)
+Inv-loop s im found k₀ k = (every k (λ j. task-holds s im (task j)) ≡ true) × (k ≤ s .n)
 
 abbrev μ-loop : tie.MeasureT-loop
-μ-loop s im k₀ k = s .n - k
+μ-loop s im found k₀ k = s .n - k
 
 loop-holds : tie.Need-loop-holds Inv-loop μ-loop
 loop-holds c = (every-none _, omega arith)
 
-cast-t5 : tie.Need-cast-t5 Inv-loop μ-loop
-cast-t5 c = omega (arith, sized-few _ _ (c .before .before .before .before .pre .0))
+cast-t6 : tie.Need-cast-t6 Inv-loop μ-loop
+cast-t6 c = omega (arith, sized-few _ _ (c .before .before .before .before .pre .0))
+
+task-holds-requires : tie.Need-task-holds-requires Inv-loop μ-loop
+task-holds-requires c κs = (c .before .before .before .before .pre .0, (c .if1 .taken, (each-buffers _ _ _ (c .if1 .taken) (c .before .before .before .before .pre .1 .0), (each-characters _ _ _ (c .if1 .taken) (c .before .before .before .before .pre .1 .1 .0), c .before .before .before .before .pre .1 .1 .1))))
 
 returns : tie.Need-returns Inv-loop μ-loop
 returns c = tasks-fail _ _ _ _ (c .before .before .if1 .taken) (c .before .task-holds .ensures) (c .if2 .taken)
@@ -41,8 +44,8 @@ tasks-hold-spec =
     Inv-loop
     μ-loop
     loop-holds
-    cast-t5
-    (λ c κs. search needs)
+    cast-t6
+    task-holds-requires
     returns
     (λ c. search needs)
     (λ c. search needs)

@@ -1,21 +1,21 @@
 -- What is left to look at decides. Assumes nothing.
-use mathlib.Core.Path.{_≡_, refl}
+use mathlib.Core.Path.{_≡_, refl, _∙_}
 use mathlib.Core.List.{List}
 use Prim.Native.Nat.{ℕ, _<_}
-use Rattle.paper.specs.Image.{at as word-at}
-use Rattle.paper.specs.Queues.{capacity as capacity-cell, words-from, held}
+use native.Mathlib.Omega.{arith}
+use Rattle.paper.specs.Queues.{header-capacity, words-from, held}
 use Rattle.paper.specs.Tests.{all-below}
 use Rattle.paper.specs.declared.Shape.{Shape}
 use Rattle.paper.specs.declared.Queue.{Queue}
 use Rattle.laws.specs.Cells.{in-lead}
-use Rattle.rules.specs.Needs.{head-inside, step-inside, slot-inside, below-capacity, below-start, below-fails, below-more, below-done}
+use Rattle.rules.specs.Needs.{given-fits, capacity-given, head-inside, next-step, next-inside, below-start, below-fails, below-more, below-done}
 use borrow.Author.Needs.{needs}
 use Rattle.rules.proofs.held_below.Statement.{statement}
 use Rattle.rules.proofs.held_below.Tie as tie
 
 pub record Inv (s : Shape) (im : List ℕ) (q : Queue) (m at left : ℕ) : Type 0 where
   pub rest : all-below m (words-from s im q at left) ≡ all-below m (held s im q)
-  pub inside : at < word-at s im (capacity-cell s q)
+  pub inside : at < header-capacity s q
 
 abbrev Inv-loop : tie.InvT-loop
 Inv-loop s im q m capacity at₀ left₀ at left = Inv s im q m at left
@@ -33,30 +33,25 @@ queue-word-requires-3 : tie.Need-queue-word-requires-3 Inv-loop μ-loop
 queue-word-requires-3 c κs = search in-lead
 
 loop-holds : tie.Need-loop-holds Inv-loop μ-loop
-loop-holds c = record { rest = below-start _ _ _ _ _ _ (c .before .queue-word2 .ensures) (c .queue-word3 .ensures); inside = head-inside _ _ _ (c .before .before .before .before .pre .1 .1) _ (c .before .queue-word2 .ensures) }
+loop-holds c = record { rest = below-start _ _ _ _ _ _ (c .before .wide2 .ensures ∙ c .before .before .queue-word2 .ensures) (c .queue-word3 .ensures); inside = head-inside _ _ _ (c .before .before .before .before .before .before .pre .1 .1) _ _ (c .before .wide2 .ensures) (c .before .before .queue-word2 .ensures) }
+
+add-queue-word : tie.Need-add-queue-word Inv-loop μ-loop
+add-queue-word c = omega (arith, c .before .loop .inv .inside, given-fits _ _ (c .before .before .before .before .before .before .before .before .args .q) _ (c .before .before .before .before .before .before .before .before .pre .0) refl)
 
 queue-word-requires-4 : tie.Need-queue-word-requires-4 Inv-loop μ-loop
-queue-word-requires-4 c κs =
-    let b = c .before .before in
-    let p = b .before .before .before .before .before .pre in
-    (p .0, (p .1 .0, slot-inside _ _ _ (p .1 .1) _ _ (c .wide .ensures) (b .loop .inv .inside)))
+queue-word-requires-4 c κs = (c .before .before .before .before .before .before .before .before .pre .0, (c .before .before .before .before .before .before .before .before .pre .1 .0, let i = c .before .loop .inv .inside in omega arith))
 
 returns : tie.Need-returns Inv-loop μ-loop
-returns c = below-fails _ _ _ _ _ _ _ (c .before .before .before .before .before .loop .inv .rest) _ _ _ (c .before .before .before .before .loop-test .taken) (c .before .before .before .wide .ensures) (c .before .before .queue-word4 .ensures) (c .before .wide2 .ensures) (c .if1 .taken)
+returns c = below-fails _ _ _ _ _ _ _ (c .before .before .before .before .loop .inv .rest) _ _ _ (c .before .before .before .loop-test .taken) refl (c .before .before .queue-word4 .ensures) (c .before .wide3 .ensures) (c .if1 .taken)
 
-step-requires : tie.Need-step-requires Inv-loop μ-loop
-step-requires c κs =
-    let b = c .before .before .before .before .before in
-    below-capacity _ _ _ (b .before .before .before .before .before .pre .1 .1) _ _ (b .before .before .before .queue-word .ensures) (b .loop .inv .inside)
+add-wrapped : tie.Need-add-wrapped Inv-loop μ-loop
+add-wrapped c = omega (arith, c .before .before .before .before .loop .inv .inside, given-fits _ _ (c .before .before .before .before .before .before .before .before .before .before .before .args .q) _ (c .before .before .before .before .before .before .before .before .before .before .before .pre .0) refl)
+
+wrapped-requires : tie.Need-wrapped-requires Inv-loop μ-loop
+wrapped-requires c κs = let i = c .before .before .before .before .loop .inv .inside in let e = capacity-given _ _ _ (c .before .before .before .before .before .before .before .before .before .before .before .pre .1 .1) _ _ (c .before .before .before .before .before .before .before .before .wide .ensures) (c .before .before .before .before .before .before .before .before .before .queue-word .ensures) in omega arith
 
 loop-again : tie.Need-loop-again Inv-loop μ-loop
-loop-again c =
-    let b = c .before .before .before .before .before .before in
-    let capacity = b .before .before .before .queue-word .ensures in
-    record {
-      rest = below-more _ _ _ _ _ _ _ (b .loop .inv .rest) _ _ _ _ _ _ (c .before .before .before .before .before .loop-test .taken) (c .before .before .before .before .wide .ensures) (c .before .before .before .queue-word4 .ensures) (c .before .before .wide2 .ensures) (c .before .if1 .left) capacity (c .step .ensures) refl;
-      inside = step-inside _ _ _ (b .before .before .before .before .before .pre .1 .1) _ _ _ capacity (c .step .ensures) (b .loop .inv .inside);
-    }
+loop-again c = record { rest = below-more _ _ _ _ _ _ _ (c .before .before .before .before .before .loop .inv .rest) _ _ _ _ _ _ (c .before .before .before .before .loop-test .taken) refl (c .before .before .before .queue-word4 .ensures) (c .before .before .wide3 .ensures) (c .before .if1 .left) refl (next-step _ _ _ (c .before .before .before .before .before .before .before .before .before .before .before .before .pre .1 .1) _ (c .before .before .before .before .before .loop .inv .inside) _ _ (capacity-given _ _ _ (c .before .before .before .before .before .before .before .before .before .before .before .before .pre .1 .1) _ _ (c .before .before .before .before .before .before .before .before .before .wide .ensures) (c .before .before .before .before .before .before .before .before .before .before .queue-word .ensures)) (c .wrapped .ensures)) refl; inside = next-inside _ _ _ (c .before .before .before .before .before .before .before .before .before .before .before .before .pre .1 .1) _ (c .before .before .before .before .before .loop .inv .inside) _ _ (capacity-given _ _ _ (c .before .before .before .before .before .before .before .before .before .before .before .before .pre .1 .1) _ _ (c .before .before .before .before .before .before .before .before .before .wide .ensures) (c .before .before .before .before .before .before .before .before .before .before .queue-word .ensures)) (c .wrapped .ensures) }
 
 returns-2 : tie.Need-returns-2 Inv-loop μ-loop
 returns-2 c = below-done _ _ _ _ _ _ _ (c .before .loop .inv .rest) (c .loop-test .left)
@@ -68,15 +63,17 @@ held-below-spec =
     Inv-loop
     μ-loop
     queue-word-requires
+    (λ c κs. search needs)
     queue-word-requires-2
+    (λ c κs. search needs)
     queue-word-requires-3
     loop-holds
-    (λ c κs. search needs)
-    (λ c. search needs)
+    add-queue-word
     queue-word-requires-4
     (λ c κs. search needs)
     returns
-    step-requires
+    add-wrapped
+    wrapped-requires
     (λ c. search needs)
     (λ c. search needs)
     loop-again

@@ -1,0 +1,28 @@
+-- Assumes nothing.
+use native.Mathlib.Omega.{arith}
+use Rattle.rules.specs.Leads.{unused-right}
+use borrow.Author.Needs.{needs}
+use Rattle.rules.proofs.leads_unused.Statement.{statement}
+use Rattle.rules.proofs.leads_unused.Tie as tie
+
+returns : tie.Need-returns
+returns c = λ e. unused-right _ _ _ _ _ _ _ _ _ (c .before .before .before .before .pre .0) (omega arith) (omega arith) (omega arith) (c .before .wide3 .ensures) (c .wide4 .ensures) (c .before .before .before .wide .ensures) (c .before .before .wide2 .ensures) e
+
+pub leads-unused-spec : {M : Type 1} → statement M
+leads-unused-spec =
+    tie.close
+    (tie.spec
+    (λ c κs. search needs)
+    (λ c κs. search needs)
+    (λ c. search needs)
+    (λ c. search needs)
+    (λ c κs. search needs)
+    (λ c κs. search needs)
+    (λ c. search needs)
+    (λ c. search needs)
+    (λ c. search needs)
+    (λ c. search needs)
+    (λ c. search needs)
+    (λ c. search needs)
+    (λ c. search needs)
+    returns)
