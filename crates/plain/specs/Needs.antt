@@ -8,7 +8,7 @@ use native.Mathlib.Omega.{arith}
 use borrow.Author.Tests.{not-false, leb-true, ltb-true, lt-ltb, le-leb, eq-eqb, ne-eqb}
 use lib.Dec.{T, eqb, leb, ltb}
 use lib.ListN.{length, set}
-use Rattle.paper.specs.Image.{address, total, at, put, reg, flags, reach}
+use Rattle.paper.specs.Image.{address, word, total, at, put, reg, flags, reach}
 use Rattle.paper.specs.Flags.{flags-of, cc-of, error-of, pending-of}
 use Rattle.paper.specs.Orders.{op-of, a-of, b-of, order-of, two-registers, shape-of-order, holds, serves, mod-word, next-order, stack, past, operand, found, reading, storing, sets, unless-zero, on-bits, compared, flags-become, calls, effect, effect-of, checked, order, with-stack, changed, after-order}
 use Rattle.paper.specs.declared.Task.{Task}
@@ -381,3 +381,9 @@ found-is s im i a n f ef en = sym ef ∙ en
 -- a register is a word of its task's row
 pub in-row : (a : ℕ) → (1 ≤ a) × (a < 8) → a < 9
 in-row a h = omega (arith, h .1)
+
+-- the word at a place that an address leads to
+pub read-is : (s : Shape) (im : List ℕ) (i : Task) (a : ℕ) (r : Reach) (p : Place) (v : ℕ) → r ≡ reach s im i (address a) → r ≡ Reach.At p → v ≡ word im p
+    → found s im i a ≡ Found.Word v
+unfolding found
+read-is s im i a r p v er ep ev = rw (← er, ep, ev)

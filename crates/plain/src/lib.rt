@@ -41,6 +41,7 @@ use shapes::SERVICE_NUMBER;
 use shapes::TWO_REGISTERS;
 use shapes::entry;
 use truths::both;
+use words::read;
 
 // The words of a task's row that orders name.
 const NEXT_ORDER: usize = 0;
@@ -318,23 +319,27 @@ fn loads(s: Shape, im: &mut [u16], x: Seat, pc: u16, w: u16, n: u16) -> Went
 }
 
 // Jump if.
-fn jumps_if(s: Shape, im: &mut [u16], x: Seat, pc: u16, w: u16, n: u16) -> Went
+fn jumps_if(s: Shape, im: &mut [u16], x: Seat, pc: u16, w: u16) -> Went
     requires { ⌜ Sound s (now im) ⌝ }
     requires { ⌜ Seated s (now im) x ⌝ }
     requires { ⌜ Calm s (now im) x pc ⌝ }
     requires { ⌜ order s (now im) (x .task) ≡ checked (shape-of-order (order-of (op-of w))) s (now im) (x .task) w ⌝ }
     requires { ⌜ encoded (shape-of-order (order-of (op-of w))) ≡ 10 ⌝ }
-    requires { ⌜ found s (now im) (x .task) (pc + 1) ≡ Found.Word n ⌝ }
     ensures { λ r. ⌜ After s (now (im .entry)) (x .task) r (now (im .exit)) ⌝ }
 {
     let a = w / FIELD % FIELD;
     if !both(a <= MOST_CC, w % FIELD == 0) {
         return Went::Left;
     }
-    if own(s, im, x, FLAGS) == a {
-        return jump_on(s, im, x, pc + 2, n);
+    match reach(s, im, x, Address(pc + 1)) {
+        Reach::At(p) => {
+            if own(s, im, x, FLAGS) == a {
+                return jump_on(s, im, x, pc + 2, read(s, im, p));
+            }
+            jump_on(s, im, x, pc + 2, pc + 2)
+        }
+        Reach::Outside => Went::Left,
     }
-    jump_on(s, im, x, pc + 2, pc + 2)
 }
 
 // Call.
@@ -421,9 +426,6 @@ fn longer(s: Shape, im: &mut [u16], x: Seat, e: u8, pc: u16, w: u16, n: u16) -> 
     if e == ONE_REGISTER_AND_N {
         return loads(s, im, x, pc, w, n);
     }
-    if e == CONDITION_AND_N {
-        return jumps_if(s, im, x, pc, w, n);
-    }
     jumps_or_calls(s, im, x, pc, w, n)
 }
 
@@ -454,6 +456,9 @@ fn other(s: Shape, im: &mut [u16], x: Seat, e: u8, pc: u16, w: u16) -> Went
     requires { ⌜ e ≡ encoded (shape-of-order (order-of (op-of w))) ⌝ }
     ensures { λ r. ⌜ After s (now (im .entry)) (x .task) r (now (im .exit)) ⌝ }
 {
+    if e == CONDITION_AND_N {
+        return jumps_if(s, im, x, pc, w);
+    }
     if e % WORDS_END != TWO_WORDS {
         return shorter(s, im, x, e, pc, w);
     }

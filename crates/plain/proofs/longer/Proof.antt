@@ -7,9 +7,6 @@ use Rattle.plain.proofs.longer.Tie as tie
 loads-requires : tie.Need-loads-requires
 loads-requires c κs = (search needs, (search needs, (search needs, (search needs, (search entry-is, search needs)))))
 
-jumps-if-requires : tie.Need-jumps-if-requires
-jumps-if-requires c κs = (search needs, (search needs, (search needs, (search needs, (search entry-is, search needs)))))
-
 jumps-or-calls-requires : tie.Need-jumps-or-calls-requires
 jumps-or-calls-requires c κs = (search needs, (search needs, (search needs, (search needs, search needs))))
 
@@ -18,9 +15,6 @@ longer-spec =
     tie.close
     (tie.spec
     loads-requires
-    (λ c. search needs)
-    (λ c. search needs)
-    jumps-if-requires
     (λ c. search needs)
     (λ c. search needs)
     jumps-or-calls-requires
