@@ -1,17 +1,17 @@
 -- What the calls of this crate ask and make, as laws over values. Assumes nothing.
 use mathlib.Core.Path.{_≡_, refl, sym, ap, _∙_}
 use mathlib.Core.List.{List}
-use mathlib.Core.Bool.{Bool, true, false, cond, not, _&&_, _||_, and-eq-true-iff}
+use mathlib.Core.Bool.{Bool, true, false, cond, not, _&&_}
 use mathlib.Core.Logic.{_≢_, dite}
 use Prim.Native.Nat.{ℕ, _+_, _-_, _*_, _/_, _%_, _<_, _≤_, min, max}
 use native.Mathlib.Decide.{decLt}
 use native.Mathlib.Omega.{arith}
-use borrow.Author.Tests.{not-false, leb-true, ltb-true, lt-ltb, le-leb, eq-eqb, ne-eqb}
-use lib.Dec.{T, eqb, leb, ltb}
+use borrow.Author.Tests.{not-false, ltb-true, le-leb, eq-eqb, ne-eqb}
+use lib.Dec.{eqb, leb}
 use lib.ListN.{length, set}
 use Rattle.paper.specs.Image.{address, word, total, at, put, reg, flags, reach}
 use Rattle.paper.specs.Flags.{flags-of, cc-of, error-of, pending-of}
-use Rattle.paper.specs.Orders.{op-of, a-of, b-of, order-of, two-registers, shape-of-order, holds, serves, mod-word, next-order, stack, past, operand, found, reading, storing, sets, unless-zero, on-bits, compared, flags-become, calls, effect, effect-of, checked, order, with-stack, changed, after-order}
+use Rattle.paper.specs.Orders.{op-of, a-of, b-of, order-of, two-registers, shape-of-order, holds, serves, mod-word, next-order, stack, past, operand, found, reading, storing, sets, unless-zero, on-bits, compared, flags-become, calls, effect, effect-of, checked, order, changed}
 use Rattle.paper.specs.declared.Task.{Task}
 use Rattle.paper.specs.declared.Place.{Place}
 use Rattle.paper.specs.declared.Shape.{Shape}
@@ -25,7 +25,7 @@ use Rattle.paper.specs.declared.Reach.{Reach}
 use Rattle.paper.specs.declared.Change.{Change}
 use Rattle.paper.specs.declared.Effect.{Effect}
 use Rattle.laws.specs.Cells.{at-same, at-other, other-part, length-put}
-use Rattle.laws.specs.Segments.{InSegment, segment-upto, segment-valid, stored}
+use Rattle.laws.specs.Segments.{segment-upto, segment-valid, stored}
 use Rattle.laws.specs.Sound.{Sound, sound}
 use Rattle.laws.specs.Effects.{found-inside}
 use Rattle.shapes.specs.Entries.{encoded}

@@ -1,14 +1,12 @@
 // One order that goes through: it names R0 in no field, finds no error, and is carried out at once. Any other is left alone.
 ghost use mathlib.Core.Path.{_≡_};
-ghost use mathlib.Core.Bool.{_&&_, cond};
+ghost use mathlib.Core.Bool.{cond};
 ghost use Prim.Native.Nat.{_+_, _/_, _%_, _<_, _≤_, min};
-ghost use lib.Dec.{eqb, leb, ltb};
+ghost use lib.Dec.{eqb};
 ghost use Rattle.paper.specs.Image.{address, at as word-at, flags as flags-cell, reach as reach-of};
 ghost use Rattle.paper.specs.Orders.{op-of, order-of, two-registers, shape-of-order, on-bits, next-order, stack, mod-word, reading, storing, sets, unless-zero, flags-become, calls as calls-by, found, effect, checked, order};
-ghost use Rattle.paper.specs.declared.Op.{Op};
 ghost use Rattle.paper.specs.declared.Change.{Change};
 ghost use Rattle.paper.specs.declared.Effect.{Effect};
-ghost use Rattle.paper.specs.declared.Found.{Found};
 ghost use Rattle.laws.specs.Sound.{Sound};
 ghost use Rattle.shapes.specs.Entries.{Shapes, encoded};
 ghost use Rattle.seats.specs.Seated.{Seated, Inside};
