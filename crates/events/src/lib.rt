@@ -123,7 +123,7 @@ fn spend(s: Shape, im: &mut [u16])
 }
 
 // Rule 5: one order; the clock falls by 1.
-fn act(s: Shape, im: &mut [u16], shapes: &[u8; 256], t: Task) -> Reply
+fn act(s: Shape, im: &mut [u16], shapes: &[u16; 256], t: Task) -> Reply
     requires { ⌜ Sound s (now im) ⌝ }
     requires { ⌜ t .0 < s .n ⌝ }
     requires { ⌜ Shapes (now shapes) ⌝ }
@@ -151,7 +151,7 @@ fn asked(p: u16) -> Asked
 }
 
 // Rules 2 to 5, of the first task.
-pub fn turn_of(s: Shape, im: &mut [u16], shapes: &[u8; 256], t: Task) -> Reply
+pub fn turn_of(s: Shape, im: &mut [u16], shapes: &[u16; 256], t: Task) -> Reply
     requires { ⌜ Sound s (now im) ⌝ }
     requires { ⌜ t .0 < s .n ⌝ }
     requires { ⌜ Shapes (now shapes) ⌝ }
@@ -245,7 +245,7 @@ pub fn output_done(s: Shape, im: &mut [u16], t: Task) -> Reply
 }
 
 // A tick: the first rule that applies.
-pub fn tick(s: Shape, im: &mut [u16], shapes: &[u8; 256]) -> Reply
+pub fn tick(s: Shape, im: &mut [u16], shapes: &[u16; 256]) -> Reply
     requires { ⌜ Sound s (now im) ⌝ }
     requires { ⌜ Shapes (now shapes) ⌝ }
     requires { ⌜ Runs s (now im) ⌝ }

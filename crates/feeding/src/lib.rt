@@ -27,7 +27,7 @@ pub struct Fed {
 }
 
 // Carries out the event whose bytes start at a place.
-fn step_at(s: Shape, im: &mut [u16], shapes: &[u8; 256], bytes: &[u8], at: usize) -> Reply
+fn step_at(s: Shape, im: &mut [u16], shapes: &[u16; 256], bytes: &[u8], at: usize) -> Reply
     requires { ⌜ Lawful s (now im) ⌝ }
     requires { ⌜ Shapes (now shapes) ⌝ }
     requires { ⌜ at + event-bytes ≤ length (now bytes) ⌝ }
@@ -56,7 +56,7 @@ fn feed_short(text: usize, taken: usize, n: u64, out: &mut [u8]) -> Fed
 }
 
 // Takes the events of a buffer, the first of which has the number n, and writes their lines.
-fn feed(s: Shape, im: &mut [u16], shapes: &[u8; 256], bytes: &[u8], n: u64, out: &mut [u8]) -> Fed
+fn feed(s: Shape, im: &mut [u16], shapes: &[u16; 256], bytes: &[u8], n: u64, out: &mut [u8]) -> Fed
     requires { ⌜ Lawful s (now im) ⌝ }
     requires { ⌜ Shapes (now shapes) ⌝ }
     requires { ⌜ n + length (now bytes) < number-end ⌝ }
@@ -97,7 +97,7 @@ fn feed(s: Shape, im: &mut [u16], shapes: &[u8; 256], bytes: &[u8], n: u64, out:
 pub fn feed_buffer(
     s: Shape,
     im: &mut [u16],
-    shapes: &[u8; 256],
+    shapes: &[u16; 256],
     buffer: &[u8],
     found: usize,
     n: u64,

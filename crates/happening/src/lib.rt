@@ -13,7 +13,7 @@ use paper::Reply;
 use paper::Shape;
 
 // One event.
-fn happen(s: Shape, im: &mut [u16], shapes: &[u8; 256], e: Event) -> Reply
+fn happen(s: Shape, im: &mut [u16], shapes: &[u16; 256], e: Event) -> Reply
     requires { ⌜ Lawful s (now im) ⌝ }
     requires { ⌜ Formed s e ⌝ }
     requires { ⌜ Shapes (now shapes) ⌝ }
@@ -33,7 +33,7 @@ fn happen(s: Shape, im: &mut [u16], shapes: &[u8; 256], e: Event) -> Reply
 pub fn step(
     s: Shape,
     im: &mut [u16],
-    shapes: &[u8; 256],
+    shapes: &[u16; 256],
     kind: u16,
     device: u16,
     character: u16,

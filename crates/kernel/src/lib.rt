@@ -50,7 +50,7 @@ pub fn event(im: &mut [u16], kind: u16, device: u16, character: u16) -> Reply
 }
 
 // Event k of a list.
-fn take_event(s: Shape, im: &mut [u16], shapes: &[u8; 256], events: &[u16], k: usize) -> Reply
+fn take_event(s: Shape, im: &mut [u16], shapes: &[u16; 256], events: &[u16], k: usize) -> Reply
     requires { ⌜ Lawful s (now im) ⌝ }
     requires { ⌜ Shapes (now shapes) ⌝ }
     requires { ⌜ 3 * k + 2 < length (now events) ⌝ }
@@ -109,7 +109,7 @@ fn ticks_ahead(events: &[u16], from: usize, count: usize) -> usize
 }
 
 // Takes the events of a list, one after another, up to the first refused one.
-fn take_events(s: Shape, im: &mut [u16], shapes: &[u8; 256], events: &[u16]) -> Ended
+fn take_events(s: Shape, im: &mut [u16], shapes: &[u16; 256], events: &[u16]) -> Ended
     requires { ⌜ Lawful s (now im) ⌝ }
     requires { ⌜ Shapes (now shapes) ⌝ }
     requires { ⌜ length (now events) % 3 ≡ 0 ⌝ }

@@ -69,7 +69,7 @@ fn read_case(fd: i32, head: Head) -> Asked {
 
 // The answer to one order on an image.
 fn order_answer(
-    shapes: &[u8; 256],
+    shapes: &[u16; 256],
     trial: &mut [u16],
     image: &[u16],
     changes: &[u16; CHANGE_WORDS],
@@ -92,7 +92,7 @@ fn order_answer(
 
 // The answer to one word of the span, put where the case says.
 fn word_answer(
-    shapes: &[u8; 256],
+    shapes: &[u16; 256],
     trial: &mut [u16],
     image: &mut [u16],
     changes: &[u16; CHANGE_WORDS],
@@ -111,7 +111,7 @@ fn word_answer(
 
 // The tally with an order for each word of the span. The image is left as it was.
 fn span_tally(
-    shapes: &[u8; 256],
+    shapes: &[u16; 256],
     trial: &mut [u16],
     image: &mut [u16],
     changes: &[u16; CHANGE_WORDS],
@@ -144,7 +144,7 @@ fn is_right(changes: &[u16; CHANGE_WORDS], case: Case, words: usize) -> bool
 
 // The tally with a case whose changes are read, unless the record is bad.
 fn checked_tally(
-    shapes: &[u8; 256],
+    shapes: &[u16; 256],
     trial: &mut [u16],
     image: &mut [u16],
     changes: &[u16; CHANGE_WORDS],
@@ -170,7 +170,7 @@ fn checked_tally(
 // The tally with a case, its changes read from the file.
 fn case_tally(
     fd: i32,
-    shapes: &[u8; 256],
+    shapes: &[u16; 256],
     trial: &mut [u16],
     image: &mut [u16],
     case: Case,
@@ -193,7 +193,7 @@ fn case_tally(
 // The tally with a record of orders on an image.
 pub fn orders_tally(
     fd: i32,
-    shapes: &[u8; 256],
+    shapes: &[u16; 256],
     trial: &mut [u16],
     image: &mut [u16],
     head: Head,

@@ -37,7 +37,7 @@ fn error_of(flags: u16) -> u16 {
 }
 
 // Carries out one order of a task, and answers its outcome.
-fn carried_out(s: Shape, im: &mut [u16], shapes: &[u8; 256], t: Task) -> u16
+fn carried_out(s: Shape, im: &mut [u16], shapes: &[u16; 256], t: Task) -> u16
     requires { ⌜ Sound s (now im) ⌝ }
     requires { ⌜ t .0 < s .n ⌝ }
     requires { ⌜ Shapes (now shapes) ⌝ }
@@ -51,7 +51,7 @@ fn carried_out(s: Shape, im: &mut [u16], shapes: &[u8; 256], t: Task) -> u16
 }
 
 // Carries out one order of the first ready task of a sound image, and answers its outcome.
-fn first_outcome(s: Shape, im: &mut [u16], shapes: &[u8; 256]) -> Outcome
+fn first_outcome(s: Shape, im: &mut [u16], shapes: &[u16; 256]) -> Outcome
     requires { ⌜ Sound s (now im) ⌝ }
     requires { ⌜ Shapes (now shapes) ⌝ }
 {
@@ -66,7 +66,7 @@ fn first_outcome(s: Shape, im: &mut [u16], shapes: &[u8; 256]) -> Outcome
 }
 
 // Carries out one order of the first ready task of an image, and answers its outcome.
-pub fn outcome_of(im: &mut [u16], shapes: &[u8; 256]) -> Outcome
+pub fn outcome_of(im: &mut [u16], shapes: &[u16; 256]) -> Outcome
     requires { ⌜ Shapes (now shapes) ⌝ }
 {
     let found = inspect(im);

@@ -86,7 +86,7 @@ fn known(s: Shape, im: &[u16], t: Task, w: u16, n: u8, fa: Field, fb: Field) -> 
 }
 
 // What the order with first word w comes to.
-fn checked(s: Shape, im: &[u16], shapes: &[u8; 256], t: Task, w: u16) -> Effect
+fn checked(s: Shape, im: &[u16], shapes: &[u16; 256], t: Task, w: u16) -> Effect
     requires { ⌜ Sound s (now im) ⌝ }
     requires { ⌜ t .0 < s .n ⌝ }
     requires { ⌜ Shapes (now shapes) ⌝ }
@@ -100,7 +100,7 @@ fn checked(s: Shape, im: &[u16], shapes: &[u8; 256], t: Task, w: u16) -> Effect
 }
 
 // What the next order of a task comes to.
-fn decided(s: Shape, im: &[u16], shapes: &[u8; 256], t: Task) -> Effect
+fn decided(s: Shape, im: &[u16], shapes: &[u16; 256], t: Task) -> Effect
     requires { ⌜ Sound s (now im) ⌝ }
     requires { ⌜ t .0 < s .n ⌝ }
     requires { ⌜ Shapes (now shapes) ⌝ }
@@ -166,7 +166,7 @@ fn fault(s: Shape, im: &mut [u16], t: Task, e: u16)
 }
 
 // One order of a task.
-pub fn order(s: Shape, im: &mut [u16], shapes: &[u8; 256], t: Task) -> Answer
+pub fn order(s: Shape, im: &mut [u16], shapes: &[u16; 256], t: Task) -> Answer
     requires { ⌜ Sound s (now im) ⌝ }
     requires { ⌜ t .0 < s .n ⌝ }
     requires { ⌜ Shapes (now shapes) ⌝ }

@@ -1,16 +1,17 @@
 -- What the calls of this crate ask and make, as laws over values. Assumes nothing.
 use mathlib.Core.Path.{_≡_, refl, sym, ap, _∙_}
 use mathlib.Core.List.{List}
-use mathlib.Core.Bool.{Bool, true, false, cond, not, _&&_, _||_, and-eq-true-iff}
-use mathlib.Core.Logic.{_≢_}
+use mathlib.Core.Bool.{Bool, true, false, cond, not, _&&_}
+use mathlib.Core.Logic.{_≢_, dite}
 use Prim.Native.Nat.{ℕ, _+_, _-_, _*_, _/_, _%_, _<_, _≤_, min, max}
+use native.Mathlib.Decide.{decLt}
 use native.Mathlib.Omega.{arith}
-use borrow.Author.Tests.{not-false, leb-true, ltb-true, lt-ltb, le-leb, eq-eqb, ne-eqb}
-use lib.Dec.{T, eqb, leb, ltb}
+use borrow.Author.Tests.{not-false, ltb-true, le-leb, eq-eqb, ne-eqb}
+use lib.Dec.{eqb, leb}
 use lib.ListN.{length, set}
 use Rattle.paper.specs.Image.{address, word, total, at, put, reg, flags, reach}
 use Rattle.paper.specs.Flags.{flags-of, cc-of, error-of, pending-of}
-use Rattle.paper.specs.Orders.{op-of, a-of, b-of, order-of, two-registers, shape-of-order, holds, serves, mod-word, next-order, stack, past, operand, found, reading, storing, sets, unless-zero, on-bits, compared, flags-become, calls, effect, effect-of, checked, order, with-stack, changed, after-order}
+use Rattle.paper.specs.Orders.{op-of, a-of, b-of, order-of, two-registers, shape-of-order, holds, serves, mod-word, next-order, stack, past, operand, found, reading, storing, sets, unless-zero, on-bits, compared, flags-become, calls, effect, effect-of, checked, order, changed}
 use Rattle.paper.specs.declared.Task.{Task}
 use Rattle.paper.specs.declared.Place.{Place}
 use Rattle.paper.specs.declared.Shape.{Shape}
@@ -24,17 +25,17 @@ use Rattle.paper.specs.declared.Reach.{Reach}
 use Rattle.paper.specs.declared.Change.{Change}
 use Rattle.paper.specs.declared.Effect.{Effect}
 use Rattle.laws.specs.Cells.{at-same, at-other, other-part, length-put}
-use Rattle.laws.specs.Segments.{InSegment, segment-upto, segment-valid, stored}
+use Rattle.laws.specs.Segments.{segment-upto, segment-valid, stored}
 use Rattle.laws.specs.Sound.{Sound, sound}
 use Rattle.laws.specs.Effects.{found-inside}
-use Rattle.shapes.specs.Entries.{encoded, decoded}
-use Rattle.shapes.proofs.Rule.{shape-read}
+use Rattle.shapes.specs.Entries.{encoded}
 use Rattle.operands.specs.Needs.{operand-other}
 use Rattle.orders.specs.Needs.{register-made, store-made, flags-made, call-made, return-made, stacked}
 use Rattle.seats.specs.Seated.{Seated, Inside, seated}
 use Rattle.seats.specs.Needs.{reach-inside, segment-of}
 use Rattle.seats.specs.declared.Seat.{Seat}
 use Rattle.plain.specs.After.{Calm, After}
+use Rattle.plain.specs.Fields.{Fits, Clear, fields-hold, two-clear, load-clear, jump-clear, condition-clear, return-clear, service-clear}
 use Rattle.plain.specs.declared.Went.{Went}
 
 -- an order that is left changes nothing
@@ -199,59 +200,6 @@ module _ (s : Shape) (im : List ℕ) (i : Task) (op next a v y : ℕ) (eo : orde
         let whole : flags-of (compared v y) (error-of (at s im (flags i))) (pending-of (at s im (flags i))) ≡ r = omega (arith, er) in
         rw (← whole) (rw e at eo)
 
--- tests that pass
-module _ (p q t : Bool) (et : t ≡ (p && q)) (ok : not t ≡ false) where
-  both-held : (p ≡ true) × (q ≡ true)
-  both-held = and-eq-true-iff p q .0 (sym et ∙ not-false t ok)
-
-  pub first-held : p ≡ true
-  first-held = both-held .0
-
-  pub second-held : q ≡ true
-  second-held = both-held .1
-
--- a field that names a register other than R0
-module _ (a : ℕ) (p : Bool) (ep : p ≡ (leb 1 a && ltb a 8)) (held : p ≡ true) where
-  pub named-from : 1 ≤ a
-  named-from = leb-true 1 a (and-eq-true-iff (leb 1 a) (ltb a 8) .0 (sym ep ∙ held) .0)
-
-  pub named-below : a < 8
-  named-below = ltb-true a 8 (and-eq-true-iff (leb 1 a) (ltb a 8) .0 (sym ep ∙ held) .1)
-
-  pub named-row : a < 9
-  named-row = omega (arith, named-below)
-
--- the op that has a shape by itself
-abbrev alone : ℕ → Bool
-alone e = eqb e 6 || (eqb e 10 || (eqb e 1 || eqb e 13))
-
-abbrev the-op : ℕ → Op
-the-op e = cond (eqb e 6) Op.Load (cond (eqb e 10) Op.JumpIf (cond (eqb e 1) Op.Return Op.Service))
-
-entry-op : (o : Op) → T (alone (encoded (shape-of-order o))) → o ≡ the-op (encoded (shape-of-order o))
-entry-op Op.Unknown t = absurd t
-entry-op Op.Load t = refl
-entry-op Op.Copy t = absurd t
-entry-op Op.Fetch t = absurd t
-entry-op Op.Store t = absurd t
-entry-op Op.Add t = absurd t
-entry-op Op.Subtract t = absurd t
-entry-op Op.Multiply t = absurd t
-entry-op Op.Quotient t = absurd t
-entry-op Op.Remainder t = absurd t
-entry-op Op.And t = absurd t
-entry-op Op.Or t = absurd t
-entry-op Op.ExclusiveOr t = absurd t
-entry-op Op.Compare t = absurd t
-entry-op Op.Jump t = absurd t
-entry-op Op.JumpIf t = refl
-entry-op Op.Call t = absurd t
-entry-op Op.Return t = refl
-entry-op Op.Service t = refl
-
-op-is : (o : Op) (e : ℕ) → T (alone e) → encoded (shape-of-order o) ≡ e → o ≡ the-op e
-op-is o e t h = entry-op o (rw h t) ∙ ap the-op h
-
 -- the first word's address before all
 module _ (s : Shape) (im : List ℕ) (x : Seat) (pc w : ℕ) (f : Found) (en : pc ≡ at s im (next-order (x .task))) (ef : f ≡ found s im (x .task) pc)
     (fw : f ≡ Found.Word w) where
@@ -262,6 +210,10 @@ module _ (s : Shape) (im : List ℕ) (x : Seat) (pc w : ℕ) (f : Found) (en : p
   pub is-ordered : order s im (x .task) ≡ checked (shape-of-order (order-of (op-of w))) s im (x .task) w
   unfolding order
   is-ordered = rw (← en, ← ef, fw)
+
+-- a number other than 0
+pos : (a : ℕ) → a ≢ 0 → 1 ≤ a
+pos a ne = dite (decLt 0 a) (λ l. l) (λ l. absurd (ne (omega arith)))
 
 -- an order of a known shape whose fields hold what they may
 module _ (s : Shape) (im : List ℕ) (x : Seat) (pc : ℕ) (g : Sound s im) (h : Seated s im x) (calm : Calm s im x pc) where
@@ -281,7 +233,7 @@ module _ (s : Shape) (im : List ℕ) (x : Seat) (pc : ℕ) (g : Sound s im) (h :
   pub is-low-1 : pc + 1 < 65536
   is-low-1 = omega (arith, is-low)
 
-  module _ (w : ℕ) (eo : order s im (x .task) ≡ checked (shape-of-order (order-of (op-of w))) s im (x .task) w) where
+  module _ (w : ℕ) (eo : order s im (x .task) ≡ checked (shape-of-order (order-of (op-of w))) s im (x .task) w) (fits : Fits w) where
     abbrev Acts : Op → ℕ → Type 0
     Acts o n = order s im (x .task) ≡ effect o s im (x .task) (pc + n) (a-of w) (operand s im (x .task) (pc + n) (a-of w)) (operand s im (x .task) (pc + n) (b-of w))
 
@@ -292,91 +244,99 @@ module _ (s : Shape) (im : List ℕ) (x : Seat) (pc : ℕ) (g : Sound s im) (h :
         let past-is : past s im (x .task) n ≡ pc + n = omega (arith, next-is, is-low) in
         rw (e, sh, ha, hb, hs, e, past-is) at eo
 
+    -- the fields of the order with op k
+    fields : (k e : ℕ) (fa fb : Field) → Clear e fa fb → op-of w ≡ k → encoded (shape-of-order (order-of k)) ≡ e
+        → (holds fa (a-of w) ≡ true) × (holds fb (b-of w) ≡ true)
+    fields k e fa fb t ek ee = fields-hold w e fa fb t (rw ek ee) fits
+
     -- two registers
-    pub two-act : (a b v y : ℕ) (p q t : Bool) → encoded (shape-of-order (order-of (op-of w))) ≡ 21 → a ≡ a-of w → b ≡ b-of w → p ≡ (leb 1 a && ltb a 8)
-        → q ≡ (leb 1 b && ltb b 8) → t ≡ (p && q) → not t ≡ false → v ≡ at s im (reg (x .task) a) → y ≡ at s im (reg (x .task) b)
-        → order s im (x .task) ≡ effect (order-of (op-of w)) s im (x .task) (pc + 1) a v y
-    unfolding decoded
-    two-act a b v y p q t ee ea eb ep eq et ok ev ey =
-        let both = both-held p q t et ok in
-        let la = named-from a p ep (both .0) in
-        let ha = named-below a p ep (both .0) in
-        let lb = named-from b q eq (both .1) in
-        let hb = named-below b q eq (both .1) in
-        let shape : shape-of-order (order-of (op-of w)) ≡ two-registers = sym (shape-read (op-of w) 21 (sym ee)) in
-        let acts =
-            known-acts (order-of (op-of w)) 1 Field.Register Field.Register (omega arith) refl shape (lt-ltb (a-of w) 8 (omega arith)) (lt-ltb (b-of w) 8 (omega arith)) refl in
-        let va = operand-other s im (x .task) (pc + 1) a v g (seated h .among) ha (λ z. omega arith) ev in
-        let vb = operand-other s im (x .task) (pc + 1) b y g (seated h .among) hb (λ z. omega arith) ey in
-        rw (va, vb, ea, eb) acts
+    module _ (op : ℕ) (eop : op-of w ≡ op) (shape : shape-of-order (order-of op) ≡ two-registers) where
+      registers : (holds Field.Register (a-of w) ≡ true) × (holds Field.Register (b-of w) ≡ true)
+      registers = fields op 5512 Field.Register Field.Register two-clear eop (ap encoded shape)
 
-    -- a second word
-    module _ (n : ℕ) (en : found s im (x .task) (pc + 1) ≡ Found.Word n) where
-      second-is : found s im (x .task) (at s im (next-order (x .task)) + 1) ≡ Found.Word n
-      second-is = rw (← next-is) en
+      module _ (a : ℕ) (ea : a ≡ a-of w) where
+        a-below : a < 8
+        a-below = rw ea (ltb-true (a-of w) 8 (registers .0))
 
-      pub load-acts : (a : ℕ) (p t : Bool) → encoded (shape-of-order (order-of (op-of w))) ≡ 6 → a ≡ a-of w → p ≡ (leb 1 a && ltb a 8)
-          → t ≡ (p && eqb (b-of w) 0) → not t ≡ false → order s im (x .task) ≡ sets (pc + 2) a n
-      load-acts a p t ee ea ep et ok =
-          let both = both-held p (eqb (b-of w) 0) t et ok in
-          let ha = named-below a p ep (both .0) in
-          let acts =
-              known-acts Op.Load 2 Field.Register Field.Unused (omega arith) (op-is (order-of (op-of w)) 6 tt ee) refl (lt-ltb (a-of w) 8 (omega arith)) (both .1) refl in
-          rw ea (rw second-is at acts)
+        pub a-in-row : a < 9
+        a-in-row = omega (arith, a-below)
 
-      module _ (t : Bool) (f : ℕ) (ee : encoded (shape-of-order (order-of (op-of w))) ≡ 10) (et : t ≡ (leb (a-of w) 2 && eqb (b-of w) 0)) (ok : not t ≡ false)
-          (ef : f ≡ at s im (reg (x .task) 8)) where
-        condition-acts : (c : Bool) → eqb (cc-of (at s im (reg (x .task) 8))) (a-of w) ≡ c → order s im (x .task) ≡ sets (pc + 2) 0 (cond c n (pc + 2))
-        condition-acts c ec =
-            let both = both-held (leb (a-of w) 2) (eqb (b-of w) 0) t et ok in
-            let acts = known-acts Op.JumpIf 2 Field.Condition Field.Unused (omega arith) (op-is (order-of (op-of w)) 10 tt ee) refl (both .0) (both .1) refl in
-            rw (second-is, ec) at acts
+        pub a-named : a ≢ 0 → (1 ≤ a) × (a < 8)
+        a-named ne = (pos a ne, a-below)
 
-        pub jump-taken : f ≡ a-of w → order s im (x .task) ≡ sets (pc + 2) 0 n
-        jump-taken e =
-            let same : cc-of (at s im (reg (x .task) 8)) ≡ a-of w = omega (arith, ef, is-quiet) in
-            condition-acts true (eq-eqb (cc-of (at s im (reg (x .task) 8))) (a-of w) same)
+      module _ (b : ℕ) (eb : b ≡ b-of w) where
+        b-below : b < 8
+        b-below = rw eb (ltb-true (b-of w) 8 (registers .1))
 
-        pub jump-passed : f ≢ a-of w → order s im (x .task) ≡ sets (pc + 2) 0 (pc + 2)
-        jump-passed e =
-            let apart : cc-of (at s im (reg (x .task) 8)) ≢ a-of w = λ z. e (omega (arith, ef, is-quiet)) in
-            condition-acts false (ne-eqb (cc-of (at s im (reg (x .task) 8))) (a-of w) apart)
+        pub b-in-row : b < 9
+        b-in-row = omega (arith, b-below)
 
-      module _ (t : Bool) (et : t ≡ (eqb (a-of w) 0 && eqb (b-of w) 0)) (ok : not t ≡ false) where
-        alone-acts : (o : Op) → order-of (op-of w) ≡ o → shape-of-order o ≡ OrderShape.Known 2 Field.Unused Field.Unused → Acts o 2
-        alone-acts o e sh =
-            let both = both-held (eqb (a-of w) 0) (eqb (b-of w) 0) t et ok in
-            known-acts o 2 Field.Unused Field.Unused (omega arith) e sh (both .0) (both .1) refl
+      pub two-act : (a b v y : ℕ) → a ≡ a-of w → b ≡ b-of w → a ≢ 0 → b ≢ 0 → v ≡ at s im (reg (x .task) a) → y ≡ at s im (reg (x .task) b)
+          → order s im (x .task) ≡ effect (order-of op) s im (x .task) (pc + 1) a v y
+      two-act a b v y ea eb na nb ev ey =
+          let acts = known-acts (order-of op) 1 Field.Register Field.Register (omega arith) (ap order-of eop) shape (registers .0) (registers .1) refl in
+          let va = operand-other s im (x .task) (pc + 1) a v g (seated h .among) (a-below a ea) na ev in
+          let vb = operand-other s im (x .task) (pc + 1) b y g (seated h .among) (b-below b eb) nb ey in
+          rw (va, vb, ea, eb) acts
 
-        pub jump-acts : op-of w ≡ 14 → order s im (x .task) ≡ sets (pc + 2) 0 n
-        jump-acts e = rw second-is at (alone-acts Op.Jump (ap order-of e) refl)
+    -- a register and a second word
+    module _ (op : op-of w ≡ 1) (a : ℕ) (ea : a ≡ a-of w) (ne : a ≢ 0) where
+      load-fields : (holds Field.Register (a-of w) ≡ true) × (holds Field.Unused (b-of w) ≡ true)
+      load-fields = fields 1 1679 Field.Register Field.Unused load-clear op refl
 
-        pub call-acts : op-of w ≡ 16 → order s im (x .task) ≡ calls s im (x .task) (pc + 2) (mod-word (at s im (stack (x .task)) + 65535)) n
-        call-acts e = rw second-is at (alone-acts Op.Call (ap order-of e) refl)
+      pub load-named : (1 ≤ a) × (a < 8)
+      load-named = (pos a ne, rw ea (ltb-true (a-of w) 8 (load-fields .0)))
+
+      pub load-acts : (n : ℕ) (f : Found) → f ≡ found s im (x .task) (pc + 1) → f ≡ Found.Word n → order s im (x .task) ≡ sets (pc + 2) a n
+      load-acts n f ef fw =
+          let acts = known-acts Op.Load 2 Field.Register Field.Unused (omega arith) (ap order-of op) refl (load-fields .0) (load-fields .1) refl in
+          rw ea (rw (← next-is, ← ef, fw) at acts)
+
+    -- a condition and a second word
+    module _ (n f : ℕ) (en : found s im (x .task) (pc + 1) ≡ Found.Word n) (op : op-of w ≡ 15) (low : a-of w ≤ 2) (ef : f ≡ at s im (reg (x .task) 8)) where
+      condition-acts : (c : Bool) → eqb (cc-of (at s im (reg (x .task) 8))) (a-of w) ≡ c → order s im (x .task) ≡ sets (pc + 2) 0 (cond c n (pc + 2))
+      condition-acts c ec =
+          let none = fields 15 2767 Field.Service Field.Unused condition-clear op refl in
+          let acts = known-acts Op.JumpIf 2 Field.Condition Field.Unused (omega arith) (ap order-of op) refl (le-leb (a-of w) 2 low) (none .1) refl in
+          rw (← next-is, en, ec) at acts
+
+      pub jump-taken : f ≡ a-of w → order s im (x .task) ≡ sets (pc + 2) 0 n
+      jump-taken e =
+          let same : cc-of (at s im (reg (x .task) 8)) ≡ a-of w = omega (arith, ef, is-quiet) in
+          condition-acts true (eq-eqb (cc-of (at s im (reg (x .task) 8))) (a-of w) same)
+
+      pub jump-passed : f ≢ a-of w → order s im (x .task) ≡ sets (pc + 2) 0 (pc + 2)
+      jump-passed e =
+          let apart : cc-of (at s im (reg (x .task) 8)) ≢ a-of w = λ z. e (omega (arith, ef, is-quiet)) in
+          condition-acts false (ne-eqb (cc-of (at s im (reg (x .task) 8))) (a-of w) apart)
+
+    -- a second word alone
+    module _ (n : ℕ) (f : Found) (ef : f ≡ found s im (x .task) (pc + 1)) (fw : f ≡ Found.Word n) where
+      alone-acts : (k : ℕ) → op-of w ≡ k → shape-of-order (order-of k) ≡ OrderShape.Known 2 Field.Unused Field.Unused → Acts (order-of k) 2
+      alone-acts k e sh =
+          let none = fields k 767 Field.Unused Field.Unused jump-clear e (ap encoded sh) in
+          known-acts (order-of k) 2 Field.Unused Field.Unused (omega arith) (ap order-of e) sh (none .0) (none .1) refl
+
+      pub jump-acts : op-of w ≡ 14 → order s im (x .task) ≡ sets (pc + 2) 0 n
+      jump-acts e = rw (← next-is, ← ef, fw) at (alone-acts 14 e refl)
+
+      pub call-acts : op-of w ≡ 16 → order s im (x .task) ≡ calls s im (x .task) (pc + 2) (mod-word (at s im (stack (x .task)) + 65535)) n
+      call-acts e = rw (← next-is, ← ef, fw) at (alone-acts 16 e refl)
 
     -- one word
-    pub return-acts : (t : Bool) (v top n : ℕ) (f : Found) → encoded (shape-of-order (order-of (op-of w))) ≡ 1 → t ≡ (eqb (a-of w) 0 && eqb (b-of w) 0)
-        → not t ≡ false → v ≡ at s im (reg (x .task) 1) → f ≡ found s im (x .task) v → f ≡ Found.Word n → top ≡ mod-word (v + 1)
-        → order s im (x .task) ≡ Effect.Does (pc + 1) (Change.Return top n)
-    return-acts t v top n f ee et ok ev ef fw etop =
-        let both = both-held (eqb (a-of w) 0) (eqb (b-of w) 0) t et ok in
-        let acts = known-acts Op.Return 1 Field.Unused Field.Unused (omega arith) (op-is (order-of (op-of w)) 1 tt ee) refl (both .0) (both .1) refl in
+    pub return-acts : (v top n : ℕ) (f : Found) → op-of w ≡ 17 → v ≡ at s im (reg (x .task) 1) → f ≡ found s im (x .task) v → f ≡ Found.Word n
+        → top ≡ mod-word (v + 1) → order s im (x .task) ≡ Effect.Does (pc + 1) (Change.Return top n)
+    return-acts v top n f e ev ef fw etop =
+        let none = fields 17 511 Field.Unused Field.Unused return-clear e refl in
+        let acts = known-acts Op.Return 1 Field.Unused Field.Unused (omega arith) (ap order-of e) refl (none .0) (none .1) refl in
         rw etop (rw (← ev, ← ef, fw) at acts)
 
-    pub service-acts : (p t : Bool) (v f : ℕ) → encoded (shape-of-order (order-of (op-of w))) ≡ 13 → p ≡ (leb 1 (a-of w) && leb (a-of w) 4) → t ≡ (p && eqb (b-of w) 0)
-        → not t ≡ false → v ≡ at s im (reg (x .task) 8) → f ≡ flags-of (cc-of v) (error-of v) (a-of w)
-        → order s im (x .task) ≡ flags-become (pc + 1) f
-    service-acts p t v f ee ep et ok ev ef =
-        let both = both-held p (eqb (b-of w) 0) t et ok in
-        let acts = known-acts Op.Service 1 Field.Service Field.Unused (omega arith) (op-is (order-of (op-of w)) 13 tt ee) refl refl (both .1) (sym ep ∙ both .0) in
+    pub service-acts : (t : Bool) (v f : ℕ) → op-of w ≡ 18 → t ≡ (leb 1 (a-of w) && leb (a-of w) 4) → not t ≡ false
+        → v ≡ at s im (reg (x .task) 8) → f ≡ flags-of (cc-of v) (error-of v) (a-of w) → order s im (x .task) ≡ flags-become (pc + 1) f
+    service-acts t v f e et ok ev ef =
+        let none = fields 18 3343 Field.Service Field.Unused service-clear e refl in
+        let acts = known-acts Op.Service 1 Field.Service Field.Unused (omega arith) (ap order-of e) refl refl (none .1) (sym et ∙ not-false t ok) in
         rw (ef, ev) acts
-
--- the entry of the table is the one that a test found
-pub entry-is : (o : Op) (e k : ℕ) → e ≡ encoded (shape-of-order o) → e ≡ k → encoded (shape-of-order o) ≡ k
-entry-is o e k ee ek = sym ee ∙ ek
-
-pub found-is : (s : Shape) (im : List ℕ) (i : Task) (a n : ℕ) (f : Found) → f ≡ found s im i a → f ≡ Found.Word n → found s im i a ≡ Found.Word n
-found-is s im i a n f ef en = sym ef ∙ en
 
 -- a register is a word of its task's row
 pub in-row : (a : ℕ) → (1 ≤ a) × (a < 8) → a < 9

@@ -1,18 +1,17 @@
 // One order that goes through: it names R0 in no field, finds no error, and is carried out at once. Any other is left alone.
 ghost use mathlib.Core.Path.{_≡_};
-ghost use mathlib.Core.Bool.{_&&_, cond};
-ghost use Prim.Native.Nat.{_+_, _/_, _%_, _<_, _≤_};
-ghost use lib.Dec.{eqb, leb, ltb};
+ghost use mathlib.Core.Bool.{cond};
+ghost use Prim.Native.Nat.{_+_, _/_, _%_, _<_, _≤_, min};
+ghost use lib.Dec.{eqb};
 ghost use Rattle.paper.specs.Image.{address, at as word-at, flags as flags-cell, reach as reach-of};
-ghost use Rattle.paper.specs.Orders.{op-of, order-of, shape-of-order, next-order, stack, mod-word, reading, storing, sets, unless-zero, flags-become, calls as calls-by, found, effect, checked, order};
-ghost use Rattle.paper.specs.declared.Op.{Op};
+ghost use Rattle.paper.specs.Orders.{op-of, order-of, two-registers, shape-of-order, on-bits, next-order, stack, mod-word, reading, storing, sets, unless-zero, flags-become, calls as calls-by, found, effect, checked, order};
 ghost use Rattle.paper.specs.declared.Change.{Change};
 ghost use Rattle.paper.specs.declared.Effect.{Effect};
-ghost use Rattle.paper.specs.declared.Found.{Found};
 ghost use Rattle.laws.specs.Sound.{Sound};
 ghost use Rattle.shapes.specs.Entries.{Shapes, encoded};
 ghost use Rattle.seats.specs.Seated.{Seated, Inside};
 ghost use Rattle.plain.specs.After.{Calm, After};
+ghost use Rattle.plain.specs.Fields.{Fits};
 use paper::Address;
 use paper::Found;
 use paper::Place;
@@ -33,12 +32,6 @@ use seats::put_own;
 use seats::reach;
 use seats::word_at;
 use seats::write_at;
-use shapes::CONDITION_AND_N;
-use shapes::NO_FIELD;
-use shapes::N_ALONE;
-use shapes::ONE_REGISTER_AND_N;
-use shapes::SERVICE_NUMBER;
-use shapes::TWO_REGISTERS;
 use shapes::entry;
 use truths::both;
 use words::read;
@@ -50,9 +43,7 @@ const STACK: usize = 1;
 
 const FLAGS: usize = 8;
 
-// Registers are below this, conditions and services at most this.
-const REGISTERS: usize = 8;
-
+// Conditions and services are at most this.
 const MOST_CC: u16 = 2;
 
 const MOST_SERVICE: u16 = 4;
@@ -62,15 +53,12 @@ const OP: u16 = 256;
 
 const FIELD: u16 = 16;
 
-// An entry of the table of shapes starts with the count of words, below this.
-const WORDS_END: u8 = 4;
-
-const TWO_WORDS: u8 = 2;
-
 // Added mod 65536, the last word lowers by 1.
 const LAST_WORD: u16 = 65535;
 
-// The orders that a shape does not tell from one another.
+// The orders.
+const LOAD: u16 = 1;
+
 const COPY: u16 = 2;
 
 const FETCH: u16 = 3;
@@ -97,20 +85,19 @@ const COMPARE: u16 = 13;
 
 const JUMP: u16 = 14;
 
+const JUMP_IF: u16 = 15;
+
 const CALL: u16 = 16;
+
+const RETURN: u16 = 17;
+
+const SERVICE: u16 = 18;
 
 // What became of an order: it was carried out and another may follow, at the address given, or it asks for a service; or it was left.
 pub enum Went {
     On(usize),
     Asked,
     Left,
-}
-
-// Whether a field names a register other than R0.
-fn named(a: usize) -> bool
-    ensures { λ r. ⌜ r ≡ (leb 1 a && ltb a 8) ⌝ }
-{
-    both(1 <= a, a < REGISTERS)
 }
 
 // Register a becomes v.
@@ -283,39 +270,63 @@ fn works(s: Shape, im: &mut [u16], x: Seat, op: u16, next: u16, a: usize, v: u16
 }
 
 // An order of two registers, with first word w.
-fn two_registers(s: Shape, im: &mut [u16], x: Seat, pc: u16, w: u16) -> Went
+fn two_registers(s: Shape, im: &mut [u16], x: Seat, op: u16, pc: u16, w: u16) -> Went
     requires { ⌜ Sound s (now im) ⌝ }
     requires { ⌜ Seated s (now im) x ⌝ }
     requires { ⌜ Calm s (now im) x pc ⌝ }
     requires { ⌜ order s (now im) (x .task) ≡ checked (shape-of-order (order-of (op-of w))) s (now im) (x .task) w ⌝ }
-    requires { ⌜ encoded (shape-of-order (order-of (op-of w))) ≡ 21 ⌝ }
+    requires { ⌜ Fits w ⌝ }
+    requires { ⌜ op-of w ≡ op ⌝ }
+    requires { ⌜ shape-of-order (order-of op) ≡ two-registers ⌝ }
     ensures { λ r. ⌜ After s (now (im .entry)) (x .task) r (now (im .exit)) ⌝ }
 {
     let a = wide(w / FIELD % FIELD);
     let b = wide(w % FIELD);
-    if !both(named(a), named(b)) {
+    if a == 0 {
+        return Went::Left;
+    }
+    if b == 0 {
         return Went::Left;
     }
     let v = own(s, im, x, a);
     let y = own(s, im, x, b);
-    works(s, im, x, w / OP, pc + 1, a, v, y)
+    works(s, im, x, op, pc + 1, a, v, y)
 }
 
 // Load.
-fn loads(s: Shape, im: &mut [u16], x: Seat, pc: u16, w: u16, n: u16) -> Went
+fn loads(s: Shape, im: &mut [u16], x: Seat, pc: u16, w: u16) -> Went
     requires { ⌜ Sound s (now im) ⌝ }
     requires { ⌜ Seated s (now im) x ⌝ }
     requires { ⌜ Calm s (now im) x pc ⌝ }
     requires { ⌜ order s (now im) (x .task) ≡ checked (shape-of-order (order-of (op-of w))) s (now im) (x .task) w ⌝ }
-    requires { ⌜ encoded (shape-of-order (order-of (op-of w))) ≡ 6 ⌝ }
-    requires { ⌜ found s (now im) (x .task) (pc + 1) ≡ Found.Word n ⌝ }
+    requires { ⌜ Fits w ⌝ }
+    requires { ⌜ op-of w ≡ 1 ⌝ }
     ensures { λ r. ⌜ After s (now (im .entry)) (x .task) r (now (im .exit)) ⌝ }
 {
     let a = wide(w / FIELD % FIELD);
-    if !both(named(a), w % FIELD == 0) {
+    if a == 0 {
         return Went::Left;
     }
-    set_on(s, im, x, pc + 2, a, n)
+    match word_at(s, im, x, Address(pc + 1)) {
+        Found::Word(n) => set_on(s, im, x, pc + 2, a, n),
+        Found::Outside => Went::Left,
+    }
+}
+
+// Jump.
+fn jumps(s: Shape, im: &mut [u16], x: Seat, pc: u16, w: u16) -> Went
+    requires { ⌜ Sound s (now im) ⌝ }
+    requires { ⌜ Seated s (now im) x ⌝ }
+    requires { ⌜ Calm s (now im) x pc ⌝ }
+    requires { ⌜ order s (now im) (x .task) ≡ checked (shape-of-order (order-of (op-of w))) s (now im) (x .task) w ⌝ }
+    requires { ⌜ Fits w ⌝ }
+    requires { ⌜ op-of w ≡ 14 ⌝ }
+    ensures { λ r. ⌜ After s (now (im .entry)) (x .task) r (now (im .exit)) ⌝ }
+{
+    match word_at(s, im, x, Address(pc + 1)) {
+        Found::Word(n) => jump_on(s, im, x, pc + 2, n),
+        Found::Outside => Went::Left,
+    }
 }
 
 // Jump if.
@@ -324,11 +335,12 @@ fn jumps_if(s: Shape, im: &mut [u16], x: Seat, pc: u16, w: u16) -> Went
     requires { ⌜ Seated s (now im) x ⌝ }
     requires { ⌜ Calm s (now im) x pc ⌝ }
     requires { ⌜ order s (now im) (x .task) ≡ checked (shape-of-order (order-of (op-of w))) s (now im) (x .task) w ⌝ }
-    requires { ⌜ encoded (shape-of-order (order-of (op-of w))) ≡ 10 ⌝ }
+    requires { ⌜ Fits w ⌝ }
+    requires { ⌜ op-of w ≡ 15 ⌝ }
     ensures { λ r. ⌜ After s (now (im .entry)) (x .task) r (now (im .exit)) ⌝ }
 {
     let a = w / FIELD % FIELD;
-    if !both(a <= MOST_CC, w % FIELD == 0) {
+    if a > MOST_CC {
         return Went::Left;
     }
     match reach(s, im, x, Address(pc + 1)) {
@@ -342,8 +354,8 @@ fn jumps_if(s: Shape, im: &mut [u16], x: Seat, pc: u16, w: u16) -> Went
     }
 }
 
-// Call.
-fn calls(s: Shape, im: &mut [u16], x: Seat, next: u16, n: u16) -> Went
+// A call to n.
+fn calls_to(s: Shape, im: &mut [u16], x: Seat, next: u16, n: u16) -> Went
     requires { ⌜ Sound s (now im) ⌝ }
     requires { ⌜ Seated s (now im) x ⌝ }
     requires { ⌜ word-at s (now im) (flags-cell (x .task)) < 4 ⌝ }
@@ -357,23 +369,19 @@ fn calls(s: Shape, im: &mut [u16], x: Seat, next: u16, n: u16) -> Went
     }
 }
 
-// Jump or call.
-fn jumps_or_calls(s: Shape, im: &mut [u16], x: Seat, pc: u16, w: u16, n: u16) -> Went
+// Call.
+fn calls(s: Shape, im: &mut [u16], x: Seat, pc: u16, w: u16) -> Went
     requires { ⌜ Sound s (now im) ⌝ }
     requires { ⌜ Seated s (now im) x ⌝ }
     requires { ⌜ Calm s (now im) x pc ⌝ }
     requires { ⌜ order s (now im) (x .task) ≡ checked (shape-of-order (order-of (op-of w))) s (now im) (x .task) w ⌝ }
-    requires { ⌜ found s (now im) (x .task) (pc + 1) ≡ Found.Word n ⌝ }
+    requires { ⌜ Fits w ⌝ }
+    requires { ⌜ op-of w ≡ 16 ⌝ }
     ensures { λ r. ⌜ After s (now (im .entry)) (x .task) r (now (im .exit)) ⌝ }
 {
-    if !both(w / FIELD % FIELD == 0, w % FIELD == 0) {
-        return Went::Left;
-    }
-    let op = w / OP;
-    match op {
-        JUMP => jump_on(s, im, x, pc + 2, n),
-        CALL => calls(s, im, x, pc + 2, n),
-        _ => Went::Left,
+    match word_at(s, im, x, Address(pc + 1)) {
+        Found::Word(n) => calls_to(s, im, x, pc + 2, n),
+        Found::Outside => Went::Left,
     }
 }
 
@@ -383,12 +391,10 @@ fn returns(s: Shape, im: &mut [u16], x: Seat, pc: u16, w: u16) -> Went
     requires { ⌜ Seated s (now im) x ⌝ }
     requires { ⌜ Calm s (now im) x pc ⌝ }
     requires { ⌜ order s (now im) (x .task) ≡ checked (shape-of-order (order-of (op-of w))) s (now im) (x .task) w ⌝ }
-    requires { ⌜ encoded (shape-of-order (order-of (op-of w))) ≡ 1 ⌝ }
+    requires { ⌜ Fits w ⌝ }
+    requires { ⌜ op-of w ≡ 17 ⌝ }
     ensures { λ r. ⌜ After s (now (im .entry)) (x .task) r (now (im .exit)) ⌝ }
 {
-    if !both(w / FIELD % FIELD == 0, w % FIELD == 0) {
-        return Went::Left;
-    }
     let top = own(s, im, x, STACK);
     match word_at(s, im, x, Address(top)) {
         Found::Word(n) => return_on(s, im, x, pc + 1, sum(top, 1), n),
@@ -402,74 +408,61 @@ fn asks(s: Shape, im: &mut [u16], x: Seat, pc: u16, w: u16) -> Went
     requires { ⌜ Seated s (now im) x ⌝ }
     requires { ⌜ Calm s (now im) x pc ⌝ }
     requires { ⌜ order s (now im) (x .task) ≡ checked (shape-of-order (order-of (op-of w))) s (now im) (x .task) w ⌝ }
-    requires { ⌜ encoded (shape-of-order (order-of (op-of w))) ≡ 13 ⌝ }
+    requires { ⌜ Fits w ⌝ }
+    requires { ⌜ op-of w ≡ 18 ⌝ }
     ensures { λ r. ⌜ After s (now (im .entry)) (x .task) r (now (im .exit)) ⌝ }
 {
     let a = w / FIELD % FIELD;
-    if !both(both(1 <= a, a <= MOST_SERVICE), w % FIELD == 0) {
+    if !both(1 <= a, a <= MOST_SERVICE) {
         return Went::Left;
     }
     let f = with_pending(own(s, im, x, FLAGS), a);
     ask(s, im, x, pc + 1, f)
 }
 
-// An order whose second word is n.
-fn longer(s: Shape, im: &mut [u16], x: Seat, e: u8, pc: u16, w: u16, n: u16) -> Went
+// An order whose fields fit, by its op.
+fn by_op(s: Shape, im: &mut [u16], x: Seat, pc: u16, w: u16) -> Went
     requires { ⌜ Sound s (now im) ⌝ }
     requires { ⌜ Seated s (now im) x ⌝ }
     requires { ⌜ Calm s (now im) x pc ⌝ }
     requires { ⌜ order s (now im) (x .task) ≡ checked (shape-of-order (order-of (op-of w))) s (now im) (x .task) w ⌝ }
-    requires { ⌜ e ≡ encoded (shape-of-order (order-of (op-of w))) ⌝ }
-    requires { ⌜ found s (now im) (x .task) (pc + 1) ≡ Found.Word n ⌝ }
+    requires { ⌜ Fits w ⌝ }
     ensures { λ r. ⌜ After s (now (im .entry)) (x .task) r (now (im .exit)) ⌝ }
 {
-    if e == ONE_REGISTER_AND_N {
-        return loads(s, im, x, pc, w, n);
+    let op = w / OP;
+    match op {
+        LOAD => loads(s, im, x, pc, w),
+        COPY => two_registers(s, im, x, COPY, pc, w),
+        FETCH => two_registers(s, im, x, FETCH, pc, w),
+        STORE => two_registers(s, im, x, STORE, pc, w),
+        ADD => two_registers(s, im, x, ADD, pc, w),
+        SUBTRACT => two_registers(s, im, x, SUBTRACT, pc, w),
+        MULTIPLY => two_registers(s, im, x, MULTIPLY, pc, w),
+        QUOTIENT => two_registers(s, im, x, QUOTIENT, pc, w),
+        REMAINDER => two_registers(s, im, x, REMAINDER, pc, w),
+        AND => two_registers(s, im, x, AND, pc, w),
+        OR => two_registers(s, im, x, OR, pc, w),
+        EXCLUSIVE_OR => two_registers(s, im, x, EXCLUSIVE_OR, pc, w),
+        COMPARE => two_registers(s, im, x, COMPARE, pc, w),
+        JUMP => jumps(s, im, x, pc, w),
+        JUMP_IF => jumps_if(s, im, x, pc, w),
+        CALL => calls(s, im, x, pc, w),
+        RETURN => returns(s, im, x, pc, w),
+        SERVICE => asks(s, im, x, pc, w),
+        _ => Went::Left,
     }
-    jumps_or_calls(s, im, x, pc, w, n)
 }
 
-// An order of one word that has not two registers.
-fn shorter(s: Shape, im: &mut [u16], x: Seat, e: u8, pc: u16, w: u16) -> Went
-    requires { ⌜ Sound s (now im) ⌝ }
-    requires { ⌜ Seated s (now im) x ⌝ }
-    requires { ⌜ Calm s (now im) x pc ⌝ }
-    requires { ⌜ order s (now im) (x .task) ≡ checked (shape-of-order (order-of (op-of w))) s (now im) (x .task) w ⌝ }
-    requires { ⌜ e ≡ encoded (shape-of-order (order-of (op-of w))) ⌝ }
-    ensures { λ r. ⌜ After s (now (im .entry)) (x .task) r (now (im .exit)) ⌝ }
+// Whether the fields of an order with first word w have no bit that its shape wants 0.
+fn fits(shapes: &[u16; 256], w: u16) -> bool
+    requires { ⌜ Shapes (now shapes) ⌝ }
+    ensures { λ r. ⌜ r ≡ eqb (on-bits min (encoded (shape-of-order (order-of (op-of w)))) (w % 256)) 0 ⌝ }
 {
-    if e == NO_FIELD {
-        return returns(s, im, x, pc, w);
-    }
-    if e == SERVICE_NUMBER {
-        return asks(s, im, x, pc, w);
-    }
-    Went::Left
-}
-
-// An order that has not two registers.
-fn other(s: Shape, im: &mut [u16], x: Seat, e: u8, pc: u16, w: u16) -> Went
-    requires { ⌜ Sound s (now im) ⌝ }
-    requires { ⌜ Seated s (now im) x ⌝ }
-    requires { ⌜ Calm s (now im) x pc ⌝ }
-    requires { ⌜ order s (now im) (x .task) ≡ checked (shape-of-order (order-of (op-of w))) s (now im) (x .task) w ⌝ }
-    requires { ⌜ e ≡ encoded (shape-of-order (order-of (op-of w))) ⌝ }
-    ensures { λ r. ⌜ After s (now (im .entry)) (x .task) r (now (im .exit)) ⌝ }
-{
-    if e == CONDITION_AND_N {
-        return jumps_if(s, im, x, pc, w);
-    }
-    if e % WORDS_END != TWO_WORDS {
-        return shorter(s, im, x, e, pc, w);
-    }
-    match word_at(s, im, x, Address(pc + 1)) {
-        Found::Word(n) => longer(s, im, x, e, pc, w, n),
-        Found::Outside => Went::Left,
-    }
+    both_bits(entry(shapes, w / OP), w % OP) == 0
 }
 
 // The order with first word w.
-fn shaped(s: Shape, im: &mut [u16], shapes: &[u8; 256], x: Seat, pc: u16, w: u16) -> Went
+fn shaped(s: Shape, im: &mut [u16], shapes: &[u16; 256], x: Seat, pc: u16, w: u16) -> Went
     requires { ⌜ Sound s (now im) ⌝ }
     requires { ⌜ Seated s (now im) x ⌝ }
     requires { ⌜ Shapes (now shapes) ⌝ }
@@ -477,15 +470,14 @@ fn shaped(s: Shape, im: &mut [u16], shapes: &[u8; 256], x: Seat, pc: u16, w: u16
     requires { ⌜ order s (now im) (x .task) ≡ checked (shape-of-order (order-of (op-of w))) s (now im) (x .task) w ⌝ }
     ensures { λ r. ⌜ After s (now (im .entry)) (x .task) r (now (im .exit)) ⌝ }
 {
-    let e = entry(shapes, w / OP);
-    if e == TWO_REGISTERS {
-        return two_registers(s, im, x, pc, w);
+    if fits(shapes, w) {
+        return by_op(s, im, x, pc, w);
     }
-    other(s, im, x, e, pc, w)
+    Went::Left
 }
 
 // The order at the address in R0.
-pub fn plain(s: Shape, im: &mut [u16], shapes: &[u8; 256], x: Seat, pc: u16) -> Went
+pub fn plain(s: Shape, im: &mut [u16], shapes: &[u16; 256], x: Seat, pc: u16) -> Went
     requires { ⌜ Sound s (now im) ⌝ }
     requires { ⌜ Seated s (now im) x ⌝ }
     requires { ⌜ Shapes (now shapes) ⌝ }

@@ -35,7 +35,7 @@ const KIND_RUN: u16 = 6;
 // The tally with a record on the image to go by.
 fn record_tally(
     fd: i32,
-    shapes: &[u8; 256],
+    shapes: &[u16; 256],
     trial: &mut [u16],
     image: &mut [u16],
     head: Head,
@@ -59,7 +59,7 @@ fn record_tally(
 // One more record replayed.
 fn replay_one(
     fd: i32,
-    shapes: &[u8; 256],
+    shapes: &[u16; 256],
     trial: &mut [u16],
     image: &mut [u16],
     head: Head,
@@ -90,7 +90,7 @@ fn replay_one(
 }
 
 // The tally of a file's records up to its end or a bad one.
-fn replay_file(fd: i32, shapes: &[u8; 256], trial: &mut [u16], image: &mut [u16]) -> Tally
+fn replay_file(fd: i32, shapes: &[u16; 256], trial: &mut [u16], image: &mut [u16]) -> Tally
     requires { ⌜ Shapes (now shapes) ⌝ }
     requires { ⌜ length (now trial) ≡ length (now image) ⌝ }
 {
@@ -109,7 +109,7 @@ fn replay_file(fd: i32, shapes: &[u8; 256], trial: &mut [u16], image: &mut [u16]
 }
 
 // Replays the file of a path and prints its tally under a name, or why there is none.
-fn replay_path(path: &[u8], name: &[u8], numbers: &[u16], shapes: &[u8; 256])
+fn replay_path(path: &[u8], name: &[u8], numbers: &[u16], shapes: &[u16; 256])
     requires { ⌜ Shapes (now shapes) ⌝ }
 {
     let fd = os::open_read(path);

@@ -5,25 +5,22 @@ ghost use Rattle.paper.specs.Orders.{order-of, shape-of-order};
 ghost use Rattle.shapes.specs.Entries.{Shapes, encoded, field-of, decoded};
 use paper::Field;
 use paper::OrderShape;
-pub use table::CONDITION_AND_N;
-pub use table::NO_FIELD;
-pub use table::N_ALONE;
-pub use table::ONE_REGISTER_AND_N;
 use table::ORDER_SHAPES;
-pub use table::SERVICE_NUMBER;
-pub use table::TWO_REGISTERS;
 
 mod table;
 
+// What an entry says of the low byte of an order stands below this.
+const FIELDS_END: u16 = 256;
+
 // The table, for a caller that lays it out once and lends it down.
-pub fn order_shapes() -> [u8; 256]
+pub fn order_shapes() -> [u16; 256]
     ensures { λ r. ⌜ Shapes r ⌝ }
 {
     ORDER_SHAPES
 }
 
 // What a field's code stands for.
-fn field(k: u8) -> Field
+fn field(k: u16) -> Field
     ensures { λ r. ⌜ r ≡ field-of k ⌝ }
 {
     match k {
@@ -35,18 +32,19 @@ fn field(k: u8) -> Field
 }
 
 // What an entry stands for.
-fn decode(entry: u8) -> OrderShape
+fn decode(entry: u16) -> OrderShape
     ensures { λ r. ⌜ r ≡ decoded entry ⌝ }
 {
-    let words = entry % 4;
+    let code = entry / FIELDS_END;
+    let words = code % 4;
     if words == 0 {
         return OrderShape::Unknown;
     }
-    OrderShape::Known(words, field(entry / 4 % 4), field(entry / 16))
+    OrderShape::Known(words as u8, field(code / 4 % 4), field(code / 16))
 }
 
 // The entry of the order whose first word has the high byte op.
-pub fn entry(shapes: &[u8; 256], op: u16) -> u8
+pub fn entry(shapes: &[u16; 256], op: u16) -> u16
     requires { ⌜ op < 256 ⌝ }
     requires { ⌜ Shapes (now shapes) ⌝ }
     ensures { λ r. ⌜ r ≡ encoded (shape-of-order (order-of op)) ⌝ }
@@ -55,7 +53,7 @@ pub fn entry(shapes: &[u8; 256], op: u16) -> u8
 }
 
 // The shape of the order whose first word has the high byte op.
-pub fn order_shape(shapes: &[u8; 256], op: u16) -> OrderShape
+pub fn order_shape(shapes: &[u16; 256], op: u16) -> OrderShape
     requires { ⌜ op < 256 ⌝ }
     requires { ⌜ Shapes (now shapes) ⌝ }
     ensures { λ r. ⌜ r ≡ shape-of-order (order-of op) ⌝ }

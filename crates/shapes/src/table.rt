@@ -1,22 +1,38 @@
 // The constant table of order shapes.
 
-// An entry of the table: words + 4 x field a + 16 x field b, where a field is 0 unused, 1 register, 2 condition, 3 service.
-const UNKNOWN: u8 = 0;
+// An entry of the table: 256 x (words + 4 x field a + 16 x field b), where a field is 0 unused, 1 register, 2 condition, 3 service; and the bits that are 0 in the low byte of such an order.
+const WORD: u16 = 256;
 
-pub const NO_FIELD: u8 = 1;
+// What a field that is unused, a register, a condition or a service adds as field a.
+const NO_A: u16 = 16 * 15;
 
-pub const N_ALONE: u8 = 2;
+const REGISTER_A: u16 = 4 * WORD + 16 * 8;
 
-pub const ONE_REGISTER_AND_N: u8 = 2 + 4;
+const CONDITION_A: u16 = 8 * WORD + 16 * 12;
 
-pub const CONDITION_AND_N: u8 = 2 + 4 * 2;
+const SERVICE_A: u16 = 12 * WORD;
 
-pub const SERVICE_NUMBER: u8 = 1 + 4 * 3;
+// And as field b.
+const NO_B: u16 = 15;
 
-pub const TWO_REGISTERS: u8 = 1 + 4 + 16;
+const REGISTER_B: u16 = 16 * WORD + 8;
+
+const UNKNOWN: u16 = 0;
+
+const NO_FIELD: u16 = WORD + NO_A + NO_B;
+
+const N_ALONE: u16 = 2 * WORD + NO_A + NO_B;
+
+const ONE_REGISTER_AND_N: u16 = 2 * WORD + REGISTER_A + NO_B;
+
+const CONDITION_AND_N: u16 = 2 * WORD + CONDITION_A + NO_B;
+
+const SERVICE_NUMBER: u16 = WORD + SERVICE_A + NO_B;
+
+const TWO_REGISTERS: u16 = WORD + REGISTER_A + REGISTER_B;
 
 // One entry for each high byte: ops 1 to 18 as named beside them, ops 0 and 19 to 255 unknown.
-pub const ORDER_SHAPES: [u8; 256] = [
+pub const ORDER_SHAPES: [u16; 256] = [
     UNKNOWN,
     ONE_REGISTER_AND_N, // 1 load
     TWO_REGISTERS, // 2 copy

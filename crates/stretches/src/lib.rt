@@ -46,7 +46,7 @@ fn least(a: usize, b: usize) -> usize
 }
 
 // At most so many orders of a task, for as long as each goes through: how many were carried out.
-fn orders_in_a_row(s: Shape, im: &mut [u16], shapes: &[u8; 256], x: Seat, most: usize) -> usize
+fn orders_in_a_row(s: Shape, im: &mut [u16], shapes: &[u16; 256], x: Seat, most: usize) -> usize
     requires { ⌜ Sound s (now im) ⌝ }
     requires { ⌜ Seated s (now im) x ⌝ }
     requires { ⌜ Shapes (now shapes) ⌝ }
@@ -75,7 +75,7 @@ fn orders_in_a_row(s: Shape, im: &mut [u16], shapes: &[u8; 256], x: Seat, most: 
 }
 
 // At most so many ticks that are orders of the first task: how many were taken.
-fn take_orders(s: Shape, im: &mut [u16], shapes: &[u8; 256], t: Task, most: usize) -> usize
+fn take_orders(s: Shape, im: &mut [u16], shapes: &[u16; 256], t: Task, most: usize) -> usize
     requires { ⌜ Sound s (now im) ⌝ }
     requires { ⌜ Shapes (now shapes) ⌝ }
     requires { ⌜ t .0 < s .n ⌝ }
@@ -100,7 +100,7 @@ fn take_orders(s: Shape, im: &mut [u16], shapes: &[u8; 256], t: Task, most: usiz
 }
 
 // At most so many ticks, up to the first that is refused: how many were taken.
-pub fn take_ticks(s: Shape, im: &mut [u16], shapes: &[u8; 256], most: usize) -> usize
+pub fn take_ticks(s: Shape, im: &mut [u16], shapes: &[u16; 256], most: usize) -> usize
     requires { ⌜ Lawful s (now im) ⌝ }
     requires { ⌜ Shapes (now shapes) ⌝ }
     ensures { λ r. ⌜ r ≤ most ⌝ }

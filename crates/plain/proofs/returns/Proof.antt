@@ -4,24 +4,19 @@ use borrow.Author.Needs.{needs}
 use Rattle.plain.proofs.returns.Statement.{statement}
 use Rattle.plain.proofs.returns.Tie as tie
 
-returns : tie.Need-returns
-returns c = search left
-
 add-return-on : tie.Need-add-return-on
 add-return-on c = search is-low-1
 
 return-on-requires : tie.Need-return-on-requires
-return-on-requires c κs = (search needs, (search needs, (search is-quiet, return-acts _ _ _ _ (c .before .before .before .before .before .before .before .before .before .before .before .before .pre .0) (c .before .before .before .before .before .before .before .before .before .before .before .before .pre .1 .0) (c .before .before .before .before .before .before .before .before .before .before .before .before .pre .1 .1 .0) (c .before .before .before .before .before .before .before .before .before .before .before .before .args .w) (c .before .before .before .before .before .before .before .before .before .before .before .before .pre .1 .1 .1 .0) _ _ _ _ _ (c .before .before .before .before .before .before .before .before .before .before .before .before .pre .1 .1 .1 .1) (c .before .before .before .before .before .before .before .before .before .before .both .ensures) (c .before .before .before .before .before .before .before .before .before .if1 .left) (c .before .before .before .before .before .before .before .own .ensures) (c .before .before .before .before .before .word-at .ensures) (c .before .before .before .n .given .1) (c .sum .ensures))))
+return-on-requires c κs = (search needs, (search needs, (search is-quiet, return-acts _ _ _ _ (c .before .before .before .before .before .before .before .before .before .before .pre .0) (c .before .before .before .before .before .before .before .before .before .before .pre .1 .0) (c .before .before .before .before .before .before .before .before .before .before .pre .1 .1 .0) (c .before .before .before .before .before .before .before .before .before .before .args .w) (c .before .before .before .before .before .before .before .before .before .before .pre .1 .1 .1 .0) (c .before .before .before .before .before .before .before .before .before .before .pre .1 .1 .1 .1 .0) _ _ _ _ (c .before .before .before .before .before .before .before .before .before .before .pre .1 .1 .1 .1 .1) (c .before .before .before .before .before .before .before .own .ensures) (c .before .before .before .before .before .word-at .ensures) (c .before .before .before .n .given .1) (c .sum .ensures))))
 
-returns-3 : tie.Need-returns-3
-returns-3 c = search left
+returns-2 : tie.Need-returns-2
+returns-2 c = search left
 
 pub returns-spec : {M : Type 1} → statement M
 returns-spec =
     tie.close
     (tie.spec
-    (λ c κs. search needs)
-    returns
     (λ c κs. search needs)
     (λ c κs. search needs)
     (λ c. search needs)
@@ -32,4 +27,4 @@ returns-spec =
     (λ c. search needs)
     (λ c. search needs)
     (λ c. search needs)
-    returns-3)
+    returns-2)

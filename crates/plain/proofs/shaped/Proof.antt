@@ -1,23 +1,22 @@
 -- Assumes nothing.
-use Rattle.plain.specs.Needs.{entry-is}
+use Rattle.plain.specs.Needs.{left}
+use Rattle.plain.specs.Fields.{is-fit}
 use borrow.Author.Needs.{needs}
 use Rattle.plain.proofs.shaped.Statement.{statement}
 use Rattle.plain.proofs.shaped.Tie as tie
 
-two-registers-requires : tie.Need-two-registers-requires
-two-registers-requires c κs = (search needs, (search needs, (search needs, (search needs, search entry-is))))
+by-op-requires : tie.Need-by-op-requires
+by-op-requires c κs = (search needs, (search needs, (search needs, (search needs, search is-fit))))
 
-other-requires : tie.Need-other-requires
-other-requires c κs = (search needs, (search needs, (search needs, (search needs, search needs))))
+returns-2 : tie.Need-returns-2
+returns-2 c = search left
 
 pub shaped-spec : {M : Type 1} → statement M
 shaped-spec =
     tie.close
     (tie.spec
     (λ c κs. search needs)
-    two-registers-requires
+    by-op-requires
     (λ c. search needs)
     (λ c. search needs)
-    other-requires
-    (λ c. search needs)
-    (λ c. search needs))
+    returns-2)

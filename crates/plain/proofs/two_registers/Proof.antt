@@ -1,5 +1,5 @@
 -- Assumes nothing.
-use Rattle.plain.specs.Needs.{left, is-low-1, is-quiet, named-from, named-below, named-row, first-held, second-held, two-act}
+use Rattle.plain.specs.Needs.{left, is-low-1, is-quiet, a-in-row, a-named, b-in-row, two-act}
 use borrow.Author.Needs.{needs}
 use Rattle.plain.proofs.two_registers.Statement.{statement}
 use Rattle.plain.proofs.two_registers.Tie as tie
@@ -7,17 +7,20 @@ use Rattle.plain.proofs.two_registers.Tie as tie
 returns : tie.Need-returns
 returns c = search left
 
+returns-2 : tie.Need-returns-2
+returns-2 c = search left
+
 own-requires : tie.Need-own-requires
-own-requires c κs = (search needs, (search needs, named-row _ _ (c .before .before .before .before .named .ensures) (first-held _ _ _ (c .before .before .both .ensures) (c .before .if1 .left))))
+own-requires c κs = (search needs, (search needs, a-in-row _ _ _ _ (c .before .before .before .before .before .before .pre .0) (c .before .before .before .before .before .before .pre .1 .0) (c .before .before .before .before .before .before .pre .1 .1 .0) (c .before .before .before .before .before .before .args .w) (c .before .before .before .before .before .before .pre .1 .1 .1 .0) (c .before .before .before .before .before .before .pre .1 .1 .1 .1 .0) _ (c .before .before .before .before .before .before .pre .1 .1 .1 .1 .1 .0) (c .before .before .before .before .before .before .pre .1 .1 .1 .1 .1 .1) _ (c .before .before .before .before .wide .ensures)))
 
 own-requires-2 : tie.Need-own-requires-2
-own-requires-2 c κs = (search needs, (search needs, search (named-row, second-held)))
+own-requires-2 c κs = (search needs, (search needs, b-in-row _ _ _ _ (c .before .before .before .before .before .before .before .before .pre .0) (c .before .before .before .before .before .before .before .before .pre .1 .0) (c .before .before .before .before .before .before .before .before .pre .1 .1 .0) (c .before .before .before .before .before .before .before .before .args .w) (c .before .before .before .before .before .before .before .before .pre .1 .1 .1 .0) (c .before .before .before .before .before .before .before .before .pre .1 .1 .1 .1 .0) _ (c .before .before .before .before .before .before .before .before .pre .1 .1 .1 .1 .1 .0) (c .before .before .before .before .before .before .before .before .pre .1 .1 .1 .1 .1 .1) _ (c .before .before .before .before .before .wide2 .ensures)))
 
 add-works : tie.Need-add-works
 add-works c = search is-low-1
 
 works-requires : tie.Need-works-requires
-works-requires c κs = (search needs, (search needs, (search is-quiet, ((named-from _ _ (c .before .before .before .before .before .before .before .before .named .ensures) (first-held _ _ _ (c .before .before .before .before .before .before .both .ensures) (c .before .before .before .before .before .if1 .left)), named-below _ _ (c .before .before .before .before .before .before .before .before .named .ensures) (first-held _ _ _ (c .before .before .before .before .before .before .both .ensures) (c .before .before .before .before .before .if1 .left))), two-act _ _ _ _ (c .before .before .before .before .before .before .before .before .before .before .before .before .pre .0) (c .before .before .before .before .before .before .before .before .before .before .before .before .pre .1 .0) (c .before .before .before .before .before .before .before .before .before .before .before .before .pre .1 .1 .0) (c .before .before .before .before .before .before .before .before .before .before .before .before .args .w) (c .before .before .before .before .before .before .before .before .before .before .before .before .pre .1 .1 .1 .0) _ _ _ _ _ _ _ (c .before .before .before .before .before .before .before .before .before .before .before .before .pre .1 .1 .1 .1) (c .before .before .before .before .before .before .before .before .before .before .wide .ensures) (c .before .before .before .before .before .before .before .before .before .wide2 .ensures) (c .before .before .before .before .before .before .before .before .named .ensures) (c .before .before .before .before .before .before .before .named2 .ensures) (c .before .before .before .before .before .before .both .ensures) (c .before .before .before .before .before .if1 .left) (c .before .before .before .own .ensures) (c .before .own2 .ensures)))))
+works-requires c κs = (search needs, (search needs, (search is-quiet, (a-named _ _ _ _ (c .before .before .before .before .before .before .before .before .before .before .pre .0) (c .before .before .before .before .before .before .before .before .before .before .pre .1 .0) (c .before .before .before .before .before .before .before .before .before .before .pre .1 .1 .0) (c .before .before .before .before .before .before .before .before .before .before .args .w) (c .before .before .before .before .before .before .before .before .before .before .pre .1 .1 .1 .0) (c .before .before .before .before .before .before .before .before .before .before .pre .1 .1 .1 .1 .0) _ (c .before .before .before .before .before .before .before .before .before .before .pre .1 .1 .1 .1 .1 .0) (c .before .before .before .before .before .before .before .before .before .before .pre .1 .1 .1 .1 .1 .1) _ (c .before .before .before .before .before .before .before .before .wide .ensures) (c .before .before .before .before .before .before .if1 .left), two-act _ _ _ _ (c .before .before .before .before .before .before .before .before .before .before .pre .0) (c .before .before .before .before .before .before .before .before .before .before .pre .1 .0) (c .before .before .before .before .before .before .before .before .before .before .pre .1 .1 .0) (c .before .before .before .before .before .before .before .before .before .before .args .w) (c .before .before .before .before .before .before .before .before .before .before .pre .1 .1 .1 .0) (c .before .before .before .before .before .before .before .before .before .before .pre .1 .1 .1 .1 .0) _ (c .before .before .before .before .before .before .before .before .before .before .pre .1 .1 .1 .1 .1 .0) (c .before .before .before .before .before .before .before .before .before .before .pre .1 .1 .1 .1 .1 .1) _ _ _ _ (c .before .before .before .before .before .before .before .before .wide .ensures) (c .before .before .before .before .before .before .before .wide2 .ensures) (c .before .before .before .before .before .before .if1 .left) (c .before .before .before .before .before .if2 .left) (c .before .before .before .own .ensures) (c .before .own2 .ensures)))))
 
 pub two-registers-spec : {M : Type 1} → statement M
 two-registers-spec =
@@ -25,10 +28,8 @@ two-registers-spec =
     (tie.spec
     (λ c κs. search needs)
     (λ c κs. search needs)
-    (λ c κs. search needs)
-    (λ c κs. search needs)
-    (λ c κs. search needs)
     returns
+    returns-2
     own-requires
     own-requires-2
     add-works

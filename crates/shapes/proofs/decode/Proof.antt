@@ -14,4 +14,11 @@ unfolding decoded
 returns-2 c = rw (ne-eqb _ 0 (c .before .before .if1 .left), c .before .field .ensures, c .field2 .ensures)
 
 pub decode-spec : {M : Type 1} → statement M
-decode-spec = tie.close (tie.spec returns (λ c κs. search needs) (λ c κs. search needs) returns-2)
+decode-spec =
+    tie.close
+    (tie.spec
+    returns
+    (λ c. search needs)
+    (λ c κs. search needs)
+    (λ c κs. search needs)
+    returns-2)
