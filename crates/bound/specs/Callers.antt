@@ -4,7 +4,7 @@ use mathlib.Core.List.{List, _++_, append-assoc}
 use Prim.Native.Nat.{ℕ, _+_, _*_, _≤_}
 use native.Mathlib.Omega.{arith}
 use lib.ListN.{length, length-append}
-use Rattle.paper.specs.Numbers.{number, verdict-number, check}
+use Rattle.paper.specs.Numbers.{number, verdict-number}
 use Rattle.paper.specs.Calls.{Ran, run-from, run}
 use Rattle.paper.specs.declared.Task.{Task}
 use Rattle.paper.specs.declared.Shape.{Shape}

@@ -1,5 +1,5 @@
 -- A reply in three numbers, of which the paper's own is `reply-number`: the kind and the task, and what stands for both where there is no answer. Assumes nothing.
-use mathlib.Core.List.{List, [], _∷_}
+use mathlib.Core.List.{[], _∷_}
 use mathlib.Core.Path.{_≡_, refl}
 use Prim.Native.Nat.{ℕ, _<_}
 use native.Mathlib.Omega.{arith}

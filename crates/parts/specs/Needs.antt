@@ -57,9 +57,6 @@ module _ (f : ℕ → List ℕ) (pos : ℕ → ℕ) (o : List ℕ) (at : ℕ) wh
           sized = rw (add-one, e) (length-append (joined k f) (f k) ∙ omega (arith, r .sized));
         }
 
-    pub row-room : (n : ℕ) → pos (suc k) ≡ pos k + length (f k) → pos (suc k) ≤ pos n → at + pos n ≤ length o → next + length (f k) ≤ length out
-    row-room n e h room = omega (arith, r .place, kept-length o out at (joined k f) (r .made))
-
     -- what is clear after all rows is clear after those so far
     pub row-clear : (m room : ℕ) → Clear o at room → pos k + m ≤ room → Clear out next m
     row-clear m room c h =

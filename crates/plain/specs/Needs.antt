@@ -109,8 +109,13 @@ module _ (s : Shape) (im : List ℕ) (x : Seat) (g : Sound s im) (h : Seated s i
           goes-on next k (Change.Call p top n) out eo
           (call-made s im m out (x .task) next (Change.Call p top n) em p top n refl (rw (← e₂) (stacked s m₂ m₃ out (x .task) top n e₃ e)))
           (ek ∙ sym (same-word m₃ out 0 n e (omega arith) (sound g₃ .laid .words)))
-          (omega (arith, other-word m₃ out 0 8 n e (omega arith) (omega arith) (λ z. omega arith),
-          other-word m₂ m₃ 1 8 top e₃ (omega arith) (omega arith) (λ z. omega arith), stored-word m m₂ p next 8 inside e₂ (omega arith), m-flags))
+          (omega (
+            arith,
+            other-word m₃ out 0 8 n e (omega arith) (omega arith) (λ z. omega arith),
+            other-word m₂ m₃ 1 8 top e₃ (omega arith) (omega arith) (λ z. omega arith),
+            stored-word m m₂ p next 8 inside e₂ (omega arith),
+            m-flags,
+          ))
           (omega arith)
 
       pub return-went : (top n : ℕ) (m₂ : List ℕ) → order s im (x .task) ≡ Effect.Does next (Change.Return top n)
@@ -120,8 +125,12 @@ module _ (s : Shape) (im : List ℕ) (x : Seat) (g : Sound s im) (h : Seated s i
           goes-on next k (Change.Return top n) out eo
           (return-made s im m out (x .task) next (Change.Return top n) em top n refl (stacked s m m₂ out (x .task) top n e₂ e))
           (ek ∙ sym (same-word m₂ out 0 n e (omega arith) (sound g₂ .laid .words)))
-          (omega (arith, other-word m₂ out 0 8 n e (omega arith) (omega arith) (λ z. omega arith),
-          other-word m m₂ 1 8 top e₂ (omega arith) (omega arith) (λ z. omega arith), m-flags))
+          (omega (
+            arith,
+            other-word m₂ out 0 8 n e (omega arith) (omega arith) (λ z. omega arith),
+            other-word m m₂ 1 8 top e₂ (omega arith) (omega arith) (λ z. omega arith),
+            m-flags,
+          ))
           (omega arith)
 
     pub compare-went : (k c : ℕ) → c < 4 → order s im (x .task) ≡ flags-become next c → out ≡ put s m (reg (x .task) 8) c → k ≡ next → next < 65536

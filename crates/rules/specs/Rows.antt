@@ -76,8 +76,8 @@ module _ (from end given : ℕ) (r : Rows from end given) (l : from < end) where
       record {
         rows = r .rows - 1;
         ends = let m : suc (r .rows - 1) ≡ r .rows = omega (arith, some-left) in
-        let e : end ≡ from + suc (r .rows - 1) * (lead + given) = rw m (r .ends) in
-        omega arith;
+            let e : end ≡ from + suc (r .rows - 1) * (lead + given) = rw m (r .ends) in
+            omega arith;
       }
 
 -- no row passed yet; one more; the rows passed from the next row on
@@ -91,13 +91,13 @@ module _ (im : List ℕ) (from end given at : ℕ) (p : Passed im from end given
         k = p .k + 1 + q .k;
         here = omega (arith, p .here, q .here);
         right = every-is (p .k + 1 + q .k) _ .1 (λ j h.
-        dite (decLt j (p .k)) (λ b. every-is (p .k) _ .0 (p .right) j b) (λ nb.
-        dite (ℕ-discrete j (p .k)) (λ e. rw (e, ← p .here) ok) (λ ne.
-        let i = j - (p .k + 1) in
-        let ij : j ≡ p .k + 1 + i = omega (arith, nb, ne) in
-        let hi : i < q .k = omega (arith, nb, ne, h) in
-        let place : from + (p .k + 1 + i) * (lead + given) ≡ at + (lead + given) + i * (lead + given) = omega (arith, p .here) in
-        rw (ij, place) (every-is (q .k) _ .0 (q .right) i hi))));
+            dite (decLt j (p .k)) (λ b. every-is (p .k) _ .0 (p .right) j b) (λ nb.
+            dite (ℕ-discrete j (p .k)) (λ e. rw (e, ← p .here) ok) (λ ne.
+            let i = j - (p .k + 1) in
+            let ij : j ≡ p .k + 1 + i = omega (arith, nb, ne) in
+            let hi : i < q .k = omega (arith, nb, ne, h) in
+            let place : from + (p .k + 1 + i) * (lead + given) ≡ at + (lead + given) + i * (lead + given) = omega (arith, p .here) in
+            rw (ij, place) (every-is (q .k) _ .0 (q .right) i hi))));
         left = q .left;
       }
 

@@ -4,7 +4,7 @@ use mathlib.Core.List.{List}
 use Prim.Native.Nat.{ℕ, _+_, _<_, _≤_}
 use native.Mathlib.Omega.{arith}
 use lib.ListN.{getD, set, length}
-use Rattle.paper.specs.Image.{place-at, Valid, place, at, put, reg, base, len, reach, cell, word}
+use Rattle.paper.specs.Image.{place-at, Valid, place, at, put, reg, base, reach, cell, word}
 use Rattle.paper.specs.declared.Task.{Task}
 use Rattle.paper.specs.declared.Address.{Address}
 use Rattle.paper.specs.declared.Place.{Place}
@@ -17,7 +17,7 @@ use Rattle.laws.specs.Sound.{Sound, sound, put-sound}
 use Rattle.laws.specs.Segments.{reached, reaches, stays-outside, InSegment, segment-upto, segment-valid, stored}
 use Rattle.words.specs.Names.{Among}
 use Rattle.words.specs.Needs.{inside-among}
-use Rattle.seats.specs.Seated.{Sits, Seated, Inside, seat, seated}
+use Rattle.seats.specs.Seated.{Seated, Inside, seat, seated}
 use Rattle.seats.specs.declared.Seat.{Seat}
 
 -- a task has its row

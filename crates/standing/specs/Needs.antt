@@ -32,13 +32,6 @@ module _ (s : Shape) (im : List ℕ) (q : Queue) (n : ℕ) (en : n ≡ at s im (
   empty-tested = rw en
 
 module _ (s : Shape) (im : List ℕ) (i : Task) where
-  -- error and pending of the flags
-  pub error-got : (f : ℕ) → f ≡ at s im (flags i) → f / 4 % 8 ≡ error s im i
-  error-got f e = rw e
-
-  pub pending-got : (f : ℕ) → f ≡ at s im (flags i) → f / 32 ≡ pending s im i
-  pending-got f e = rw e
-
   pub task-few : Sized s im → i .0 < s .n → i .0 < most-tasks
   task-few z l = omega (arith, sized-few s im z)
 

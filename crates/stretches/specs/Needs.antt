@@ -2,15 +2,15 @@
 use mathlib.Core.Path.{_≡_, refl, sym, ap, _∙_}
 use mathlib.Core.List.{List}
 use mathlib.Core.Bool.{Bool, true, false}
-use Prim.Native.Nat.{ℕ, zero, suc, _+_, _-_, _<_, _≤_, min}
+use Prim.Native.Nat.{ℕ, suc, _+_, _-_, _<_, _≤_, min}
 use native.Mathlib.Omega.{arith}
 use native.Mathlib.Decide.{ℕ-discrete}
 use native.Mathlib.Numerals.{add-one}
 use lib.ListN.{length}
-use Rattle.paper.specs.Image.{task, cell, at, put, reg, flags, clock, base, len}
+use Rattle.paper.specs.Image.{task, cell, at, put, reg, flags, clock}
 use Rattle.paper.specs.Queues.{empty, first}
 use Rattle.paper.specs.Orders.{next-order, order, after-order}
-use Rattle.paper.specs.Events.{running, turn-of, tick, happening}
+use Rattle.paper.specs.Events.{turn-of, tick, happening}
 use Rattle.paper.specs.declared.Task.{Task}
 use Rattle.paper.specs.declared.Shape.{Shape}
 use Rattle.paper.specs.declared.Part.{Part}

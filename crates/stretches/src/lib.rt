@@ -88,13 +88,7 @@ fn take_orders(s: Shape, im: &mut [u16], shapes: &[u16; 256], t: Task, most: usi
     ensures { λ _. ⌜ first-of s (now (im .exit)) Ready ≡ t .0 ⌝ }
 {
     let clock = get(s, im, Spot::Clock);
-    let taken = orders_in_a_row(
-        s,
-        im,
-        shapes,
-        seat_of(s, im, t),
-        least(most, wide(clock)),
-    );
+    let taken = orders_in_a_row(s, im, shapes, seat_of(s, im, t), least(most, wide(clock)));
     put(s, im, Spot::Clock, clock - taken as u16);
     taken
 }

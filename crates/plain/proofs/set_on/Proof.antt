@@ -1,5 +1,4 @@
 -- Assumes nothing.
-use native.Mathlib.Omega.{arith}
 use Rattle.plain.specs.Needs.{set-went, in-row}
 use borrow.Author.Needs.{needs}
 use Rattle.plain.proofs.set_on.Statement.{statement}

@@ -1,5 +1,4 @@
 -- Assumes nothing.
-use native.Mathlib.Omega.{arith}
 use Rattle.seats.specs.Needs.{own-inside, own-word, own-fits}
 use Rattle.seats.proofs.own.Statement.{statement}
 use Rattle.seats.proofs.own.Tie as tie
