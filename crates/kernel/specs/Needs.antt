@@ -21,7 +21,7 @@ use Rattle.paper.specs.declared.Refusal.{Refusal}
 use Rattle.paper.specs.declared.Reply.{Reply}
 use Rattle.paper.specs.declared.Verdict.{Verdict}
 use Rattle.laws.specs.Checked.{never-fine, then-fine}
-use Rattle.laws.specs.Stays.{Lawful, good, inspected-lawful}
+use Rattle.laws.specs.Stays.{Lawful, inspected-lawful}
 use Rattle.kernel.specs.Lists.{nth-event, onward, TakenFrom, taken-more, taken-refused, taken-all, ticks-taken}
 use Rattle.kernel.specs.Ahead.{Ahead, ahead-ticks}
 use Rattle.stretches.specs.Ticks.{Ticks}
@@ -98,10 +98,6 @@ module _ (im events : List ℕ) (image list verdict : Verdict) (ei : image ≡ c
     run-fine s answer out es et ep eo =
         let at : check-run im events ≡ Verdict.Fine = sym verdict-is ∙ f in
         ran answer out (rw (at, ← es) et) (rw (at, ← es) ep) (rw (at, ← es) eo)
-
--- good images of one shape have as many words
-pub lawful-long : (s : Shape) (a b : List ℕ) → Lawful s a → Lawful s b → length a ≡ length b
-lawful-long s a b g h = good g .laid .words ∙ sym (good h .laid .words)
 
 -- events of a list taken one by one
 pub event-there : (events : List ℕ) (k count : ℕ) → count ≡ length events / 3 → k < count → 3 * k + 2 < length events

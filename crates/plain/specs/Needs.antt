@@ -28,14 +28,13 @@ use Rattle.laws.specs.Cells.{at-same, at-other, other-part, length-put}
 use Rattle.laws.specs.Segments.{segment-upto, segment-valid, stored}
 use Rattle.laws.specs.Sound.{Sound, sound}
 use Rattle.laws.specs.Effects.{found-inside}
-use Rattle.shapes.specs.Entries.{encoded}
 use Rattle.operands.specs.Needs.{operand-other}
 use Rattle.orders.specs.Needs.{register-made, store-made, flags-made, call-made, return-made, stacked}
 use Rattle.seats.specs.Seated.{Seated, Inside, seated}
 use Rattle.seats.specs.Needs.{reach-inside, segment-of}
 use Rattle.seats.specs.declared.Seat.{Seat}
 use Rattle.plain.specs.After.{Calm, After}
-use Rattle.plain.specs.Fields.{Fits, Clear, fields-hold, two-clear, load-clear, jump-clear, condition-clear, return-clear, service-clear}
+use Rattle.plain.specs.Fields.{Fits, loose, Clear, fields-hold, two-clear, load-clear, alone-clear, condition-clear, return-clear, service-clear}
 use Rattle.plain.specs.declared.Went.{Went}
 
 -- an order that is left changes nothing
@@ -254,14 +253,14 @@ module _ (s : Shape) (im : List ℕ) (x : Seat) (pc : ℕ) (g : Sound s im) (h :
         rw (e, sh, ha, hb, hs, e, past-is) at eo
 
     -- the fields of the order with op k
-    fields : (k e : ℕ) (fa fb : Field) → Clear e fa fb → op-of w ≡ k → encoded (shape-of-order (order-of k)) ≡ e
-        → (holds fa (a-of w) ≡ true) × (holds fb (b-of w) ≡ true)
-    fields k e fa fb t ek ee = fields-hold w e fa fb t (rw ek ee) fits
+    fields : (k n : ℕ) (fa fb : Field) → Clear (OrderShape.Known n fa fb) → op-of w ≡ k → shape-of-order (order-of k) ≡ OrderShape.Known n fa fb
+        → (holds (loose fa) (a-of w) ≡ true) × (holds fb (b-of w) ≡ true)
+    fields k n fa fb t ek sh = fields-hold w n fa fb t (rw ek sh) fits
 
     -- two registers
     module _ (op : ℕ) (eop : op-of w ≡ op) (shape : shape-of-order (order-of op) ≡ two-registers) where
       registers : (holds Field.Register (a-of w) ≡ true) × (holds Field.Register (b-of w) ≡ true)
-      registers = fields op 5512 Field.Register Field.Register two-clear eop (ap encoded shape)
+      registers = fields op 1 Field.Register Field.Register two-clear eop shape
 
       module _ (a : ℕ) (ea : a ≡ a-of w) where
         a-below : a < 8
@@ -291,7 +290,7 @@ module _ (s : Shape) (im : List ℕ) (x : Seat) (pc : ℕ) (g : Sound s im) (h :
     -- a register and a second word
     module _ (op : op-of w ≡ 1) (a : ℕ) (ea : a ≡ a-of w) (ne : a ≢ 0) where
       load-fields : (holds Field.Register (a-of w) ≡ true) × (holds Field.Unused (b-of w) ≡ true)
-      load-fields = fields 1 1679 Field.Register Field.Unused load-clear op refl
+      load-fields = fields 1 2 Field.Register Field.Unused load-clear op refl
 
       pub load-named : (1 ≤ a) × (a < 8)
       load-named = (pos a ne, rw ea (ltb-true (a-of w) 8 (load-fields .0)))
@@ -305,7 +304,7 @@ module _ (s : Shape) (im : List ℕ) (x : Seat) (pc : ℕ) (g : Sound s im) (h :
     module _ (n f : ℕ) (en : found s im (x .task) (pc + 1) ≡ Found.Word n) (op : op-of w ≡ 15) (low : a-of w ≤ 2) (ef : f ≡ at s im (reg (x .task) 8)) where
       condition-acts : (c : Bool) → eqb (cc-of (at s im (reg (x .task) 8))) (a-of w) ≡ c → order s im (x .task) ≡ sets (pc + 2) 0 (cond c n (pc + 2))
       condition-acts c ec =
-          let none = fields 15 2767 Field.Service Field.Unused condition-clear op refl in
+          let none = fields 15 2 Field.Condition Field.Unused condition-clear op refl in
           let acts = known-acts Op.JumpIf 2 Field.Condition Field.Unused (omega arith) (ap order-of op) refl (le-leb (a-of w) 2 low) (none .1) refl in
           rw (← next-is, en, ec) at acts
 
@@ -323,7 +322,7 @@ module _ (s : Shape) (im : List ℕ) (x : Seat) (pc : ℕ) (g : Sound s im) (h :
     module _ (n : ℕ) (f : Found) (ef : f ≡ found s im (x .task) (pc + 1)) (fw : f ≡ Found.Word n) where
       alone-acts : (k : ℕ) → op-of w ≡ k → shape-of-order (order-of k) ≡ OrderShape.Known 2 Field.Unused Field.Unused → Acts (order-of k) 2
       alone-acts k e sh =
-          let none = fields k 767 Field.Unused Field.Unused jump-clear e (ap encoded sh) in
+          let none = fields k 2 Field.Unused Field.Unused alone-clear e sh in
           known-acts (order-of k) 2 Field.Unused Field.Unused (omega arith) (ap order-of e) sh (none .0) (none .1) refl
 
       pub jump-acts : op-of w ≡ 14 → order s im (x .task) ≡ sets (pc + 2) 0 n
@@ -336,14 +335,14 @@ module _ (s : Shape) (im : List ℕ) (x : Seat) (pc : ℕ) (g : Sound s im) (h :
     pub return-acts : (v top n : ℕ) (f : Found) → op-of w ≡ 17 → v ≡ at s im (reg (x .task) 1) → f ≡ found s im (x .task) v → f ≡ Found.Word n
         → top ≡ mod-word (v + 1) → order s im (x .task) ≡ Effect.Does (pc + 1) (Change.Return top n)
     return-acts v top n f e ev ef fw etop =
-        let none = fields 17 511 Field.Unused Field.Unused return-clear e refl in
+        let none = fields 17 1 Field.Unused Field.Unused return-clear e refl in
         let acts = known-acts Op.Return 1 Field.Unused Field.Unused (omega arith) (ap order-of e) refl (none .0) (none .1) refl in
         rw etop (rw (← ev, ← ef, fw) at acts)
 
     pub service-acts : (t : Bool) (v f : ℕ) → op-of w ≡ 18 → t ≡ (leb 1 (a-of w) && leb (a-of w) 4) → not t ≡ false
         → v ≡ at s im (reg (x .task) 8) → f ≡ flags-of (cc-of v) (error-of v) (a-of w) → order s im (x .task) ≡ flags-become (pc + 1) f
     service-acts t v f e et ok ev ef =
-        let none = fields 18 3343 Field.Service Field.Unused service-clear e refl in
+        let none = fields 18 1 Field.Service Field.Unused service-clear e refl in
         let acts = known-acts Op.Service 1 Field.Service Field.Unused (omega arith) (ap order-of e) refl refl (none .1) (sym et ∙ not-false t ok) in
         rw (ef, ev) acts
 

@@ -313,22 +313,6 @@ fn loads(s: Shape, im: &mut [u16], x: Seat, pc: u16, w: u16) -> Went
     }
 }
 
-// Jump.
-fn jumps(s: Shape, im: &mut [u16], x: Seat, pc: u16, w: u16) -> Went
-    requires { ⌜ Sound s (now im) ⌝ }
-    requires { ⌜ Seated s (now im) x ⌝ }
-    requires { ⌜ Calm s (now im) x pc ⌝ }
-    requires { ⌜ order s (now im) (x .task) ≡ checked (shape-of-order (order-of (op-of w))) s (now im) (x .task) w ⌝ }
-    requires { ⌜ Fits w ⌝ }
-    requires { ⌜ op-of w ≡ 14 ⌝ }
-    ensures { λ r. ⌜ After s (now (im .entry)) (x .task) r (now (im .exit)) ⌝ }
-{
-    match word_at(s, im, x, Address(pc + 1)) {
-        Found::Word(n) => jump_on(s, im, x, pc + 2, n),
-        Found::Outside => Went::Left,
-    }
-}
-
 // Jump if.
 fn jumps_if(s: Shape, im: &mut [u16], x: Seat, pc: u16, w: u16) -> Went
     requires { ⌜ Sound s (now im) ⌝ }
@@ -369,18 +353,22 @@ fn calls_to(s: Shape, im: &mut [u16], x: Seat, next: u16, n: u16) -> Went
     }
 }
 
-// Call.
-fn calls(s: Shape, im: &mut [u16], x: Seat, pc: u16, w: u16) -> Went
+// Jump or call.
+fn jumps_or_calls(s: Shape, im: &mut [u16], x: Seat, op: u16, pc: u16, w: u16) -> Went
     requires { ⌜ Sound s (now im) ⌝ }
     requires { ⌜ Seated s (now im) x ⌝ }
     requires { ⌜ Calm s (now im) x pc ⌝ }
     requires { ⌜ order s (now im) (x .task) ≡ checked (shape-of-order (order-of (op-of w))) s (now im) (x .task) w ⌝ }
     requires { ⌜ Fits w ⌝ }
-    requires { ⌜ op-of w ≡ 16 ⌝ }
+    requires { ⌜ op-of w ≡ op ⌝ }
     ensures { λ r. ⌜ After s (now (im .entry)) (x .task) r (now (im .exit)) ⌝ }
 {
     match word_at(s, im, x, Address(pc + 1)) {
-        Found::Word(n) => calls_to(s, im, x, pc + 2, n),
+        Found::Word(n) => match op {
+            JUMP => jump_on(s, im, x, pc + 2, n),
+            CALL => calls_to(s, im, x, pc + 2, n),
+            _ => Went::Left,
+        },
         Found::Outside => Went::Left,
     }
 }
@@ -444,9 +432,9 @@ fn by_op(s: Shape, im: &mut [u16], x: Seat, pc: u16, w: u16) -> Went
         OR => two_registers(s, im, x, OR, pc, w),
         EXCLUSIVE_OR => two_registers(s, im, x, EXCLUSIVE_OR, pc, w),
         COMPARE => two_registers(s, im, x, COMPARE, pc, w),
-        JUMP => jumps(s, im, x, pc, w),
+        JUMP => jumps_or_calls(s, im, x, JUMP, pc, w),
         JUMP_IF => jumps_if(s, im, x, pc, w),
-        CALL => calls(s, im, x, pc, w),
+        CALL => jumps_or_calls(s, im, x, CALL, pc, w),
         RETURN => returns(s, im, x, pc, w),
         SERVICE => asks(s, im, x, pc, w),
         _ => Went::Left,

@@ -31,6 +31,17 @@ pub looked-up : (s : Shape) (im : List ℕ) (t : Task) (p : Place) (b w l : ℕ)
 looked-up s im t p b w l h ep eb ew el =
     seat record { among = h; starts = ap (λ (q : Place). q .0) ep; based = ew ∙ eb; long = el }
 
+-- a seat stays one where its task's entry in the segment table is as it was
+pub seated-kept : (s : Shape) (im out : List ℕ) (x : Seat) → Seated s im x
+    → ((c : ℕ) → c < 2 → at s out (cell Part.SegmentTable (x .task .0) c) ≡ at s im (cell Part.SegmentTable (x .task .0) c)) → Seated s out x
+seated-kept s im out x h kept =
+    seat record {
+      among = seated h .among;
+      starts = seated h .starts;
+      based = seated h .based ∙ sym (kept 0 (omega arith));
+      long = seated h .long ∙ sym (kept 1 (omega arith));
+    }
+
 module _ (s : Shape) (im : List ℕ) (x : Seat) (k : ℕ) (h : Seated s im x) (hk : k < 9) where
   own-place : place s (reg (x .task) k) .0 ≡ x .row + k
   unfolding place
@@ -62,13 +73,7 @@ module _ (s : Shape) (im : List ℕ) (x : Seat) (k : ℕ) (h : Seated s im x) (h
     table-kept c hc = rw own-put (other-part s im Part.TaskTable Part.SegmentTable (x .task .0) (x .task .0) k c v tt (seated h .among) hk (seated h .among) hc)
 
     pub own-seated : Seated s out x
-    own-seated =
-        seat record {
-          among = seated h .among;
-          starts = seated h .starts;
-          based = seated h .based ∙ sym (table-kept 0 (omega arith));
-          long = seated h .long ∙ sym (table-kept 1 (omega arith));
-        }
+    own-seated = seated-kept s im out x h table-kept
 
 -- an address within the length, and one past it
 module _ (s : Shape) (im : List ℕ) (x : Seat) (a : Address) (h : Seated s im x) where
@@ -107,10 +112,4 @@ module _ (s : Shape) (im : List ℕ) (x : Seat) (p : Place) (g : Sound s im) (h 
         (other-part s im Part.Segments Part.SegmentTable _ (x .task .0) _ c v tt (ok .0) (ok .1) (seated h .among) hc)
 
     pub written-seated : Seated s out x
-    written-seated =
-        seat record {
-          among = seated h .among;
-          starts = seated h .starts;
-          based = seated h .based ∙ sym (entry-kept 0 (omega arith));
-          long = seated h .long ∙ sym (entry-kept 1 (omega arith));
-        }
+    written-seated = seated-kept s im out x h entry-kept

@@ -22,10 +22,11 @@ use Rattle.paper.specs.declared.Reply.{Reply}
 use Rattle.laws.specs.Sound.{Sound, sound}
 use Rattle.laws.specs.Orders.{order-keeps, not-own, keeps-sound}
 use Rattle.laws.specs.Replies.{happening-unchanged}
-use Rattle.laws.specs.Stays.{Lawful, good}
+use Rattle.laws.specs.Stays.{Lawful}
 use Rattle.events.specs.Runs.{Runs}
-use Rattle.happening.specs.Needs.{lawful-runs}
-use Rattle.seats.specs.Seated.{Seated, seat, seated}
+use Rattle.happening.specs.Needs.{lawful-sound, lawful-runs}
+use Rattle.seats.specs.Seated.{Seated, seated}
+use Rattle.seats.specs.Needs.{seated-kept}
 use Rattle.seats.specs.declared.Seat.{Seat}
 use Rattle.plain.specs.After.{After}
 use Rattle.plain.specs.declared.Went.{Went}
@@ -110,14 +111,7 @@ module _ (s : Shape) (im : List ℕ) (x : Seat) (most pc taken : ℕ) (m : List 
         rw e (order-keeps s m (x .task) hi (sound (goes .sound-now) .laid) .others (cell Part.SegmentTable (x .task .0) c) (hi, hc) (not-own s m (x .task) _ tt tt))
 
     more-seated : Seated s out x
-    more-seated =
-        let h = seated (goes .seated-now) in
-        seat record {
-          among = h .among;
-          starts = h .starts;
-          based = h .based ∙ sym (entry-kept 0 (omega arith));
-          long = h .long ∙ sym (entry-kept 1 (omega arith));
-        }
+    more-seated = seated-kept s m out x (goes .seated-now) entry-kept
 
     pub goes-more : (n : ℕ) → n ≡ at s out (next-order (x .task)) → at s out (flags (x .task)) < 4 → Going s im x most n (taken + 1) out
     unfolding Going
@@ -217,8 +211,8 @@ module _ (s : Shape) (im m out : List ℕ) (t : Task) (n : ℕ) (h : Ticks s im 
   turn-refused f e = rw (eo ∙ ap (λ o. o .image) (sym tick-is) ∙ happening-unchanged s m Event.Tick f (ap (λ o. o .reply) tick-is ∙ sym er ∙ e)) h
 
 -- sound images of one shape are of one length
-pub sound-long : (s : Shape) (im m : List ℕ) → Sound s im → Sound s m → length m ≡ length im
-sound-long s im m g h = sound h .laid .words ∙ sym (sound g .laid .words)
+pub sound-long : (s : Shape) (a b : List ℕ) → Sound s a → Sound s b → length a ≡ length b
+sound-long s a b g h = sound g .laid .words ∙ sym (sound h .laid .words)
 
 -- with nobody ready every tick is idle
 pub idle-ticks : (s : Shape) (im m : List ℕ) (n most : ℕ) (none : Bool) → Ticks s im n m → n ≤ most → none ≡ empty s m Queue.Ready → none ≡ true → Ticks s im most m
@@ -265,4 +259,4 @@ module _ (s : Shape) (im m₁ m : List ℕ) (n k : ℕ) (h : Ticks s im n m₁) 
 
 -- lawful images of one shape are of one length
 pub lawful-long : (s : Shape) (a b : List ℕ) → Lawful s a → Lawful s b → length a ≡ length b
-lawful-long s a b g h = good g .laid .words ∙ sym (good h .laid .words)
+lawful-long s a b g h = sound-long s a b (lawful-sound s a g) (lawful-sound s b h)

@@ -3,7 +3,8 @@ use Prim.Native.Nat.{_-_, _≤_}
 use native.Mathlib.Omega.{arith}
 use Rattle.laws.specs.Stays.{Lawful}
 use Rattle.kernel.specs.Lists.{TakenFrom, taken-none}
-use Rattle.kernel.specs.Needs.{lawful-long, event-there, ticks-follow, next-taken, next-count, next-stop, next-image, ended-count, ended-stop, ended-image}
+use Rattle.stretches.specs.Needs.{lawful-long}
+use Rattle.kernel.specs.Needs.{event-there, ticks-follow, next-taken, next-count, next-stop, next-image, ended-count, ended-stop, ended-image}
 use borrow.Author.Needs.{needs}
 use Rattle.kernel.proofs.take_events.Statement.{statement}
 use Rattle.kernel.proofs.take_events.Tie as tie

@@ -44,14 +44,14 @@ two-registers-requires-11 c κs = (search needs, (search needs, (search needs, (
 two-registers-requires-12 : tie.Need-two-registers-requires-12
 two-registers-requires-12 c κs = (search needs, (search needs, (search needs, (search needs, (search needs, (search needs, refl))))))
 
-jumps-requires : tie.Need-jumps-requires
-jumps-requires c κs = (search needs, (search needs, (search needs, (search needs, (search needs, search needs)))))
+jumps-or-calls-requires : tie.Need-jumps-or-calls-requires
+jumps-or-calls-requires c κs = (search needs, (search needs, (search needs, (search needs, (search needs, search needs)))))
 
 jumps-if-requires : tie.Need-jumps-if-requires
 jumps-if-requires c κs = (search needs, (search needs, (search needs, (search needs, (search needs, search needs)))))
 
-calls-requires : tie.Need-calls-requires
-calls-requires c κs = (search needs, (search needs, (search needs, (search needs, (search needs, search needs)))))
+jumps-or-calls-requires-2 : tie.Need-jumps-or-calls-requires-2
+jumps-or-calls-requires-2 c κs = (search needs, (search needs, (search needs, (search needs, (search needs, search needs)))))
 
 returns-requires : tie.Need-returns-requires
 returns-requires c κs = (search needs, (search needs, (search needs, (search needs, (search needs, search needs)))))
@@ -79,9 +79,9 @@ by-op-spec =
     two-registers-requires-10
     two-registers-requires-11
     two-registers-requires-12
-    jumps-requires
+    jumps-or-calls-requires
     jumps-if-requires
-    calls-requires
+    jumps-or-calls-requires-2
     returns-requires
     asks-requires
     (λ c. search needs)
