@@ -1,3 +1,3 @@
-pub mod After
 pub mod Fields
+pub mod After
 pub mod Needs

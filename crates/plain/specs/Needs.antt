@@ -28,13 +28,14 @@ use Rattle.laws.specs.Cells.{at-same, at-other, other-part, length-put}
 use Rattle.laws.specs.Segments.{segment-upto, segment-valid, stored}
 use Rattle.laws.specs.Sound.{Sound, sound}
 use Rattle.laws.specs.Effects.{found-inside}
+use Rattle.shapes.specs.Entries.{encoded}
 use Rattle.operands.specs.Needs.{operand-other}
 use Rattle.orders.specs.Needs.{register-made, store-made, flags-made, call-made, return-made, stacked}
 use Rattle.seats.specs.Seated.{Seated, Inside, seated}
 use Rattle.seats.specs.Needs.{reach-inside, segment-of}
 use Rattle.seats.specs.declared.Seat.{Seat}
-use Rattle.plain.specs.After.{Calm, After}
-use Rattle.plain.specs.Fields.{Fits, loose, Clear, fields-hold, two-clear, load-clear, alone-clear, condition-clear, return-clear, service-clear}
+use Rattle.plain.specs.After.{Calm, Fetched, After}
+use Rattle.plain.specs.Fields.{Fits, is-fit, loose, Clear, fields-hold, two-clear, load-clear, alone-clear, condition-clear, return-clear, service-clear}
 use Rattle.plain.specs.declared.Went.{Went}
 
 -- an order that is left changes nothing
@@ -219,12 +220,30 @@ module _ (s : Shape) (im : List ℕ) (x : Seat) (pc w : ℕ) (f : Found) (en : p
   unfolding order
   is-ordered = rw (← en, ← ef, fw)
 
+pub is-fetched : (s : Shape) (im : List ℕ) (x : Seat) (pc w : ℕ) (t : Bool) → Calm s im x pc
+    → order s im (x .task) ≡ checked (shape-of-order (order-of (op-of w))) s im (x .task) w
+    → t ≡ eqb (on-bits min (encoded (shape-of-order (order-of (op-of w)))) (w % 256)) 0 → t ≡ true → Fetched s im x pc w
+unfolding Fetched
+is-fetched s im x pc w t calm eo et ok = (calm, eo, is-fit w t et ok)
+
 -- a number other than 0
 pos : (a : ℕ) → a ≢ 0 → 1 ≤ a
 pos a ne = dite (decLt 0 a) (λ l. l) (λ l. absurd (ne (omega arith)))
 
 -- an order of a known shape whose fields hold what they may
-module _ (s : Shape) (im : List ℕ) (x : Seat) (pc : ℕ) (g : Sound s im) (h : Seated s im x) (calm : Calm s im x pc) where
+module _ (s : Shape) (im : List ℕ) (x : Seat) (pc w : ℕ) (g : Sound s im) (h : Seated s im x) (fetched : Fetched s im x pc w) where
+  calm : Calm s im x pc
+  unfolding Fetched
+  calm = fetched .0
+
+  eo : order s im (x .task) ≡ checked (shape-of-order (order-of (op-of w))) s im (x .task) w
+  unfolding Fetched
+  eo = fetched .1
+
+  fits : Fits w
+  unfolding Fetched
+  fits = fetched .2
+
   next-is : pc ≡ at s im (next-order (x .task))
   unfolding Calm
   next-is = calm .0
@@ -241,110 +260,109 @@ module _ (s : Shape) (im : List ℕ) (x : Seat) (pc : ℕ) (g : Sound s im) (h :
   pub is-low-1 : pc + 1 < 65536
   is-low-1 = omega (arith, is-low)
 
-  module _ (w : ℕ) (eo : order s im (x .task) ≡ checked (shape-of-order (order-of (op-of w))) s im (x .task) w) (fits : Fits w) where
-    abbrev Acts : Op → ℕ → Type 0
-    Acts o n = order s im (x .task) ≡ effect o s im (x .task) (pc + n) (a-of w) (operand s im (x .task) (pc + n) (a-of w)) (operand s im (x .task) (pc + n) (b-of w))
+  abbrev Acts : Op → ℕ → Type 0
+  Acts o n = order s im (x .task) ≡ effect o s im (x .task) (pc + n) (a-of w) (operand s im (x .task) (pc + n) (a-of w)) (operand s im (x .task) (pc + n) (b-of w))
 
-    known-acts : (o : Op) (n : ℕ) (fa fb : Field) → n ≤ 2 → order-of (op-of w) ≡ o → shape-of-order o ≡ OrderShape.Known n fa fb
-        → holds fa (a-of w) ≡ true → holds fb (b-of w) ≡ true → serves fa (a-of w) ≡ true → Acts o n
-    unfolding checked effect-of
-    known-acts o n fa fb small e sh ha hb hs =
-        let past-is : past s im (x .task) n ≡ pc + n = omega (arith, next-is, is-low) in
-        rw (e, sh, ha, hb, hs, e, past-is) at eo
+  known-acts : (o : Op) (n : ℕ) (fa fb : Field) → n ≤ 2 → order-of (op-of w) ≡ o → shape-of-order o ≡ OrderShape.Known n fa fb
+      → holds fa (a-of w) ≡ true → holds fb (b-of w) ≡ true → serves fa (a-of w) ≡ true → Acts o n
+  unfolding checked effect-of
+  known-acts o n fa fb small e sh ha hb hs =
+      let past-is : past s im (x .task) n ≡ pc + n = omega (arith, next-is, is-low) in
+      rw (e, sh, ha, hb, hs, e, past-is) at eo
 
-    -- the fields of the order with op k
-    fields : (k n : ℕ) (fa fb : Field) → Clear (OrderShape.Known n fa fb) → op-of w ≡ k → shape-of-order (order-of k) ≡ OrderShape.Known n fa fb
-        → (holds (loose fa) (a-of w) ≡ true) × (holds fb (b-of w) ≡ true)
-    fields k n fa fb t ek sh = fields-hold w n fa fb t (rw ek sh) fits
+  -- the fields of the order with op k
+  fields : (k n : ℕ) (fa fb : Field) → Clear (OrderShape.Known n fa fb) → op-of w ≡ k → shape-of-order (order-of k) ≡ OrderShape.Known n fa fb
+      → (holds (loose fa) (a-of w) ≡ true) × (holds fb (b-of w) ≡ true)
+  fields k n fa fb t ek sh = fields-hold w n fa fb t (rw ek sh) fits
 
-    -- two registers
-    module _ (op : ℕ) (eop : op-of w ≡ op) (shape : shape-of-order (order-of op) ≡ two-registers) where
-      registers : (holds Field.Register (a-of w) ≡ true) × (holds Field.Register (b-of w) ≡ true)
-      registers = fields op 1 Field.Register Field.Register two-clear eop shape
+  -- two registers
+  module _ (op : ℕ) (eop : op-of w ≡ op) (shape : shape-of-order (order-of op) ≡ two-registers) where
+    registers : (holds Field.Register (a-of w) ≡ true) × (holds Field.Register (b-of w) ≡ true)
+    registers = fields op 1 Field.Register Field.Register two-clear eop shape
 
-      module _ (a : ℕ) (ea : a ≡ a-of w) where
-        a-below : a < 8
-        a-below = rw ea (ltb-true (a-of w) 8 (registers .0))
+    module _ (a : ℕ) (ea : a ≡ a-of w) where
+      a-below : a < 8
+      a-below = rw ea (ltb-true (a-of w) 8 (registers .0))
 
-        pub a-in-row : a < 9
-        a-in-row = omega (arith, a-below)
+      pub a-in-row : a < 9
+      a-in-row = omega (arith, a-below)
 
-        pub a-named : a ≢ 0 → (1 ≤ a) × (a < 8)
-        a-named ne = (pos a ne, a-below)
+      pub a-named : a ≢ 0 → (1 ≤ a) × (a < 8)
+      a-named ne = (pos a ne, a-below)
 
-      module _ (b : ℕ) (eb : b ≡ b-of w) where
-        b-below : b < 8
-        b-below = rw eb (ltb-true (b-of w) 8 (registers .1))
+    module _ (b : ℕ) (eb : b ≡ b-of w) where
+      b-below : b < 8
+      b-below = rw eb (ltb-true (b-of w) 8 (registers .1))
 
-        pub b-in-row : b < 9
-        b-in-row = omega (arith, b-below)
+      pub b-in-row : b < 9
+      b-in-row = omega (arith, b-below)
 
-      pub two-act : (a b v y : ℕ) → a ≡ a-of w → b ≡ b-of w → a ≢ 0 → b ≢ 0 → v ≡ at s im (reg (x .task) a) → y ≡ at s im (reg (x .task) b)
-          → order s im (x .task) ≡ effect (order-of op) s im (x .task) (pc + 1) a v y
-      two-act a b v y ea eb na nb ev ey =
-          let acts = known-acts (order-of op) 1 Field.Register Field.Register (omega arith) (ap order-of eop) shape (registers .0) (registers .1) refl in
-          let va = operand-other s im (x .task) (pc + 1) a v g (seated h .among) (a-below a ea) na ev in
-          let vb = operand-other s im (x .task) (pc + 1) b y g (seated h .among) (b-below b eb) nb ey in
-          rw (va, vb, ea, eb) acts
+    pub two-act : (a b v y : ℕ) → a ≡ a-of w → b ≡ b-of w → a ≢ 0 → b ≢ 0 → v ≡ at s im (reg (x .task) a) → y ≡ at s im (reg (x .task) b)
+        → order s im (x .task) ≡ effect (order-of op) s im (x .task) (pc + 1) a v y
+    two-act a b v y ea eb na nb ev ey =
+        let acts = known-acts (order-of op) 1 Field.Register Field.Register (omega arith) (ap order-of eop) shape (registers .0) (registers .1) refl in
+        let va = operand-other s im (x .task) (pc + 1) a v g (seated h .among) (a-below a ea) na ev in
+        let vb = operand-other s im (x .task) (pc + 1) b y g (seated h .among) (b-below b eb) nb ey in
+        rw (va, vb, ea, eb) acts
 
-    -- a register and a second word
-    module _ (op : op-of w ≡ 1) (a : ℕ) (ea : a ≡ a-of w) (ne : a ≢ 0) where
-      load-fields : (holds Field.Register (a-of w) ≡ true) × (holds Field.Unused (b-of w) ≡ true)
-      load-fields = fields 1 2 Field.Register Field.Unused load-clear op refl
+  -- a register and a second word
+  module _ (op : op-of w ≡ 1) (a : ℕ) (ea : a ≡ a-of w) (ne : a ≢ 0) where
+    load-fields : (holds Field.Register (a-of w) ≡ true) × (holds Field.Unused (b-of w) ≡ true)
+    load-fields = fields 1 2 Field.Register Field.Unused load-clear op refl
 
-      pub load-named : (1 ≤ a) × (a < 8)
-      load-named = (pos a ne, rw ea (ltb-true (a-of w) 8 (load-fields .0)))
+    pub load-named : (1 ≤ a) × (a < 8)
+    load-named = (pos a ne, rw ea (ltb-true (a-of w) 8 (load-fields .0)))
 
-      pub load-acts : (n : ℕ) (f : Found) → f ≡ found s im (x .task) (pc + 1) → f ≡ Found.Word n → order s im (x .task) ≡ sets (pc + 2) a n
-      load-acts n f ef fw =
-          let acts = known-acts Op.Load 2 Field.Register Field.Unused (omega arith) (ap order-of op) refl (load-fields .0) (load-fields .1) refl in
-          rw ea (rw (← next-is, ← ef, fw) at acts)
+    pub load-acts : (n : ℕ) (f : Found) → f ≡ found s im (x .task) (pc + 1) → f ≡ Found.Word n → order s im (x .task) ≡ sets (pc + 2) a n
+    load-acts n f ef fw =
+        let acts = known-acts Op.Load 2 Field.Register Field.Unused (omega arith) (ap order-of op) refl (load-fields .0) (load-fields .1) refl in
+        rw ea (rw (← next-is, ← ef, fw) at acts)
 
-    -- a condition and a second word
-    module _ (n f : ℕ) (en : found s im (x .task) (pc + 1) ≡ Found.Word n) (op : op-of w ≡ 15) (low : a-of w ≤ 2) (ef : f ≡ at s im (reg (x .task) 8)) where
-      condition-acts : (c : Bool) → eqb (cc-of (at s im (reg (x .task) 8))) (a-of w) ≡ c → order s im (x .task) ≡ sets (pc + 2) 0 (cond c n (pc + 2))
-      condition-acts c ec =
-          let none = fields 15 2 Field.Condition Field.Unused condition-clear op refl in
-          let acts = known-acts Op.JumpIf 2 Field.Condition Field.Unused (omega arith) (ap order-of op) refl (le-leb (a-of w) 2 low) (none .1) refl in
-          rw (← next-is, en, ec) at acts
+  -- a condition and a second word
+  module _ (n f : ℕ) (en : found s im (x .task) (pc + 1) ≡ Found.Word n) (op : op-of w ≡ 15) (low : a-of w ≤ 2) (ef : f ≡ at s im (reg (x .task) 8)) where
+    condition-acts : (c : Bool) → eqb (cc-of (at s im (reg (x .task) 8))) (a-of w) ≡ c → order s im (x .task) ≡ sets (pc + 2) 0 (cond c n (pc + 2))
+    condition-acts c ec =
+        let none = fields 15 2 Field.Condition Field.Unused condition-clear op refl in
+        let acts = known-acts Op.JumpIf 2 Field.Condition Field.Unused (omega arith) (ap order-of op) refl (le-leb (a-of w) 2 low) (none .1) refl in
+        rw (← next-is, en, ec) at acts
 
-      pub jump-taken : f ≡ a-of w → order s im (x .task) ≡ sets (pc + 2) 0 n
-      jump-taken e =
-          let same : cc-of (at s im (reg (x .task) 8)) ≡ a-of w = omega (arith, ef, is-quiet) in
-          condition-acts true (eq-eqb (cc-of (at s im (reg (x .task) 8))) (a-of w) same)
+    pub jump-taken : f ≡ a-of w → order s im (x .task) ≡ sets (pc + 2) 0 n
+    jump-taken e =
+        let same : cc-of (at s im (reg (x .task) 8)) ≡ a-of w = omega (arith, ef, is-quiet) in
+        condition-acts true (eq-eqb (cc-of (at s im (reg (x .task) 8))) (a-of w) same)
 
-      pub jump-passed : f ≢ a-of w → order s im (x .task) ≡ sets (pc + 2) 0 (pc + 2)
-      jump-passed e =
-          let apart : cc-of (at s im (reg (x .task) 8)) ≢ a-of w = λ z. e (omega (arith, ef, is-quiet)) in
-          condition-acts false (ne-eqb (cc-of (at s im (reg (x .task) 8))) (a-of w) apart)
+    pub jump-passed : f ≢ a-of w → order s im (x .task) ≡ sets (pc + 2) 0 (pc + 2)
+    jump-passed e =
+        let apart : cc-of (at s im (reg (x .task) 8)) ≢ a-of w = λ z. e (omega (arith, ef, is-quiet)) in
+        condition-acts false (ne-eqb (cc-of (at s im (reg (x .task) 8))) (a-of w) apart)
 
-    -- a second word alone
-    module _ (n : ℕ) (f : Found) (ef : f ≡ found s im (x .task) (pc + 1)) (fw : f ≡ Found.Word n) where
-      alone-acts : (k : ℕ) → op-of w ≡ k → shape-of-order (order-of k) ≡ OrderShape.Known 2 Field.Unused Field.Unused → Acts (order-of k) 2
-      alone-acts k e sh =
-          let none = fields k 2 Field.Unused Field.Unused alone-clear e sh in
-          known-acts (order-of k) 2 Field.Unused Field.Unused (omega arith) (ap order-of e) sh (none .0) (none .1) refl
+  -- a second word alone
+  module _ (n : ℕ) (f : Found) (ef : f ≡ found s im (x .task) (pc + 1)) (fw : f ≡ Found.Word n) where
+    alone-acts : (k : ℕ) → op-of w ≡ k → shape-of-order (order-of k) ≡ OrderShape.Known 2 Field.Unused Field.Unused → Acts (order-of k) 2
+    alone-acts k e sh =
+        let none = fields k 2 Field.Unused Field.Unused alone-clear e sh in
+        known-acts (order-of k) 2 Field.Unused Field.Unused (omega arith) (ap order-of e) sh (none .0) (none .1) refl
 
-      pub jump-acts : op-of w ≡ 14 → order s im (x .task) ≡ sets (pc + 2) 0 n
-      jump-acts e = rw (← next-is, ← ef, fw) at (alone-acts 14 e refl)
+    pub jump-acts : op-of w ≡ 14 → order s im (x .task) ≡ sets (pc + 2) 0 n
+    jump-acts e = rw (← next-is, ← ef, fw) at (alone-acts 14 e refl)
 
-      pub call-acts : op-of w ≡ 16 → order s im (x .task) ≡ calls s im (x .task) (pc + 2) (mod-word (at s im (stack (x .task)) + 65535)) n
-      call-acts e = rw (← next-is, ← ef, fw) at (alone-acts 16 e refl)
+    pub call-acts : op-of w ≡ 16 → order s im (x .task) ≡ calls s im (x .task) (pc + 2) (mod-word (at s im (stack (x .task)) + 65535)) n
+    call-acts e = rw (← next-is, ← ef, fw) at (alone-acts 16 e refl)
 
-    -- one word
-    pub return-acts : (v top n : ℕ) (f : Found) → op-of w ≡ 17 → v ≡ at s im (reg (x .task) 1) → f ≡ found s im (x .task) v → f ≡ Found.Word n
-        → top ≡ mod-word (v + 1) → order s im (x .task) ≡ Effect.Does (pc + 1) (Change.Return top n)
-    return-acts v top n f e ev ef fw etop =
-        let none = fields 17 1 Field.Unused Field.Unused return-clear e refl in
-        let acts = known-acts Op.Return 1 Field.Unused Field.Unused (omega arith) (ap order-of e) refl (none .0) (none .1) refl in
-        rw etop (rw (← ev, ← ef, fw) at acts)
+  -- one word
+  pub return-acts : (v top n : ℕ) (f : Found) → op-of w ≡ 17 → v ≡ at s im (reg (x .task) 1) → f ≡ found s im (x .task) v → f ≡ Found.Word n
+      → top ≡ mod-word (v + 1) → order s im (x .task) ≡ Effect.Does (pc + 1) (Change.Return top n)
+  return-acts v top n f e ev ef fw etop =
+      let none = fields 17 1 Field.Unused Field.Unused return-clear e refl in
+      let acts = known-acts Op.Return 1 Field.Unused Field.Unused (omega arith) (ap order-of e) refl (none .0) (none .1) refl in
+      rw etop (rw (← ev, ← ef, fw) at acts)
 
-    pub service-acts : (t : Bool) (v f : ℕ) → op-of w ≡ 18 → t ≡ (leb 1 (a-of w) && leb (a-of w) 4) → not t ≡ false
-        → v ≡ at s im (reg (x .task) 8) → f ≡ flags-of (cc-of v) (error-of v) (a-of w) → order s im (x .task) ≡ flags-become (pc + 1) f
-    service-acts t v f e et ok ev ef =
-        let none = fields 18 1 Field.Service Field.Unused service-clear e refl in
-        let acts = known-acts Op.Service 1 Field.Service Field.Unused (omega arith) (ap order-of e) refl refl (none .1) (sym et ∙ not-false t ok) in
-        rw (ef, ev) acts
+  pub service-acts : (t : Bool) (v f : ℕ) → op-of w ≡ 18 → t ≡ (leb 1 (a-of w) && leb (a-of w) 4) → not t ≡ false
+      → v ≡ at s im (reg (x .task) 8) → f ≡ flags-of (cc-of v) (error-of v) (a-of w) → order s im (x .task) ≡ flags-become (pc + 1) f
+  service-acts t v f e et ok ev ef =
+      let none = fields 18 1 Field.Service Field.Unused service-clear e refl in
+      let acts = known-acts Op.Service 1 Field.Service Field.Unused (omega arith) (ap order-of e) refl refl (none .1) (sym et ∙ not-false t ok) in
+      rw (ef, ev) acts
 
 -- a register is a word of its task's row
 pub in-row : (a : ℕ) → (1 ≤ a) × (a < 8) → a < 9

@@ -10,8 +10,7 @@ ghost use Rattle.paper.specs.declared.Effect.{Effect};
 ghost use Rattle.laws.specs.Sound.{Sound};
 ghost use Rattle.shapes.specs.Entries.{Shapes, encoded};
 ghost use Rattle.seats.specs.Seated.{Seated, Inside};
-ghost use Rattle.plain.specs.After.{Calm, After};
-ghost use Rattle.plain.specs.Fields.{Fits};
+ghost use Rattle.plain.specs.After.{Calm, Fetched, After};
 use paper::Address;
 use paper::Found;
 use paper::Place;
@@ -273,9 +272,7 @@ fn works(s: Shape, im: &mut [u16], x: Seat, op: u16, next: u16, a: usize, v: u16
 fn two_registers(s: Shape, im: &mut [u16], x: Seat, op: u16, pc: u16, w: u16) -> Went
     requires { ⌜ Sound s (now im) ⌝ }
     requires { ⌜ Seated s (now im) x ⌝ }
-    requires { ⌜ Calm s (now im) x pc ⌝ }
-    requires { ⌜ order s (now im) (x .task) ≡ checked (shape-of-order (order-of (op-of w))) s (now im) (x .task) w ⌝ }
-    requires { ⌜ Fits w ⌝ }
+    requires { ⌜ Fetched s (now im) x pc w ⌝ }
     requires { ⌜ op-of w ≡ op ⌝ }
     requires { ⌜ shape-of-order (order-of op) ≡ two-registers ⌝ }
     ensures { λ r. ⌜ After s (now (im .entry)) (x .task) r (now (im .exit)) ⌝ }
@@ -297,9 +294,7 @@ fn two_registers(s: Shape, im: &mut [u16], x: Seat, op: u16, pc: u16, w: u16) ->
 fn loads(s: Shape, im: &mut [u16], x: Seat, pc: u16, w: u16) -> Went
     requires { ⌜ Sound s (now im) ⌝ }
     requires { ⌜ Seated s (now im) x ⌝ }
-    requires { ⌜ Calm s (now im) x pc ⌝ }
-    requires { ⌜ order s (now im) (x .task) ≡ checked (shape-of-order (order-of (op-of w))) s (now im) (x .task) w ⌝ }
-    requires { ⌜ Fits w ⌝ }
+    requires { ⌜ Fetched s (now im) x pc w ⌝ }
     requires { ⌜ op-of w ≡ 1 ⌝ }
     ensures { λ r. ⌜ After s (now (im .entry)) (x .task) r (now (im .exit)) ⌝ }
 {
@@ -317,9 +312,7 @@ fn loads(s: Shape, im: &mut [u16], x: Seat, pc: u16, w: u16) -> Went
 fn jumps_if(s: Shape, im: &mut [u16], x: Seat, pc: u16, w: u16) -> Went
     requires { ⌜ Sound s (now im) ⌝ }
     requires { ⌜ Seated s (now im) x ⌝ }
-    requires { ⌜ Calm s (now im) x pc ⌝ }
-    requires { ⌜ order s (now im) (x .task) ≡ checked (shape-of-order (order-of (op-of w))) s (now im) (x .task) w ⌝ }
-    requires { ⌜ Fits w ⌝ }
+    requires { ⌜ Fetched s (now im) x pc w ⌝ }
     requires { ⌜ op-of w ≡ 15 ⌝ }
     ensures { λ r. ⌜ After s (now (im .entry)) (x .task) r (now (im .exit)) ⌝ }
 {
@@ -357,9 +350,7 @@ fn calls_to(s: Shape, im: &mut [u16], x: Seat, next: u16, n: u16) -> Went
 fn jumps_or_calls(s: Shape, im: &mut [u16], x: Seat, op: u16, pc: u16, w: u16) -> Went
     requires { ⌜ Sound s (now im) ⌝ }
     requires { ⌜ Seated s (now im) x ⌝ }
-    requires { ⌜ Calm s (now im) x pc ⌝ }
-    requires { ⌜ order s (now im) (x .task) ≡ checked (shape-of-order (order-of (op-of w))) s (now im) (x .task) w ⌝ }
-    requires { ⌜ Fits w ⌝ }
+    requires { ⌜ Fetched s (now im) x pc w ⌝ }
     requires { ⌜ op-of w ≡ op ⌝ }
     ensures { λ r. ⌜ After s (now (im .entry)) (x .task) r (now (im .exit)) ⌝ }
 {
@@ -377,9 +368,7 @@ fn jumps_or_calls(s: Shape, im: &mut [u16], x: Seat, op: u16, pc: u16, w: u16) -
 fn returns(s: Shape, im: &mut [u16], x: Seat, pc: u16, w: u16) -> Went
     requires { ⌜ Sound s (now im) ⌝ }
     requires { ⌜ Seated s (now im) x ⌝ }
-    requires { ⌜ Calm s (now im) x pc ⌝ }
-    requires { ⌜ order s (now im) (x .task) ≡ checked (shape-of-order (order-of (op-of w))) s (now im) (x .task) w ⌝ }
-    requires { ⌜ Fits w ⌝ }
+    requires { ⌜ Fetched s (now im) x pc w ⌝ }
     requires { ⌜ op-of w ≡ 17 ⌝ }
     ensures { λ r. ⌜ After s (now (im .entry)) (x .task) r (now (im .exit)) ⌝ }
 {
@@ -394,9 +383,7 @@ fn returns(s: Shape, im: &mut [u16], x: Seat, pc: u16, w: u16) -> Went
 fn asks(s: Shape, im: &mut [u16], x: Seat, pc: u16, w: u16) -> Went
     requires { ⌜ Sound s (now im) ⌝ }
     requires { ⌜ Seated s (now im) x ⌝ }
-    requires { ⌜ Calm s (now im) x pc ⌝ }
-    requires { ⌜ order s (now im) (x .task) ≡ checked (shape-of-order (order-of (op-of w))) s (now im) (x .task) w ⌝ }
-    requires { ⌜ Fits w ⌝ }
+    requires { ⌜ Fetched s (now im) x pc w ⌝ }
     requires { ⌜ op-of w ≡ 18 ⌝ }
     ensures { λ r. ⌜ After s (now (im .entry)) (x .task) r (now (im .exit)) ⌝ }
 {
@@ -412,9 +399,7 @@ fn asks(s: Shape, im: &mut [u16], x: Seat, pc: u16, w: u16) -> Went
 fn by_op(s: Shape, im: &mut [u16], x: Seat, pc: u16, w: u16) -> Went
     requires { ⌜ Sound s (now im) ⌝ }
     requires { ⌜ Seated s (now im) x ⌝ }
-    requires { ⌜ Calm s (now im) x pc ⌝ }
-    requires { ⌜ order s (now im) (x .task) ≡ checked (shape-of-order (order-of (op-of w))) s (now im) (x .task) w ⌝ }
-    requires { ⌜ Fits w ⌝ }
+    requires { ⌜ Fetched s (now im) x pc w ⌝ }
     ensures { λ r. ⌜ After s (now (im .entry)) (x .task) r (now (im .exit)) ⌝ }
 {
     let op = w / OP;

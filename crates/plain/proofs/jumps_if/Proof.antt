@@ -19,7 +19,7 @@ read-requires : tie.Need-read-requires
 read-requires c κs = (search needs, search (place-among, leads-inside))
 
 jump-on-requires : tie.Need-jump-on-requires
-jump-on-requires c κs = (search needs, (search needs, (search is-quiet, jump-taken _ _ _ _ (c .before .before .before .before .before .before .before .before .before .before .before .before .before .pre .0) (c .before .before .before .before .before .before .before .before .before .before .before .before .before .pre .1 .0) (c .before .before .before .before .before .before .before .before .before .before .before .before .before .pre .1 .1 .0) (c .before .before .before .before .before .before .before .before .before .before .before .before .before .args .w) (c .before .before .before .before .before .before .before .before .before .before .before .before .before .pre .1 .1 .1 .0) (c .before .before .before .before .before .before .before .before .before .before .before .before .before .pre .1 .1 .1 .1 .0) _ _ (read-is _ _ _ _ _ _ _ (c .before .before .before .before .before .before .before .before .before .reach .ensures) (c .before .before .before .before .before .before .before .p .given .1) (c .read .ensures)) (c .before .before .before .before .before .before .before .before .before .before .before .before .before .pre .1 .1 .1 .1 .1) (c .before .before .before .before .before .before .before .before .before .before .before .if1 .left) (c .before .before .before .before .own .ensures) (c .before .before .before .if2 .taken))))
+jump-on-requires c κs = (search needs, (search needs, (search is-quiet, jump-taken _ _ _ _ _ (c .before .before .before .before .before .before .before .before .before .before .before .before .before .pre .0) (c .before .before .before .before .before .before .before .before .before .before .before .before .before .pre .1 .0) (c .before .before .before .before .before .before .before .before .before .before .before .before .before .pre .1 .1 .0) _ _ (read-is _ _ _ _ _ _ _ (c .before .before .before .before .before .before .before .before .before .reach .ensures) (c .before .before .before .before .before .before .before .p .given .1) (c .read .ensures)) (c .before .before .before .before .before .before .before .before .before .before .before .before .before .pre .1 .1 .1) (c .before .before .before .before .before .before .before .before .before .before .before .if1 .left) (c .before .before .before .before .own .ensures) (c .before .before .before .if2 .taken))))
 
 add-jump-on-2 : tie.Need-add-jump-on-2
 add-jump-on-2 c = search is-low
@@ -28,7 +28,7 @@ add-jump-on-3 : tie.Need-add-jump-on-3
 add-jump-on-3 c = search is-low
 
 jump-on-requires-2 : tie.Need-jump-on-requires-2
-jump-on-requires-2 c κs = (search needs, (search needs, (search is-quiet, jump-passed _ _ _ _ (c .before .before .before .before .before .before .before .before .before .before .before .pre .0) (c .before .before .before .before .before .before .before .before .before .before .before .pre .1 .0) (c .before .before .before .before .before .before .before .before .before .before .before .pre .1 .1 .0) (c .before .before .before .before .before .before .before .before .before .before .before .args .w) (c .before .before .before .before .before .before .before .before .before .before .before .pre .1 .1 .1 .0) (c .before .before .before .before .before .before .before .before .before .before .before .pre .1 .1 .1 .1 .0) _ _ (read-is _ _ _ _ _ _ _ (c .before .before .before .before .before .before .before .reach .ensures) (c .before .before .before .before .before .p .given .1) refl) (c .before .before .before .before .before .before .before .before .before .before .before .pre .1 .1 .1 .1 .1) (c .before .before .before .before .before .before .before .before .before .if1 .left) (c .before .before .own .ensures) (c .before .if2 .left))))
+jump-on-requires-2 c κs = (search needs, (search needs, (search is-quiet, jump-passed _ _ _ _ _ (c .before .before .before .before .before .before .before .before .before .before .before .pre .0) (c .before .before .before .before .before .before .before .before .before .before .before .pre .1 .0) (c .before .before .before .before .before .before .before .before .before .before .before .pre .1 .1 .0) _ _ (read-is _ _ _ _ _ _ _ (c .before .before .before .before .before .before .before .reach .ensures) (c .before .before .before .before .before .p .given .1) refl) (c .before .before .before .before .before .before .before .before .before .before .before .pre .1 .1 .1) (c .before .before .before .before .before .before .before .before .before .if1 .left) (c .before .before .own .ensures) (c .before .if2 .left))))
 
 returns-4 : tie.Need-returns-4
 returns-4 c = search left

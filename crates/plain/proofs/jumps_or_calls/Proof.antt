@@ -12,13 +12,13 @@ add-jump-on : tie.Need-add-jump-on
 add-jump-on c = search is-low
 
 jump-on-requires : tie.Need-jump-on-requires
-jump-on-requires c κs = (search needs, (search needs, (search is-quiet, jump-acts _ _ _ _ (c .before .before .before .before .before .before .before .before .pre .0) (c .before .before .before .before .before .before .before .before .pre .1 .0) (c .before .before .before .before .before .before .before .before .pre .1 .1 .0) (c .before .before .before .before .before .before .before .before .args .w) (c .before .before .before .before .before .before .before .before .pre .1 .1 .1 .0) (c .before .before .before .before .before .before .before .before .pre .1 .1 .1 .1 .0) _ _ (c .before .before .before .before .before .word-at .ensures) (c .before .before .before .n .given .1) (c .before .before .before .before .before .before .before .before .pre .1 .1 .1 .1 .1 ∙ c .before .match2 .keys1))))
+jump-on-requires c κs = (search needs, (search needs, (search is-quiet, jump-acts _ _ _ _ _ (c .before .before .before .before .before .before .before .before .pre .0) (c .before .before .before .before .before .before .before .before .pre .1 .0) (c .before .before .before .before .before .before .before .before .pre .1 .1 .0) _ _ (c .before .before .before .before .before .word-at .ensures) (c .before .before .before .n .given .1) (c .before .before .before .before .before .before .before .before .pre .1 .1 .1 ∙ c .before .match2 .keys1))))
 
 add-calls-to : tie.Need-add-calls-to
 add-calls-to c = search is-low
 
 calls-to-requires : tie.Need-calls-to-requires
-calls-to-requires c κs = (search needs, (search needs, (search is-quiet, call-acts _ _ _ _ (c .before .before .before .before .before .before .before .before .pre .0) (c .before .before .before .before .before .before .before .before .pre .1 .0) (c .before .before .before .before .before .before .before .before .pre .1 .1 .0) (c .before .before .before .before .before .before .before .before .args .w) (c .before .before .before .before .before .before .before .before .pre .1 .1 .1 .0) (c .before .before .before .before .before .before .before .before .pre .1 .1 .1 .1 .0) _ _ (c .before .before .before .before .before .word-at .ensures) (c .before .before .before .n .given .1) (c .before .before .before .before .before .before .before .before .pre .1 .1 .1 .1 .1 ∙ c .before .match2 .keys2))))
+calls-to-requires c κs = (search needs, (search needs, (search is-quiet, call-acts _ _ _ _ _ (c .before .before .before .before .before .before .before .before .pre .0) (c .before .before .before .before .before .before .before .before .pre .1 .0) (c .before .before .before .before .before .before .before .before .pre .1 .1 .0) _ _ (c .before .before .before .before .before .word-at .ensures) (c .before .before .before .n .given .1) (c .before .before .before .before .before .before .before .before .pre .1 .1 .1 ∙ c .before .match2 .keys2))))
 
 returns-3 : tie.Need-returns-3
 returns-3 c = search left

@@ -14,7 +14,7 @@ add-set-on : tie.Need-add-set-on
 add-set-on c = search is-low
 
 set-on-requires : tie.Need-set-on-requires
-set-on-requires c κs = (search needs, (search needs, (search is-quiet, (load-named _ _ _ _ (c .before .before .before .before .before .before .before .before .before .pre .0) (c .before .before .before .before .before .before .before .before .before .pre .1 .0) (c .before .before .before .before .before .before .before .before .before .pre .1 .1 .0) (c .before .before .before .before .before .before .before .before .before .args .w) (c .before .before .before .before .before .before .before .before .before .pre .1 .1 .1 .0) (c .before .before .before .before .before .before .before .before .before .pre .1 .1 .1 .1 .0) (c .before .before .before .before .before .before .before .before .before .pre .1 .1 .1 .1 .1) _ (c .before .before .before .before .before .before .before .wide .ensures) (c .before .before .before .before .before .before .if1 .left), load-acts _ _ _ _ (c .before .before .before .before .before .before .before .before .before .pre .0) (c .before .before .before .before .before .before .before .before .before .pre .1 .0) (c .before .before .before .before .before .before .before .before .before .pre .1 .1 .0) (c .before .before .before .before .before .before .before .before .before .args .w) (c .before .before .before .before .before .before .before .before .before .pre .1 .1 .1 .0) (c .before .before .before .before .before .before .before .before .before .pre .1 .1 .1 .1 .0) (c .before .before .before .before .before .before .before .before .before .pre .1 .1 .1 .1 .1) _ (c .before .before .before .before .before .before .before .wide .ensures) (c .before .before .before .before .before .before .if1 .left) _ _ (c .before .before .before .before .word-at .ensures) (c .before .before .n .given .1)))))
+set-on-requires c κs = (search needs, (search needs, (search is-quiet, (load-named _ _ _ _ _ (c .before .before .before .before .before .before .before .before .before .pre .0) (c .before .before .before .before .before .before .before .before .before .pre .1 .0) (c .before .before .before .before .before .before .before .before .before .pre .1 .1 .0) (c .before .before .before .before .before .before .before .before .before .pre .1 .1 .1) _ (c .before .before .before .before .before .before .before .wide .ensures) (c .before .before .before .before .before .before .if1 .left), load-acts _ _ _ _ _ (c .before .before .before .before .before .before .before .before .before .pre .0) (c .before .before .before .before .before .before .before .before .before .pre .1 .0) (c .before .before .before .before .before .before .before .before .before .pre .1 .1 .0) (c .before .before .before .before .before .before .before .before .before .pre .1 .1 .1) _ (c .before .before .before .before .before .before .before .wide .ensures) (c .before .before .before .before .before .before .if1 .left) _ _ (c .before .before .before .before .word-at .ensures) (c .before .before .n .given .1)))))
 
 returns-3 : tie.Need-returns-3
 returns-3 c = search left

@@ -8,7 +8,7 @@ add-return-on : tie.Need-add-return-on
 add-return-on c = search is-low-1
 
 return-on-requires : tie.Need-return-on-requires
-return-on-requires c κs = (search needs, (search needs, (search is-quiet, return-acts _ _ _ _ (c .before .before .before .before .before .before .before .before .before .before .pre .0) (c .before .before .before .before .before .before .before .before .before .before .pre .1 .0) (c .before .before .before .before .before .before .before .before .before .before .pre .1 .1 .0) (c .before .before .before .before .before .before .before .before .before .before .args .w) (c .before .before .before .before .before .before .before .before .before .before .pre .1 .1 .1 .0) (c .before .before .before .before .before .before .before .before .before .before .pre .1 .1 .1 .1 .0) _ _ _ _ (c .before .before .before .before .before .before .before .before .before .before .pre .1 .1 .1 .1 .1) (c .before .before .before .before .before .before .before .own .ensures) (c .before .before .before .before .before .word-at .ensures) (c .before .before .before .n .given .1) (c .sum .ensures))))
+return-on-requires c κs = (search needs, (search needs, (search is-quiet, return-acts _ _ _ _ _ (c .before .before .before .before .before .before .before .before .before .before .pre .0) (c .before .before .before .before .before .before .before .before .before .before .pre .1 .0) (c .before .before .before .before .before .before .before .before .before .before .pre .1 .1 .0) _ _ _ _ (c .before .before .before .before .before .before .before .before .before .before .pre .1 .1 .1) (c .before .before .before .before .before .before .before .own .ensures) (c .before .before .before .before .before .word-at .ensures) (c .before .before .before .n .given .1) (c .sum .ensures))))
 
 returns-2 : tie.Need-returns-2
 returns-2 c = search left
