@@ -1,27 +1,25 @@
 -- Queues as code goes over them: rows of words in a list, how often each task was found, the bits of many words.
 use mathlib.Core.Path.{_≡_, refl, sym, _∙_}
 use mathlib.Core.List.{List}
-use mathlib.Core.Bool.{Bool, true, false, not, _&&_}
+use mathlib.Core.Bool.{Bool, true, false, not}
 use mathlib.Core.Logic.{dite}
-use Prim.Native.Nat.{ℕ, suc, _+_, _-_, _*_, _%_, _<_, _≤_}
+use Prim.Native.Nat.{ℕ, suc, _+_, _-_, _*_, _<_, _≤_}
 use native.Mathlib.Nat.{mul-le-mul-right}
 use native.Mathlib.Decide.{ℕ-discrete, decLt}
 use native.Mathlib.Omega.{arith}
 use borrow.Author.Tests.{not-true}
 use lib.Bits.{bitOr, or-add-and, and-le-l, and-le-r}
-use lib.Dec.{eqb, leb, ltb}
 use lib.ListN.{getD, length, replicate, getD-replicate}
 use Rattle.paper.specs.Image.{lead, most-tasks}
 use Rattle.paper.specs.Rules.{times}
 use Rattle.paper.specs.Tests.{every}
 use Rattle.laws.specs.Every.{every-none, every-fails, every-done}
 use Rattle.laws.specs.Checked.{every-is}
+use Rattle.rules.specs.Leads.{leads}
 
 -- the four words at p are those of a queue of the capacity given
 unfoldable pub row-right : List ℕ → ℕ → ℕ → Bool
-row-right im p given =
-    eqb (getD im (p + 3) 0) given && ltb (getD im p 0) (getD im (p + 3) 0) && ltb (getD im (p + 1) 0) (getD im (p + 3) 0) &&
-    leb (getD im (p + 2) 0) (getD im (p + 3) 0) && eqb ((getD im p 0 + getD im (p + 2) 0) % getD im (p + 3) 0) (getD im (p + 1) 0)
+row-right im p given = leads given (getD im p 0) (getD im (p + 1) 0) (getD im (p + 2) 0) (getD im (p + 3) 0)
 
 -- no word from one place up to another is over m
 unfoldable pub Covers : List ℕ → ℕ → ℕ → ℕ → Type 0
@@ -36,20 +34,16 @@ unfoldable pub All-found : List ℕ → List ℕ → Type 0
 All-found found ws = (k : ℕ) → k < most-tasks → getD found k 0 ≡ times k ws
 
 -- the four words, read
-pub row-tested : (im : List ℕ) (p given : ℕ) (r : Bool)
-    → r ≡ (eqb (getD im (p + 3) 0) given && ltb (getD im p 0) (getD im (p + 3) 0) && ltb (getD im (p + 1) 0) (getD im (p + 3) 0) &&
-    leb (getD im (p + 2) 0) (getD im (p + 3) 0) && eqb ((getD im p 0 + getD im (p + 2) 0) % getD im (p + 3) 0) (getD im (p + 1) 0))
-    → r ≡ row-right im p given
-unfolding row-right
-row-tested im p given r e = e
+module _ (im : List ℕ) (p given : ℕ) (r : Bool) where
+  pub row-tested : r ≡ leads given (getD im p 0) (getD im (p + 1) 0) (getD im (p + 2) 0) (getD im (p + 3) 0) → r ≡ row-right im p given
+  unfolding row-right
+  row-tested e = e
 
--- a queue never used, read
-pub unused-tested : (im : List ℕ) (p given : ℕ) (r : Bool)
-    → (r ≡ true → (eqb (getD im (p + 3) 0) given && ltb (getD im p 0) (getD im (p + 3) 0) && ltb (getD im (p + 1) 0) (getD im (p + 3) 0) &&
-    leb (getD im (p + 2) 0) (getD im (p + 3) 0) && eqb ((getD im p 0 + getD im (p + 2) 0) % getD im (p + 3) 0) (getD im (p + 1) 0)) ≡ true)
-    → r ≡ true → row-right im p given ≡ true
-unfolding row-right
-unused-tested im p given r f e = f e
+  -- and of a queue never used
+  pub unused-tested : (r ≡ true → leads given (getD im p 0) (getD im (p + 1) 0) (getD im (p + 2) 0) (getD im (p + 3) 0) ≡ true)
+      → r ≡ true → row-right im p given ≡ true
+  unfolding row-right
+  unused-tested f e = f e
 
 -- rows of queues of one capacity, one after another, from one place up to another
 pub record Rows (from end given : ℕ) : Type 0 where
