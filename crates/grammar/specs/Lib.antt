@@ -1,0 +1,6 @@
+pub mod Tokens
+pub mod Kept
+pub mod Sums
+pub mod Lines
+pub mod Texts
+pub mod Promises
