@@ -1,0 +1,19 @@
+-- Assumes nothing.
+use borrow.Author.Needs.{needs}
+use Rattle.values.specs.Laws.{lies-within, lies-beyond}
+use Rattle.values.proofs.in_range.Statement.{statement}
+use Rattle.values.proofs.in_range.Tie as tie
+
+returns : tie.Need-returns
+returns c = lies-within _ (c .if1 .taken)
+
+returns-2 : tie.Need-returns-2
+returns-2 c = lies-beyond _ (c .if1 .left)
+
+pub in-range-spec : {M : Type 1} → statement M
+in-range-spec =
+    tie.close
+    (tie.spec
+    (λ c. search needs)
+    returns
+    returns-2)
