@@ -1,0 +1,25 @@
+-- Assumes nothing.
+use Prim.Native.Nat.{_<_}
+use native.Mathlib.Omega.{arith}
+use Rattle.tables.specs.Tables.{most}
+use Rattle.giving.specs.Laws.{entry-gives, full-gives}
+use Rattle.giving.proofs.give.Statement.{statement}
+use Rattle.giving.proofs.give.Tie as tie
+
+insert-requires : tie.Need-insert-requires
+insert-requires c κs =
+    let entry = c .before .before .before .before .before .before .before .before in
+    let room : entry .args .filled < most = omega arith in
+    (entry .pre .0, (entry .pre .1 .0, (room, entry .pre .1 .1 room)))
+
+returns : tie.Need-returns
+returns c =
+    entry-gives _ _ _ _ _ _ _ (c .before .before .before .before .before .before .if1 .taken) (c .insert .ensures)
+
+returns-2 : tie.Need-returns-2
+returns-2 c =
+    let entry = c .before .before .before in
+    full-gives _ _ _ _ _ _ (c .if1 .left) (entry .pre .0) (entry .pre .1 .0)
+
+pub give-spec : {M : Type 1} → statement M
+give-spec = tie.close (tie.spec insert-requires (λ c. omega arith) returns returns-2)
