@@ -1,0 +1,23 @@
+-- Assumes nothing.
+use mathlib.Core.Path.{refl}
+use Rattle.tables.specs.Laws.{fresh-chained, fresh-headed}
+use Rattle.texts.specs.Laws.{labelled-by, texts-judged}
+use Rattle.texts.proofs.judge.Statement.{statement}
+use Rattle.texts.proofs.judge.Tie as tie
+
+read-texts-requires : tie.Need-read-texts-requires
+read-texts-requires c κs = (fresh-chained _ _ _ _ _ _ _ _ refl, fresh-headed _ _ refl)
+
+judge-script-requires : tie.Need-judge-script-requires
+judge-script-requires c κs = (c .before .before .before .before .before .read-texts .ensures .chained, (c .before .before .before .before .before .read-texts .ensures .headed, (c .before .before .before .before .before .read-texts .ensures .grows, labelled-by _ _ _ _ _ (c .before .before .before .before .before .read-texts .ensures))))
+
+returns : tie.Need-returns
+returns c = texts-judged _ _ _ _ _ _ _ (c .before .before .before .before .before .before .read-texts .ensures) (c .judge-script .ensures)
+
+pub judge-spec : {M : Type 1} → statement M
+judge-spec =
+    tie.close
+    (tie.spec
+    read-texts-requires
+    judge-script-requires
+    returns)
