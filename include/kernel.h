@@ -1,13 +1,14 @@
 /*
  * The kernel, for programs in C and C++. Link with libkernel_c.a; docs/LIBRARY.md says how it is made.
  *
- * Nothing is required of the words: any words, in any number, may be lent, and every call ends. A call either does
- * what it says, or it refuses, answers the number of the refusal and changes no word.
+ * Nothing is required of the words and bytes: any of them, in any number, may be lent, and every call ends. A call
+ * either does what it says, or it refuses, answers the number of the refusal and changes no word.
  *
- * Lent means: the pointer leads to as many words as the length beside it says, and nobody else writes them during the
- * call. A buffer that is lent for writing shares no word with another that is lent to the same call. With length 0 the
- * pointer may be NULL. A call reads and writes nothing but what it is lent. No call allocates, keeps a pointer, or has
- * a memory of earlier calls; calls on different buffers may be made at the same time.
+ * Lent means: the pointer leads to as many words, or bytes, as the length beside it says, and nobody else writes them
+ * during the call. A buffer that is lent for writing shares no word with another that is lent to the same call. With
+ * length 0 the pointer may be NULL. A call reads and writes nothing but what it is lent. No call allocates, keeps a
+ * pointer, or has a memory of earlier calls; calls on different buffers may be made at the same time. A call on texts
+ * takes at most 256 KiB of the stack.
  *
  * The numbers: 0, nothing is refused.
  *    1  image under 18 words
@@ -22,6 +23,10 @@
  *   10  a wake finds the ready queue full
  *   11  the plan is malformed, or its image would have more than 32768 words
  *   12  the target has another length than the plan's image
+ *   13  a line of the names or of the script is outside the grammar, or gives one name or label more than 8192
+ *   14  a name or label is given twice, or one that is used is not given
+ *   15  a value is out of range
+ *   16  the script has more words than the target
  */
 #ifndef KERNEL_H
 #define KERNEL_H
@@ -44,6 +49,14 @@ extern "C" {
 /* The kind and the task of a refused event: no answer has them, while 0 is a good kind and a good task. */
 #define KERNEL_NO_ANSWER 65535
 
+/* The text of a refused line: the list of names, or the script; the last where no line is refused. */
+#define KERNEL_NAMES 0
+#define KERNEL_SCRIPT 1
+#define KERNEL_NO_TEXT 65535
+
+/* The most names and labels that two texts may give together. */
+#define KERNEL_MOST_NAMES 8192
+
 /* How many words a plan's image has. */
 struct kernel_size {
     uint64_t words;  /* 0 where the plan is refused */
@@ -64,6 +77,19 @@ struct kernel_ran {
     uint16_t number; /* 0 where all were, else the number of the refusal that stopped it */
 };
 
+/* What a script with its list of names is translated to. */
+struct kernel_translated {
+    uint64_t words;  /* how many words the script has, from the target's first on; 0 where a line is refused */
+    uint16_t number; /* 0 where no line is refused, else 13 to 16 */
+    uint16_t text;   /* the text of the refused line: KERNEL_NAMES or KERNEL_SCRIPT; else KERNEL_NO_TEXT */
+};
+
+/* A refused line, as a part of its text. */
+struct kernel_line {
+    uint64_t start; /* how many bytes of the text stand before it */
+    uint64_t bytes; /* how many bytes it has, without the byte 10 that ends it; both are 0 where no line is refused */
+};
+
 /* Checks an image, which is lent for reading. Answers 0, or 1 to 6. */
 uint16_t kernel_check(const uint16_t *image, size_t words);
 
@@ -80,6 +106,18 @@ struct kernel_told kernel_event(uint16_t *image, size_t words, uint16_t kind, ui
 /* A list of events, one after another, up to the first that is refused. The image is lent for writing, the list for
    reading. A bad image, or a list that is not a multiple of three words, is refused before any event is taken. */
 struct kernel_ran kernel_run(uint16_t *image, size_t words, const uint16_t *events, size_t event_words);
+
+/* Translates a script with its list of names to words in the target, from its first on; the words past them stay as
+   they are. The names and the script are lent for reading, the target for writing. Of all refused lines the one with
+   the lowest number is told, and of those with that number the first, the names before the script; with number 16 it
+   is the script's last line. */
+struct kernel_translated kernel_translate(const uint8_t *names, size_t names_bytes, const uint8_t *script,
+                                          size_t script_bytes, uint16_t *target, size_t target_words);
+
+/* The line that kernel_translate refuses with a target of so many words. The names and the script are lent for
+   reading. Which of the two texts it stands in, kernel_translate answers. */
+struct kernel_line kernel_refused_line(const uint8_t *names, size_t names_bytes, const uint8_t *script,
+                                       size_t script_bytes, uint64_t room);
 
 #ifdef __cplusplus
 }

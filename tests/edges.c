@@ -8,7 +8,7 @@
 #define COUNT(array) (sizeof(array) / sizeof((array)[0]))
 #define EXPECT(truth) expect(truth, #truth, __LINE__)
 
-enum { IMAGE_WORDS = 57, GUARD_WORDS = 64, GUARD_BYTE = 0xA5 };
+enum { IMAGE_WORDS = 57, GUARD_WORDS = 64, GUARD_BYTE = 0xA5, GUARD_WORD = 0xA5A5 };
 
 /* The plan of the paper's example. */
 static const uint16_t plan[] = {1, 2, 1, 1, 1, 4, 2, 4656, 4672};
@@ -72,9 +72,39 @@ static void try_the_example(void)
     EXPECT(guarded());
 }
 
+/* No bytes and no words, at NULL. */
+static void try_no_texts(void)
+{
+    struct kernel_translated told = kernel_translate(NULL, 0, NULL, 0, NULL, 0);
+    struct kernel_line line = kernel_refused_line(NULL, 0, NULL, 0, 0);
+    EXPECT(told.words == 0 && told.number == 0 && told.text == KERNEL_NO_TEXT);
+    EXPECT(line.start == 0 && line.bytes == 0);
+}
+
+/* Translations to a word, of which the first has two. */
+static void try_texts(void)
+{
+    static const uint8_t names[] = {'a', '=', '7'}, script[] = {'a', '\n', 'a'};
+    memset(&memory, GUARD_BYTE, sizeof memory);
+    struct kernel_translated told = kernel_translate(names, 3, script, 3, memory.image, 1);
+    struct kernel_line line = kernel_refused_line(names, 3, script, 3, 1);
+    EXPECT(told.words == 0 && told.number == 16 && told.text == KERNEL_SCRIPT);
+    EXPECT(line.start == 2 && line.bytes == 1);
+    EXPECT(memory.image[0] == GUARD_WORD);
+
+    told = kernel_translate(names, 3, script, 2, memory.image, 1);
+    EXPECT(told.words == 1 && told.number == 0 && told.text == KERNEL_NO_TEXT);
+    EXPECT(memory.image[0] == 7 && memory.image[1] == GUARD_WORD);
+    told = kernel_translate(names, 2, NULL, 0, NULL, 0);
+    EXPECT(told.words == 0 && told.number == 13 && told.text == KERNEL_NAMES);
+    EXPECT(guarded());
+}
+
 int main(void)
 {
     try_no_words();
     try_the_example();
+    try_no_texts();
+    try_texts();
     return EXIT_SUCCESS;
 }

@@ -1,8 +1,8 @@
-//! The proved kernel, for programs in Rust: check, size, build, event, run.
+//! The proved kernel, for programs in Rust: check, size, build, event, run; translate, `refused_line`.
 //!
-//! Nothing is required of the words: any slice may be lent, empty ones too. A call either does what it says, or it
-//! refuses, answers the number of the refusal and changes no word. The numbers are the paper's, 1 to 12, as
-//! `include/kernel.h` lists them. No call allocates or keeps a reference.
+//! Nothing is required of the words and bytes: any slice may be lent, empty ones too. A call either does what it says, or
+//! it refuses, answers the number of the refusal and changes no word. The numbers are 1 to 16, as `include/kernel.h` lists
+//! them. No call allocates or keeps a reference. A call on texts takes at most 256 KiB of the stack.
 //!
 //! ```
 //! let plan = [1, 2, 1, 1, 1, 4, 2, 4656, 4672];
@@ -38,6 +38,24 @@ pub struct Ran {
     pub number: u16,
 }
 
+/// The two texts of a translation.
+#[derive(Clone, Copy, Debug, PartialEq, Eq)]
+pub enum Text {
+    /// The list of names.
+    Names,
+    /// The script.
+    Script,
+}
+
+/// Why a script is not translated.
+#[derive(Clone, Copy, Debug, PartialEq, Eq)]
+pub struct Untranslated {
+    /// 13 to 16.
+    pub number: u16,
+    /// The text that the refused line stands in.
+    pub text: Text,
+}
+
 /// The functions of the archive, as `include/kernel.h` declares them.
 mod c {
     #[repr(C)]
@@ -58,6 +76,22 @@ mod c {
         pub taken: u64,
         pub number: u16,
     }
+
+    #[repr(C)]
+    pub struct Translated {
+        pub words: u64,
+        pub number: u16,
+        pub text: u16,
+    }
+
+    #[repr(C)]
+    pub struct Line {
+        pub start: u64,
+        pub bytes: u64,
+    }
+
+    /// The list of names, as the text of a refused line.
+    pub const NAMES: u16 = 0;
 
     extern "C" {
         pub fn kernel_check(image: *const u16, words: usize) -> u16;
@@ -81,12 +115,27 @@ mod c {
             events: *const u16,
             event_words: usize,
         ) -> Ran;
+        pub fn kernel_translate(
+            names: *const u8,
+            names_bytes: usize,
+            script: *const u8,
+            script_bytes: usize,
+            target: *mut u16,
+            target_words: usize,
+        ) -> Translated;
+        pub fn kernel_refused_line(
+            names: *const u8,
+            names_bytes: usize,
+            script: *const u8,
+            script_bytes: usize,
+            room: u64,
+        ) -> Line;
     }
 }
 
-// Why every call below is safe: a slice's pointer leads to as many words as its length says, of an empty one to none,
-// which the archive allows; a slice lent for writing shares no word with another slice; and the archive's functions
-// read and write nothing but what they are lent, on any words.
+// Why every call below is safe: a slice's pointer leads to as many words, or bytes, as its length says, of an empty one
+// to none, which the archive allows; a slice lent for writing shares no word with another slice; and the archive's
+// functions read and write nothing but what they are lent, on any words and bytes.
 
 /// `value` where `number` is 0, else the number.
 fn unless_refused<T>(number: u16, value: T) -> Result<T, u16> {
@@ -96,7 +145,7 @@ fn unless_refused<T>(number: u16, value: T) -> Result<T, u16> {
     }
 }
 
-/// A count of the archive's. It counts words or events of slices that this machine holds, so it fits.
+/// A count of the archive's. It counts words, bytes or events of slices that this machine holds, so it fits.
 fn count(number: u64) -> usize {
     usize::try_from(number).expect("the archive is for machines of 64 bits")
 }
@@ -155,4 +204,53 @@ pub fn run(image: &mut [u16], events: &[u16]) -> Ran {
     let ran =
         unsafe { c::kernel_run(image.as_mut_ptr(), image.len(), events.as_ptr(), events.len()) };
     Ran { taken: count(ran.taken), number: ran.number }
+}
+
+/// Translates a script with its list of names to words in the target, from its first on; the words past them stay as they
+/// are. Answers how many words the script has.
+///
+/// # Errors
+///
+/// 13 to 16, and the text of the refused line, which is the one that [`refused_line`] gives. No word of the target is
+/// changed then.
+pub fn translate(names: &[u8], script: &[u8], target: &mut [u16]) -> Result<usize, Untranslated> {
+    // SAFETY: above.
+    let told = unsafe {
+        c::kernel_translate(
+            names.as_ptr(),
+            names.len(),
+            script.as_ptr(),
+            script.len(),
+            target.as_mut_ptr(),
+            target.len(),
+        )
+    };
+    let text = if told.text == c::NAMES { Text::Names } else { Text::Script };
+    unless_refused(told.number, count(told.words)).map_err(|number| Untranslated { number, text })
+}
+
+/// The line that [`translate`] refuses with a target of so many words, as the part of its text, without the byte 10 that
+/// ends it. Where no line is refused, the empty part at the script's start.
+pub fn refused_line<'a>(names: &'a [u8], script: &'a [u8], room: usize) -> &'a [u8] {
+    // SAFETY: above.
+    let line = unsafe {
+        c::kernel_refused_line(
+            names.as_ptr(),
+            names.len(),
+            script.as_ptr(),
+            script.len(),
+            room as u64,
+        )
+    };
+    let start = count(line.start);
+    &text_at_fault(names, script)[start..start + count(line.bytes)]
+}
+
+/// The text of the refused line. Without room every text that is refused at all is, and a line of the names whatever the
+/// room is.
+fn text_at_fault<'a>(names: &'a [u8], script: &'a [u8]) -> &'a [u8] {
+    match translate(names, script, &mut []) {
+        Err(Untranslated { text: Text::Names, .. }) => names,
+        _ => script,
+    }
 }

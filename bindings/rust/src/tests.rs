@@ -1,6 +1,7 @@
-//! Each call on the paper's example, on refused words and on empty slices.
+//! Each call on the paper's example or the example of the text form, on what is refused, and on empty slices.
 
-use crate::{build, check, event, run, size, Ran, INPUT, OUTPUT_DONE, TICK};
+use crate::{build, check, event, refused_line, run, size, translate};
+use crate::{Ran, Text, Untranslated, INPUT, OUTPUT_DONE, TICK};
 
 const PLAN: [u16; 9] = [1, 2, 1, 1, 1, 4, 2, 4656, 4672];
 
@@ -95,4 +96,74 @@ fn empty_slices_are_refused_or_do_nothing() {
     assert_eq!(run(&mut [], &[]), Ran { taken: 0, number: 1 });
     assert_eq!(run(&mut image, &[]), Ran { taken: 0, number: 0 });
     assert_eq!(image, fresh());
+}
+
+const NAMES: &[u8] = b"size = 4\nlast = size * (2 + 3) - 1\n";
+
+const SCRIPT: &[u8] = b"loop: input\nload r5 last\njumplt loop\ntable: size\n  loop + 2\n";
+
+/// What a script is translated to in room enough.
+fn translated(names: &[u8], script: &[u8]) -> Result<usize, Untranslated> {
+    translate(names, script, &mut [0; 16])
+}
+
+#[test]
+fn the_words_of_a_script_stand_first_and_the_others_stay() {
+    let mut target = [UNTOUCHED; 9];
+    assert_eq!(translate(NAMES, SCRIPT, &mut target), Ok(7));
+    assert_eq!(target, [4656, 336, 19, 3856, 0, 4, 2, UNTOUCHED, UNTOUCHED]);
+    assert_eq!(refused_line(NAMES, SCRIPT, 7), b"");
+}
+
+#[test]
+fn a_target_with_a_word_less_is_16_at_the_last_line_and_kept() {
+    let mut target = [UNTOUCHED; 6];
+    let refused = Untranslated { number: 16, text: Text::Script };
+    assert_eq!(translate(NAMES, SCRIPT, &mut target), Err(refused));
+    assert_eq!(target, [UNTOUCHED; 6]);
+    assert_eq!(refused_line(NAMES, SCRIPT, 6), b"  loop + 2");
+}
+
+#[test]
+fn a_refused_line_of_either_text_is_named() {
+    let in_names = |number| Err(Untranslated { number, text: Text::Names });
+    let in_script = |number| Err(Untranslated { number, text: Text::Script });
+    assert_eq!(translated(NAMES, b"1\nload r5\n"), in_script(13));
+    assert_eq!(refused_line(NAMES, b"1\nload r5\n", 16), b"load r5");
+    assert_eq!(translated(b"a = 1\nb = c\n", SCRIPT), in_names(14));
+    assert_eq!(refused_line(b"a = 1\nb = c\n", SCRIPT, 16), b"b = c");
+    assert_eq!(translated(b"a = 65536", b"1"), in_names(15));
+    assert_eq!(refused_line(b"a = 65536", b"1", 0), b"a = 65536");
+}
+
+#[test]
+fn a_refused_line_is_a_part_of_its_text() {
+    let names = b"a = b";
+    assert_eq!(refused_line(names, SCRIPT, 16).as_ptr(), names.as_ptr());
+    assert_eq!(refused_line(NAMES, SCRIPT, 16).as_ptr(), SCRIPT.as_ptr());
+}
+
+#[test]
+fn empty_texts_have_no_words_and_are_not_refused() {
+    assert_eq!(translate(&[], &[], &mut []), Ok(0));
+    assert_eq!(refused_line(&[], &[], 0), b"");
+}
+
+#[test]
+fn there_may_be_8192_names_and_one_more_is_13() {
+    let lines = |count| (0..count).map(|k| format!("a{k} = {k}\n")).collect::<String>();
+    assert_eq!(translated(lines(8192).as_bytes(), b"a8191"), Ok(1));
+    let refused = Untranslated { number: 13, text: Text::Names };
+    assert_eq!(translated(lines(8193).as_bytes(), b"a8191"), Err(refused));
+    assert_eq!(refused_line(lines(8193).as_bytes(), b"", 0), b"a8192 = 8192");
+}
+
+/// The most of the stack that a call on texts takes, by include/kernel.h.
+const MOST_STACK: usize = 256 * 1024;
+
+#[test]
+fn a_call_on_texts_needs_little_of_the_stack() {
+    let call = || (translated(NAMES, b"((((((((last))))))))"), refused_line(NAMES, b"b", 16));
+    let thread = std::thread::Builder::new().stack_size(MOST_STACK).spawn(call).unwrap();
+    assert_eq!(thread.join().unwrap(), (Ok(1), &b"b"[..]));
 }

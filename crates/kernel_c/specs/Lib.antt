@@ -3,3 +3,4 @@ pub mod Apart
 pub mod Promises
 pub mod Once
 pub mod Needs
+pub mod Scripts

@@ -2,10 +2,12 @@
 use mathlib.Core.Path.{_≡_, sym, _∙_, ap}
 use mathlib.Core.List.{List}
 use Prim.Native.Nat.{ℕ}
-use Rattle.kernel_c.specs.Promises.{ChecksC, MeasuresC, BuildsC, HappensC, RunsC}
+use Rattle.kernel_c.specs.Promises.{ChecksC, MeasuresC, BuildsC, HappensC, RunsC, TranslatesC, NamesLineC}
 use Rattle.kernel_c.specs.declared.Measured.{Measured}
 use Rattle.kernel_c.specs.declared.Told.{Told}
 use Rattle.kernel_c.specs.declared.Ran.{Ran}
+use Rattle.kernel_c.specs.declared.scripts.Translated.{Translated}
+use Rattle.kernel_c.specs.declared.scripts.RefusedLine.{RefusedLine}
 
 -- checking an image
 pub checks-c-once : (image : List ℕ) (a b : ℕ) → ChecksC image a → ChecksC image b → a ≡ b
@@ -43,3 +45,22 @@ ran-same a b et en =
 pub runs-c-once : (image events : List ℕ) (a b : Ran) (x y : List ℕ) → RunsC image events a x → RunsC image events b y → (a ≡ b) × (x ≡ y)
 runs-c-once image events a b x y p q =
     (ran-same a b (p .counted ∙ sym (q .counted)) (p .numbered ∙ sym (q .numbered)), p .left ∙ sym (q .left))
+
+-- a translation: how many words there are, the number, the text, and every word of the target
+translated-same : (a b : Translated) → a .words ≡ b .words → a .number ≡ b .number → a .text ≡ b .text → a ≡ b
+translated-same a b ew en et =
+    let again : ℕ → ℕ → ℕ → Translated = λ w n t. record { words = w; number = n; text = t } in
+    ap (λ w. again w (a .number) (a .text)) ew ∙ ap (λ n. again (b .words) n (a .text)) en ∙ ap (again (b .words) (b .number)) et
+
+pub translates-c-once : (names script target : List ℕ) (a b : Translated) (x y : List ℕ) → TranslatesC names script target a x → TranslatesC names script target b y → (a ≡ b) × (x ≡ y)
+translates-c-once names script target a b x y p q =
+    (translated-same a b (p .counted ∙ sym (q .counted)) (p .numbered ∙ sym (q .numbered)) (p .told ∙ sym (q .told)), p .left ∙ sym (q .left))
+
+-- the refused line: where it begins, and its bytes
+line-same : (a b : RefusedLine) → a .start ≡ b .start → a .bytes ≡ b .bytes → a ≡ b
+line-same a b es eb =
+    let again : ℕ → ℕ → RefusedLine = λ s n. record { start = s; bytes = n } in
+    ap (λ s. again s (a .bytes)) es ∙ ap (again (b .start)) eb
+
+pub names-line-c-once : (names script : List ℕ) (room : ℕ) (a b : RefusedLine) → NamesLineC names script room a → NamesLineC names script room b → a ≡ b
+names-line-c-once names script room a b p q = line-same a b (p .begins ∙ sym (q .begins)) (p .counted ∙ sym (q .counted))

@@ -1,13 +1,17 @@
--- What each exported function promises: every number of its answer, and every word of each buffer that it is lent to write. The definitions are those that the promises of paper name.
+-- What each exported function promises: every number of its answer, and every word of each buffer that it is lent to write. The definitions are those that the promises of paper and of grammar name.
 use mathlib.Core.Path.{_≡_}
 use mathlib.Core.List.{List}
 use Prim.Native.Nat.{ℕ}
+use lib.ListN.{length}
 use Rattle.paper.specs.Numbers.{verdict-number, reply-number, check, check-build}
 use Rattle.paper.specs.Calls.{plan-size, size-number, size-value, built, event, run}
+use Rattle.grammar.specs.Texts.{program, judged, answered, translation-words, translation-number, translation-text, stored, named-line}
 use Rattle.kernel_c.specs.Answers.{told-kind, told-task}
 use Rattle.kernel_c.specs.declared.Measured.{Measured}
 use Rattle.kernel_c.specs.declared.Told.{Told}
 use Rattle.kernel_c.specs.declared.Ran.{Ran}
+use Rattle.kernel_c.specs.declared.scripts.Translated.{Translated}
+use Rattle.kernel_c.specs.declared.scripts.RefusedLine.{RefusedLine}
 
 -- checking an image
 pub record ChecksC (image : List ℕ) (answer : ℕ) : Type 0 where
@@ -35,3 +39,15 @@ pub record RunsC (image events : List ℕ) (answer : Ran) (after : List ℕ) : T
   pub counted : answer .taken ≡ run image events .taken
   pub numbered : answer .number ≡ verdict-number (run image events .stop)
   pub left : after ≡ run image events .image
+
+-- translating two texts
+pub record TranslatesC (names script target : List ℕ) (answer : Translated) (after : List ℕ) : Type 0 where
+  pub counted : answer .words ≡ translation-words (answered (judged names script (length target)))
+  pub numbered : answer .number ≡ translation-number (answered (judged names script (length target)))
+  pub told : answer .text ≡ translation-text (answered (judged names script (length target)))
+  pub left : after ≡ stored (judged names script (length target)) (program names script) target
+
+-- the refused line of two texts, for a target of so many words
+pub record NamesLineC (names script : List ℕ) (room : ℕ) (answer : RefusedLine) : Type 0 where
+  pub begins : answer .start ≡ named-line (judged names script room) .from
+  pub counted : answer .bytes ≡ named-line (judged names script room) .count

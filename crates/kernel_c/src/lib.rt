@@ -1,4 +1,6 @@
 // The kernel for programs in C and Rust: the public calls of `kernel`, in the paper's numbers. No call requires anything.
+pub mod scripts;
+
 ghost use mathlib.Core.Path.{_≡_};
 ghost use Rattle.paper.specs.Numbers.{reply-number};
 ghost use Rattle.paper.specs.Calls.{size-number, size-value};

@@ -1,0 +1,38 @@
+//! The example of the text form: its script is translated with its names, in room enough, in too little, and with a
+//! name less.
+
+const MOST_WORDS: usize = 16;
+
+const NAMES: &str = "size = 4
+last = size * (2 + 3) - 1
+";
+
+const NAMES_WITHOUT_SIZE: &str = "last = size * (2 + 3) - 1
+";
+
+const SCRIPT: &str = "loop: input
+      store r3 r4
+      load r5 last
+      compare r3 r5
+      jumplt loop       ; back to the input
+table: size
+      loop + 2
+";
+
+/// Translates the script with some names to at most so many words, and prints them, or what is refused.
+fn print_translated(names: &str, room: usize) {
+    let mut target = [0; MOST_WORDS];
+    match kernel::translate(names.as_bytes(), SCRIPT.as_bytes(), &mut target[..room]) {
+        Ok(words) => target[..words].iter().for_each(|word| println!("{word}")),
+        Err(refused) => {
+            let line = kernel::refused_line(names.as_bytes(), SCRIPT.as_bytes(), room);
+            println!("refused {}: {}", refused.number, String::from_utf8_lossy(line));
+        }
+    }
+}
+
+fn main() {
+    print_translated(NAMES, MOST_WORDS);
+    print_translated(NAMES, 8);
+    print_translated(NAMES_WITHOUT_SIZE, MOST_WORDS);
+}

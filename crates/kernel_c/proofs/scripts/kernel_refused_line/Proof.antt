@@ -1,0 +1,11 @@
+-- Assumes nothing.
+use Rattle.kernel_c.specs.Scripts.{names-line-is}
+use borrow.Author.Needs.{needs}
+use Rattle.kernel_c.proofs.scripts.kernel_refused_line.Statement.{statement}
+use Rattle.kernel_c.proofs.scripts.kernel_refused_line.Tie as tie
+
+returns : tie.Need-returns
+returns c = search names-line-is
+
+pub kernel-refused-line-spec : {M : Type 1} → statement M
+kernel-refused-line-spec = tie.close (tie.spec (λ c κs. search needs) (λ c κs. search needs) returns)
