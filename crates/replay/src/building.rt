@@ -1,18 +1,16 @@
 // Replays the record of a build.
 use numbers::number_of;
 use paper::Size;
-use vectors::files::CHUNK_WORDS;
 use vectors::files::Found;
 use vectors::files::Head;
-use vectors::files::WORD_END;
-use vectors::files::least;
 use vectors::files::read_words;
 use vectors::files::wide;
 use vectors::tally::Answer;
 use vectors::tally::compared;
 use vectors::tally::worse;
-ghost use Prim.Native.Nat.{_≤_};
-ghost use lib.ListN.{length};
+use vectors::targets::is_salted;
+use vectors::targets::salt_words;
+use vectors::targets::stored_answer;
 
 // The words between a record's head and its plan.
 const MORE_WORDS: usize = 6;
@@ -37,9 +35,6 @@ const SIZE_HIGH_AT: usize = 5;
 
 // The number of a build that is not refused.
 const BUILT: u16 = 0;
-
-// How much each word of a salted target adds to the one before.
-const SALT_STEP: usize = 31;
 
 // What a record of a build says before its plan: counts of words, and what is expected.
 struct Case {
@@ -74,71 +69,12 @@ fn read_case(fd: i32, head: Head) -> Asked {
     })
 }
 
-// The word of a salted target at a place.
-fn salted(place: usize, salt: u16) -> u16 {
-    ((place % WORD_END * SALT_STEP + salt as usize) % WORD_END) as u16
-}
-
-// Salts each word of a target.
-fn salt_words(target: &mut [u16], salt: u16) {
-    for i in 0..target.len() {
-        target[i] = salted(i, salt);
-    }
-}
-
-// Whether each word of a target is as salted.
-fn is_salted(target: &[u16], salt: u16) -> bool {
-    for i in 0..target.len() {
-        if target[i] != salted(i, salt) {
-            return false;
-        }
-    }
-    true
-}
-
-// Whether some words are the first of others.
-fn are_first(words: &[u16], of: &[u16]) -> bool
-    requires { ⌜ length (now words) ≤ length (now of) ⌝ }
-{
-    for i in 0..words.len() {
-        if words[i] != of[i] {
-            return false;
-        }
-    }
-    true
-}
-
-// Compares some words with the next ones of the file.
-fn stored_part(fd: i32, words: &[u16]) -> Answer
-    requires { do ⌜ length (now words) ≤ (← ⟦CHUNK_WORDS⟧) ⌝ }
-{
-    let mut stored = [0u16; CHUNK_WORDS];
-    let found = read_words(fd, &mut stored, words.len());
-    let Found::All = found else {
-        return Answer::Bad;
-    };
-    compared(are_first(words, &stored))
-}
-
-// Compares a target with the next words of the file.
-fn stored_answer(fd: i32, target: &[u16]) -> Answer {
-    let mut answer = Answer::Same;
-    let mut at: usize = 0;
-    while at < target.len() {
-        let end = at + least(target.len() - at, CHUNK_WORDS);
-        let part = stored_part(fd, &target[at..end]);
-        answer = worse(answer, part);
-        at = end;
-    }
-    answer
-}
-
 // Compares a target after the build with what it must hold.
 fn target_answer(fd: i32, target: &[u16], case: Case) -> Answer {
     if case.number == BUILT {
         return stored_answer(fd, target);
     }
-    compared(is_salted(target, case.salt))
+    compared(is_salted(target, 0, case.salt))
 }
 
 // The words that a plan needs, or 0 where it is refused.

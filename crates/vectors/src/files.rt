@@ -1,6 +1,6 @@
 // Reads words and the heads of records from a file.
 ghost use mathlib.Core.Path.{_≡_};
-ghost use Prim.Native.Nat.{_+_, _≤_, min};
+ghost use Prim.Native.Nat.{_+_, _<_, _≤_, min};
 ghost use lib.ListN.{length};
 
 // The bytes of a word.
@@ -115,6 +115,15 @@ pub fn read_words(fd: i32, words: &mut [u16], count: usize) -> Found
         at += part;
     }
     Found::All
+}
+
+// Reads a text of count bytes, two to a word: an odd one more follows the last of an odd count.
+pub fn read_text(fd: i32, bytes: &mut [u8], count: usize) -> Found
+    requires { ⌜ count < length (now bytes) ⌝ }
+{
+    let size = count + count % WORD_BYTES;
+    let got = io::read_full(fd, &mut bytes[..size]);
+    if got == size { Found::All } else { Found::Part }
 }
 
 // Reads the head of the next record.

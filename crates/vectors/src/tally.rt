@@ -2,7 +2,7 @@
 use libc::STDOUT_FILENO;
 
 // An expected number is less than this.
-const NUMBERS: usize = 13;
+const NUMBERS: usize = 17;
 
 // How many numbers a check may give.
 pub const CHECK_COUNT: usize = 7;
@@ -33,6 +33,12 @@ pub const RUN_COUNT: usize = 10;
 
 // The numbers that a run may give: those of a check and of an event but 10, which no event on a good image gives.
 pub const RUN_NUMBERS: [u16; RUN_COUNT] = [0, 1, 2, 3, 4, 5, 6, 7, 8, 9];
+
+// How many numbers a translation may give.
+pub const TEXT_COUNT: usize = 5;
+
+// The numbers that a translation may give.
+pub const TEXT_NUMBERS: [u16; TEXT_COUNT] = [0, 13, 14, 15, 16];
 
 // How what the code under test says compares with a record, or that the record is bad.
 pub enum Answer {

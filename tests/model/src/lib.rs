@@ -29,4 +29,6 @@ pub mod runner;
 pub mod runner_files;
 pub mod running;
 pub mod runs;
+pub mod texts;
+pub mod translate;
 pub mod vectors;

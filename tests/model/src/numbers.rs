@@ -1,6 +1,6 @@
 //! The numbers that come back, by the paper's table.
 
-/// A check or a build that succeeds, or an event that is accepted.
+/// A check or a build that succeeds, or an event or a text that is accepted.
 pub const GOOD: u16 = 0;
 /// The image has under 18 words.
 pub const UNDER_HEADER: u16 = 1;
@@ -26,6 +26,15 @@ pub const READY_FULL: u16 = 10;
 pub const PLAN: u16 = 11;
 /// The target of a build is not T words.
 pub const TARGET: u16 = 12;
+/// A line of a text is not one of the grammar.
+pub const GRAMMAR: u16 = 13;
+/// A line uses a name that is not given, or gives one that was given before.
+pub const NAME: u16 = 14;
+/// A number, a label that a line uses, or a partial result is over 65535 or
+/// under 0.
+pub const VALUE: u16 = 15;
+/// A script gives more words than its target has.
+pub const ROOM: u16 = 16;
 
 /// Gives the number where the condition does not hold.
 pub fn require(holds: bool, number: u16) -> Result<(), u16> {

@@ -72,10 +72,28 @@
 //! | 6, 7 | k, how many words the run changes |
 //! | 8.. | the list's words |
 //! | then | k pairs: a place, ascending, and its new word |
+//!
+//! A record of kind 7, the translation of a script with its names:
+//!
+//! | word of a record | holds |
+//! |---|---|
+//! | 0 | kind of the record, 7 |
+//! | 1 | expected number: 0, or 13 to 16 |
+//! | 2, 3 | count of the names' bytes |
+//! | 4, 5 | count of the script's bytes |
+//! | 6, 7 | count of target words |
+//! | 8 | salt: before the call, word k of the target is (31k + salt) mod 65536 |
+//! | 9 | the text of the refused line: 0 names, 1 script; 65535 where none is |
+//! | 10, 11 | where the refused line begins in its text, 0 where none is |
+//! | 12, 13 | its count of bytes, 0 where none is |
+//! | 14, 15 | count of the script's words, 0 where a line is refused |
+//! | 16.. | the names' bytes, two to a word, low byte first, a last odd one with 0 |
+//! | then | the script's bytes in the same way |
+//! | then | the script's words, from the target's first place on |
 
 use crate::changes::Change;
 use crate::layout::word;
-use crate::{building, cases, happening, numbers, ordering, running};
+use crate::{building, cases, happening, numbers, ordering, running, texts};
 
 /// The kind of record that holds a list of words and the check's number.
 pub const CHECK: u16 = 1;
@@ -89,6 +107,8 @@ pub const ORDER: u16 = 4;
 pub const EVENT: u16 = 5;
 /// The kind of record that holds a list of events and what its run comes to.
 pub const RUN: u16 = 6;
+/// The kind of record that holds a script, its names and their translation.
+pub const TEXT: u16 = 7;
 
 /// The most changes of one order or one event.
 pub const MOST_CHANGES: usize = 16;
@@ -180,6 +200,24 @@ fn run_record(case: &running::Case) -> Vec<u16> {
     words.extend(&case.list);
     words.extend(pairs(&case.changes));
     words
+}
+
+/// The words of a record of kind 7.
+pub fn text_record(case: &texts::Case) -> Vec<u16> {
+    let found = &case.translation;
+    let mut words = vec![TEXT, found.number];
+    words.extend([case.names.len(), case.script.len(), case.room].map(count).concat());
+    words.extend([case.salt, found.text]);
+    words.extend([found.start, found.bytes, found.words.len()].map(count).concat());
+    words.extend(packed(&case.names));
+    words.extend(packed(&case.script));
+    words.extend(&found.words);
+    words
+}
+
+/// Bytes two to a word, low byte first; a last odd one stands with 0.
+fn packed(bytes: &[u8]) -> impl Iterator<Item = u16> + '_ {
+    bytes.chunks(2).map(|two| u16::from_le_bytes([two[0], *two.get(1).unwrap_or(&0)]))
 }
 
 /// Each place and its new word, of an order or an event.
@@ -308,5 +346,32 @@ mod tests {
             &(0..17).flat_map(|place| [place, 9]).collect::<Vec<_>>(),
         ];
         assert_eq!(words, by_hand.concat());
+    }
+
+    fn text_words(names: &[u8], script: &[u8], room: usize) -> Vec<u16> {
+        text_record(&texts::Case::judged(names.into(), script.into(), room, 500))
+    }
+
+    #[test]
+    fn an_accepted_text_has_its_words_after_both_texts() {
+        let by_hand: [&[u16]; 4] = [
+            &[7, 0, 3, 0, 5, 0, 4, 1, 500, 65535, 0, 0, 0, 0, 2, 0],
+            &[0x3D61, 0x0039],
+            &[0x0A61, 0x2061, 0x000A],
+            &[9, 9],
+        ];
+        assert_eq!(text_words(b"a=9", b"a\na \n", 65540), by_hand.concat());
+        let empty = [7, 0, 0, 0, 0, 0, 0, 0, 500, 65535, 0, 0, 0, 0, 0, 0];
+        assert_eq!(text_words(b"", b"", 0), empty);
+    }
+
+    #[test]
+    fn a_refused_text_has_its_line_and_ends_with_the_script() {
+        let by_hand: [&[u16]; 3] = [
+            &[7, 14, 3, 0, 6, 0, 4, 0, 500, 1, 2, 0, 3, 0, 0, 0],
+            &[0x3D61, 0x0039],
+            &[0x0A61, 0x3B62, 0x0AFF],
+        ];
+        assert_eq!(text_words(b"a=9", b"a\nb;\xFF\n", 4), by_hand.concat());
     }
 }

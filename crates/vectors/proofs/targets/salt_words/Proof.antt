@@ -3,8 +3,8 @@ use Prim.Native.Nat.{_≤_, _-_}
 use mathlib.Core.Path.{_≡_}
 use lib.ListN.{length}
 use borrow.Author.Needs.{needs}
-use Rattle.replay.proofs.building.salt_words.Statement.{statement}
-use Rattle.replay.proofs.building.salt_words.Tie as tie
+use Rattle.vectors.proofs.targets.salt_words.Statement.{statement}
+use Rattle.vectors.proofs.targets.salt_words.Tie as tie
 
 abbrev Inv-loop : tie.InvT-loop
 Inv-loop target₀ salt i₀ i-end target i = (i ≤ i-end) × (length target ≡ length target₀)

@@ -1,8 +1,8 @@
 -- `are_first` meets its contract: the loop stops at the last of the words. Assumes nothing.
 use Prim.Native.Nat.{_≤_, _-_}
 use borrow.Author.Needs.{needs}
-use Rattle.replay.proofs.building.are_first.Statement.{statement}
-use Rattle.replay.proofs.building.are_first.Tie as tie
+use Rattle.vectors.proofs.targets.are_first.Statement.{statement}
+use Rattle.vectors.proofs.targets.are_first.Tie as tie
 
 abbrev Inv-loop : tie.InvT-loop
 Inv-loop words of i₀ i-end i = i ≤ i-end

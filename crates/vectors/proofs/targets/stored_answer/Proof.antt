@@ -2,8 +2,8 @@
 use Prim.Native.Nat.{_≤_, _-_}
 use lib.ListN.{length}
 use borrow.Author.Needs.{needs}
-use Rattle.replay.proofs.building.stored_answer.Statement.{statement}
-use Rattle.replay.proofs.building.stored_answer.Tie as tie
+use Rattle.vectors.proofs.targets.stored_answer.Statement.{statement}
+use Rattle.vectors.proofs.targets.stored_answer.Tie as tie
 
 abbrev Inv-loop : tie.InvT-loop
 Inv-loop fd target answer₀ at₀ answer at = at ≤ length target
