@@ -1,12 +1,14 @@
 //! The calls of the library, and what comes back from them.
 
-/// One call, with the words that it is lent.
+/// One call, with the words and the bytes that it is lent.
 pub enum Call {
     Check { image: Vec<u16> },
     Size { plan: Vec<u16> },
     Build { plan: Vec<u16>, target: Vec<u16> },
     Event { image: Vec<u16>, event: [u16; 3] },
     Run { image: Vec<u16>, events: Vec<u16> },
+    Translate { names: Vec<u8>, script: Vec<u8>, target: Vec<u16> },
+    RefusedLine { names: Vec<u8>, script: Vec<u8>, room: u64 },
 }
 
 /// What a call answers.
@@ -17,35 +19,65 @@ pub enum Answer {
     Build { number: u16 },
     Event { number: u16, kind: u16, task: u16 },
     Run { number: u16, taken: u64 },
+    Translate { number: u16, text: u16, words: u64 },
+    RefusedLine { start: u64, bytes: u64 },
 }
 
 /// The names of the calls, in the order of their cases.
-pub const NAMES: [&str; 5] =
-    ["kernel_check", "kernel_size", "kernel_build", "kernel_event", "kernel_run"];
+pub const NAMES: [&str; 7] = [
+    "kernel_check",
+    "kernel_size",
+    "kernel_build",
+    "kernel_event",
+    "kernel_run",
+    "kernel_translate",
+    "kernel_refused_line",
+];
 
-/// What a buffer is, and its words.
-pub type Buffer<'a> = (&'static str, &'a [u16]);
+/// The most bytes of a text that are shown.
+const MOST_SHOWN: usize = 500;
+
+/// What a buffer is, and its words or bytes.
+pub type Buffer<'a, T> = (&'static str, &'a [T]);
 
 impl Call {
-    /// Each buffer that the call is lent, with its words before the call.
-    pub fn buffers(&self) -> Vec<Buffer<'_>> {
+    /// Each buffer of words that the call is lent, with its words before the call.
+    pub fn buffers(&self) -> Vec<Buffer<'_, u16>> {
         match self {
             Call::Check { image } | Call::Event { image, .. } => vec![("image", image)],
             Call::Size { plan } => vec![("plan", plan)],
             Call::Build { plan, target } => vec![("plan", plan), ("target", target)],
             Call::Run { image, events } => vec![("image", image), ("events", events)],
+            Call::Translate { target, .. } => vec![("target", target)],
+            Call::RefusedLine { .. } => vec![],
         }
     }
 
-    /// The call in a few words: its name, its event and the length of each buffer.
+    /// Each buffer of bytes that the call is lent. All are lent for reading.
+    pub fn texts(&self) -> Vec<Buffer<'_, u8>> {
+        match self {
+            Call::Translate { names, script, .. } | Call::RefusedLine { names, script, .. } => {
+                vec![("names", names), ("script", script)]
+            }
+            _ => vec![],
+        }
+    }
+
+    /// The call in a few words: its name, its event or room, the start of each text, and the length of each buffer.
     pub fn title(&self) -> String {
-        let event = match self {
+        let own = match self {
             Call::Event { event, .. } => format!(", event {event:?}"),
+            Call::RefusedLine { room, .. } => format!(", room of {room} words"),
             _ => String::new(),
         };
-        let length = |(name, words): &Buffer| format!(", {name} of {} words", words.len());
-        let lengths: String = self.buffers().iter().map(length).collect();
-        format!("{}{event}{lengths}", NAMES[self.place()])
+        let bytes = |(name, bytes): &Buffer<u8>| {
+            let shown = bytes[..bytes.len().min(MOST_SHOWN)].escape_ascii();
+            format!(", {name} of {} bytes \"{shown}\"", bytes.len())
+        };
+        let words = |(name, words): &Buffer<u16>| format!(", {name} of {} words", words.len());
+        let texts: String = self.texts().iter().map(bytes).collect();
+        let buffers: String = self.buffers().iter().map(words).collect();
+        format!("{}{own}{texts}{buffers}", NAMES[self.place()])
     }
 
     /// The call's place among the names.
@@ -56,19 +88,8 @@ impl Call {
             Call::Build { .. } => 2,
             Call::Event { .. } => 3,
             Call::Run { .. } => 4,
-        }
-    }
-}
-
-impl Answer {
-    /// The number that comes back.
-    pub fn number(&self) -> u16 {
-        match *self {
-            Answer::Check { number }
-            | Answer::Size { number, .. }
-            | Answer::Build { number }
-            | Answer::Event { number, .. }
-            | Answer::Run { number, .. } => number,
+            Call::Translate { .. } => 5,
+            Call::RefusedLine { .. } => 6,
         }
     }
 }

@@ -6,14 +6,18 @@ use model::events::{self, happen};
 use model::image::Kernel;
 use model::numbers::GOOD;
 use model::plan;
-use model::runs::run;
+use model::runs::{run, Ran};
+use model::translate::{translate, Translation};
 
 /// The kind and the task of a refused event, by include/kernel.h.
 const NO_ANSWER: u16 = 65535;
 
-/// An answer, and the words of each buffer after the call.
+/// What a call comes to.
 pub struct Outcome {
+    /// The number that refuses what the call is lent, 0 where nothing is refused. One call does not answer it.
+    pub number: u16,
     pub answer: Answer,
+    /// The words of each buffer after the call.
     pub buffers: Vec<Vec<u16>>,
 }
 
@@ -21,40 +25,44 @@ pub struct Outcome {
 pub fn outcome(call: &Call) -> Outcome {
     match call {
         Call::Check { image } => {
-            Outcome { answer: Answer::Check { number: check(image) }, buffers: vec![image.clone()] }
+            let number = check(image);
+            Outcome { number, answer: Answer::Check { number }, buffers: vec![image.clone()] }
         }
-        Call::Size { plan } => Outcome { answer: size(plan), buffers: vec![plan.clone()] },
+        Call::Size { plan } => size(plan),
         Call::Build { plan, target } => {
             let (number, built) = plan::build(plan, target);
-            Outcome { answer: Answer::Build { number }, buffers: vec![plan.clone(), built] }
+            Outcome { number, answer: Answer::Build { number }, buffers: vec![plan.clone(), built] }
         }
-        Call::Event { image, event } => {
-            let (answer, after) = one_event(image, *event);
-            Outcome { answer, buffers: vec![after] }
-        }
+        Call::Event { image, event } => one_event(image, *event),
         Call::Run { image, events } => {
-            let ran = run(image, events);
-            let answer = Answer::Run { number: ran.number, taken: ran.taken as u64 };
-            Outcome { answer, buffers: vec![ran.image, events.clone()] }
+            let Ran { number, taken, image } = run(image, events);
+            let answer = Answer::Run { number, taken: taken as u64 };
+            Outcome { number, answer, buffers: vec![image, events.clone()] }
         }
+        Call::Translate { names, script, target } => translated(names, script, target),
+        Call::RefusedLine { names, script, room } => refused_line(names, script, *room),
     }
 }
 
 /// The size of a plan's image, 0 where the plan is refused.
-fn size(plan: &[u16]) -> Answer {
-    match plan::size(plan) {
-        Ok(words) => Answer::Size { number: GOOD, words: words as u64 },
-        Err(number) => Answer::Size { number, words: 0 },
-    }
+fn size(plan: &[u16]) -> Outcome {
+    let (number, words) = match plan::size(plan) {
+        Ok(words) => (GOOD, words as u64),
+        Err(number) => (number, 0),
+    };
+    Outcome { number, answer: Answer::Size { number, words }, buffers: vec![plan.to_vec()] }
 }
 
 /// The answer to an event, and the image's words after it.
-fn one_event(image: &[u16], event: [u16; 3]) -> (Answer, Vec<u16>) {
+fn one_event(image: &[u16], event: [u16; 3]) -> Outcome {
     match taken(image, event) {
         Ok((events::Answer { kind, task }, kernel)) => {
-            (Answer::Event { number: GOOD, kind, task }, kernel.encode())
+            let answer = Answer::Event { number: GOOD, kind, task };
+            Outcome { number: GOOD, answer, buffers: vec![kernel.encode()] }
         }
-        Err(number) => (refused_event(number), image.to_vec()),
+        Err(number) => {
+            Outcome { number, answer: refused_event(number), buffers: vec![image.to_vec()] }
+        }
     }
 }
 
@@ -68,4 +76,20 @@ fn taken(image: &[u16], event: [u16; 3]) -> Result<(events::Answer, Kernel), u16
 /// The answer to an event that is refused with a number.
 pub fn refused_event(number: u16) -> Answer {
     Answer::Event { number, kind: NO_ANSWER, task: NO_ANSWER }
+}
+
+/// A script's words from the target's first place on; those past them stay.
+fn translated(names: &[u8], script: &[u8], target: &[u16]) -> Outcome {
+    let Translation { number, text, words, .. } = translate(names, script, target.len());
+    let after = [&words, &target[words.len()..]].concat();
+    let answer = Answer::Translate { number, text, words: words.len() as u64 };
+    Outcome { number, answer, buffers: vec![after] }
+}
+
+/// The line that is refused with a target of so many words.
+fn refused_line(names: &[u8], script: &[u8], room: u64) -> Outcome {
+    let room = usize::try_from(room).expect("the archive is for machines of 64 bits");
+    let Translation { number, start, bytes, .. } = translate(names, script, room);
+    let answer = Answer::RefusedLine { start: start as u64, bytes: bytes as u64 };
+    Outcome { number, answer, buffers: vec![] }
 }

@@ -1,51 +1,89 @@
-//! A buffer that is lent, with guard words on both sides.
+//! A buffer of words or of bytes that is lent, with guards on both sides.
 
+use crate::call::{Buffer, Call};
 use model::rng::Rng;
 
-/// The most guard words on a side. Any count of them occurs, so the buffer begins at any even address.
+/// The most guards on a side. Any count of them occurs, so a buffer of words begins at any even address, and one of bytes
+/// at any address.
 const MOST_GUARDS: usize = 16;
 
-/// The words of a buffer in a room with guard words before and after them.
-pub struct Lent {
-    room: Vec<u16>,
-    before: Vec<u16>,
-    after: Vec<u16>,
+/// What a buffer is made of: words or bytes.
+pub trait Unit: Copy + PartialEq {
+    /// Any of its values.
+    fn any(rng: &mut Rng) -> Self;
 }
 
-/// A word that is not what the model says.
+impl Unit for u16 {
+    fn any(rng: &mut Rng) -> u16 {
+        rng.any_word()
+    }
+}
+
+impl Unit for u8 {
+    fn any(rng: &mut Rng) -> u8 {
+        rng.any_word().to_le_bytes()[0]
+    }
+}
+
+/// The words, or bytes, of a buffer in a room with guards before and after them.
+pub struct Lent<T> {
+    room: Vec<T>,
+    before: Vec<T>,
+    after: Vec<T>,
+}
+
+/// A word, or a byte, that is not what the model says.
 #[derive(Debug, PartialEq, Eq)]
-pub struct Difference {
-    /// Its place, counted from the buffer's first word; a guard word has one outside the buffer.
+pub struct Difference<T> {
+    /// Its place, counted from the buffer's first; a guard has one outside the buffer.
     pub place: i64,
-    pub found: u16,
-    pub expected: u16,
+    pub found: T,
+    pub expected: T,
 }
 
-impl Lent {
-    /// A room of its own for these words, with guards of any count and any words.
-    pub fn new(rng: &mut Rng, words: &[u16]) -> Lent {
+/// The rooms of a call: those of its words and those of its bytes.
+pub struct Rooms {
+    pub words: Vec<Lent<u16>>,
+    pub texts: Vec<Lent<u8>>,
+}
+
+impl Rooms {
+    /// A room for each buffer of the call.
+    pub fn new(rng: &mut Rng, call: &Call) -> Rooms {
+        Rooms { words: rooms(rng, &call.buffers()), texts: rooms(rng, &call.texts()) }
+    }
+}
+
+/// A room for each buffer.
+fn rooms<T: Unit>(rng: &mut Rng, buffers: &[Buffer<T>]) -> Vec<Lent<T>> {
+    buffers.iter().map(|(_, units)| Lent::new(rng, units)).collect()
+}
+
+impl<T: Unit> Lent<T> {
+    /// A room of its own for these words or bytes, with guards of any count and any value.
+    pub fn new(rng: &mut Rng, words: &[T]) -> Lent<T> {
         let [before, after] = [(); 2].map(|()| guards(rng));
         Lent { room: [&before, words, &after].concat(), before, after }
     }
 
-    /// The count of words that are lent.
+    /// The count of words, or bytes, that are lent.
     pub fn len(&self) -> usize {
         self.room.len() - self.before.len() - self.after.len()
     }
 
-    /// The first word that is lent. The pointer is good for the guards too, so that a stray write is seen.
-    pub fn pointer(&mut self) -> *mut u16 {
+    /// The first that is lent. The pointer is good for the guards too, so that a stray write is seen.
+    pub fn pointer(&mut self) -> *mut T {
         self.room.as_mut_ptr().wrapping_add(self.before.len())
     }
 
-    /// The words that are lent.
-    pub fn words(&mut self) -> &mut [u16] {
+    /// The words, or bytes, that are lent.
+    pub fn words(&mut self) -> &mut [T] {
         let end = self.before.len() + self.len();
         &mut self.room[self.before.len()..end]
     }
 
-    /// The first word that is not the expected one, the guards included.
-    pub fn difference(&self, expected: &[u16]) -> Option<Difference> {
+    /// The first that is not the expected one, the guards included.
+    pub fn difference(&self, expected: &[T]) -> Option<Difference<T>> {
         assert_eq!(self.len(), expected.len(), "the model changed a length");
         let whole = self.before.iter().chain(expected).chain(&self.after);
         let mut pairs = self.room.iter().zip(whole).enumerate();
@@ -54,8 +92,8 @@ impl Lent {
     }
 }
 
-fn guards(rng: &mut Rng) -> Vec<u16> {
-    (0..rng.between(1, MOST_GUARDS)).map(|_| rng.any_word()).collect()
+fn guards<T: Unit>(rng: &mut Rng) -> Vec<T> {
+    (0..rng.between(1, MOST_GUARDS)).map(|_| T::any(rng)).collect()
 }
 
 #[cfg(test)]
@@ -63,7 +101,7 @@ mod tests {
     use super::*;
 
     /// Three words that are lent, one of the room's changed, counted from the first that is lent.
-    fn with_change(place: isize) -> Option<Difference> {
+    fn with_change(place: isize) -> Option<Difference<u16>> {
         let mut lent = Lent::new(&mut Rng::new(1), &[5, 6, 7]);
         let at = lent.before.len().checked_add_signed(place).expect("a guard word");
         lent.room[at] ^= 1;
@@ -72,10 +110,11 @@ mod tests {
 
     #[test]
     fn words_as_they_were_differ_in_nothing() {
-        let mut lent = Lent::new(&mut Rng::new(1), &[5, 6, 7]);
+        let mut lent = Lent::new(&mut Rng::new(1), &[5u16, 6, 7]);
         assert_eq!(lent.words(), [5, 6, 7]);
         assert_eq!(lent.difference(&[5, 6, 7]), None);
-        assert_eq!(Lent::new(&mut Rng::new(1), &[]).difference(&[]), None);
+        assert_eq!(Lent::<u16>::new(&mut Rng::new(1), &[]).difference(&[]), None);
+        assert_eq!(Lent::new(&mut Rng::new(1), b"text").difference(b"text"), None);
     }
 
     #[test]
@@ -88,5 +127,12 @@ mod tests {
     fn a_changed_guard_is_found() {
         assert_eq!(with_change(-1).map(|difference| difference.place), Some(-1));
         assert_eq!(with_change(3).map(|difference| difference.place), Some(3));
+    }
+
+    #[test]
+    fn a_changed_byte_is_found() {
+        let lent = Lent::new(&mut Rng::new(1), b"text");
+        let by_hand = Difference { place: 1, found: b'e', expected: b'a' };
+        assert_eq!(lent.difference(b"taxt"), Some(by_hand));
     }
 }

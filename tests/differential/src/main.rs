@@ -10,16 +10,17 @@ mod tally;
 
 use call::{Answer, Call};
 use expected::Outcome;
-use lent::Lent;
+use lent::{Difference, Rooms};
 use model::rng::Rng;
 use source::Source;
+use std::fmt::Display;
 use std::process::ExitCode;
 use tally::Tally;
 
 const USAGE: &str = "usage: differential SEED COUNT";
 
 /// How a call is made, by name.
-type Way = (&'static str, fn(&Call, &mut [Lent]) -> Answer);
+type Way = (&'static str, fn(&Call, &mut Rooms) -> Answer);
 
 /// Each case is a call of the C library itself, and then of the Rust package.
 const WAYS: [Way; 2] = [("C library", library::answer), ("Rust package", package::answer)];
@@ -56,7 +57,7 @@ fn compare(seed: u64, count: usize) -> Result<(), String> {
                 format!("seed {seed}, case {case}: {}\n{}", call.title(), told.join("\n"))
             })?;
         }
-        tally.count(&call, outcome.answer);
+        tally.count(&call, &outcome);
     }
     tally.print();
     tally.missing().map_or(Ok(()), Err)?;
@@ -64,24 +65,30 @@ fn compare(seed: u64, count: usize) -> Result<(), String> {
     Ok(())
 }
 
-/// Makes a call in one way, and says what differs from the model's outcome: the answer, and the first word of each buffer.
+/// Makes a call in one way, and says what differs from the model's outcome: the answer, and the first word of each buffer
+/// and byte of each text.
 fn differences(rng: &mut Rng, call: &Call, outcome: &Outcome, (way, make): Way) -> Vec<String> {
-    let buffers = call.buffers();
-    let mut lent: Vec<Lent> = buffers.iter().map(|(_, words)| Lent::new(rng, words)).collect();
+    let mut lent = Rooms::new(rng, call);
     let answer = make(call, &mut lent);
     let mut told = Vec::new();
     if answer != outcome.answer {
         told.push(format!("{way}: the answer is {answer:?}, the model's {:?}", outcome.answer));
     }
-    for (((name, _), room), expected) in buffers.iter().zip(&lent).zip(&outcome.buffers) {
-        if let Some(word) = room.difference(expected) {
-            told.push(format!(
-                "{way}: word {} of the {name} is {}, the model's {}",
-                word.place, word.found, word.expected
-            ));
-        }
+    for (((name, _), room), expected) in
+        call.buffers().iter().zip(&lent.words).zip(&outcome.buffers)
+    {
+        told.extend(room.difference(expected).map(|word| told_of(way, "word", name, word)));
+    }
+    for ((name, expected), room) in call.texts().iter().zip(&lent.texts) {
+        told.extend(room.difference(expected).map(|byte| told_of(way, "byte", name, byte)));
     }
     told
+}
+
+/// What is said of a word or byte that differs.
+fn told_of<T: Display>(way: &str, what: &str, name: &str, unit: Difference<T>) -> String {
+    let Difference { place, found, expected } = unit;
+    format!("{way}: {what} {place} of the {name} is {found}, the model's {expected}")
 }
 
 /// Fails with a message where a condition does not hold.

@@ -2,23 +2,29 @@
 
 use crate::call::{Answer, Call};
 use crate::expected::refused_event;
-use crate::lent::Lent;
+use crate::lent::{Lent, Rooms};
+use kernel::{Text, Untranslated};
 
-/// Makes the call with its words in the rooms that are lent.
-pub fn answer(call: &Call, lent: &mut [Lent]) -> Answer {
-    match (call, lent) {
-        (Call::Check { .. }, [image]) => {
+/// The text of a translation that is not refused, by include/kernel.h.
+const NO_TEXT: u16 = 65535;
+
+/// Makes the call with its words and bytes in the rooms that are lent.
+pub fn answer(call: &Call, lent: &mut Rooms) -> Answer {
+    match (call, &mut lent.words[..], &mut lent.texts[..]) {
+        (Call::Check { .. }, [image], []) => {
             Answer::Check { number: number(kernel::check(image.words())) }
         }
-        (Call::Size { .. }, [plan]) => size(plan),
-        (Call::Build { .. }, [plan, target]) => {
+        (Call::Size { .. }, [plan], []) => size(plan),
+        (Call::Build { .. }, [plan, target], []) => {
             Answer::Build { number: number(kernel::build(plan.words(), target.words())) }
         }
-        (Call::Event { event, .. }, [image]) => one_event(image, *event),
-        (Call::Run { .. }, [image, events]) => {
+        (Call::Event { event, .. }, [image], []) => one_event(image, *event),
+        (Call::Run { .. }, [image, events], []) => {
             let ran = kernel::run(image.words(), events.words());
             Answer::Run { number: ran.number, taken: ran.taken as u64 }
         }
+        (Call::Translate { .. }, [target], [names, script]) => translate(names, script, target),
+        (Call::RefusedLine { room, .. }, [], [names, script]) => refused_line(names, script, *room),
         _ => unreachable!("a call has the buffers of its own"),
     }
 }
@@ -28,16 +34,46 @@ fn number(result: Result<(), u16>) -> u16 {
     result.err().unwrap_or(0)
 }
 
-fn size(plan: &mut Lent) -> Answer {
+fn size(plan: &mut Lent<u16>) -> Answer {
     match kernel::size(plan.words()) {
         Ok(words) => Answer::Size { number: 0, words: words as u64 },
         Err(number) => Answer::Size { number, words: 0 },
     }
 }
 
-fn one_event(image: &mut Lent, [kind, device, character]: [u16; 3]) -> Answer {
+fn one_event(image: &mut Lent<u16>, [kind, device, character]: [u16; 3]) -> Answer {
     match kernel::event(image.words(), kind, device, character) {
         Ok((kind, task)) => Answer::Event { number: 0, kind, task },
         Err(number) => refused_event(number),
     }
+}
+
+fn translate(names: &mut Lent<u8>, script: &mut Lent<u8>, target: &mut Lent<u16>) -> Answer {
+    match kernel::translate(names.words(), script.words(), target.words()) {
+        Ok(words) => Answer::Translate { number: 0, text: NO_TEXT, words: words as u64 },
+        Err(Untranslated { number, text }) => {
+            Answer::Translate { number, text: text_number(text), words: 0 }
+        }
+    }
+}
+
+fn text_number(text: Text) -> u16 {
+    match text {
+        Text::Names => 0,
+        Text::Script => 1,
+    }
+}
+
+fn refused_line(names: &mut Lent<u8>, script: &mut Lent<u8>, room: u64) -> Answer {
+    let room = usize::try_from(room).expect("the package is for machines of 64 bits");
+    let (names, script) = (names.words(), script.words());
+    let line = kernel::refused_line(names, script, room);
+    let start = start_in(names, line).or(start_in(script, line)).expect("a part of a text");
+    Answer::RefusedLine { start: start as u64, bytes: line.len() as u64 }
+}
+
+/// Where a part begins in a text, unless it is a part of the other one. Guards part the two.
+fn start_in(text: &[u8], part: &[u8]) -> Option<usize> {
+    let start = part.as_ptr().addr().checked_sub(text.as_ptr().addr())?;
+    (start <= text.len()).then_some(start)
 }

@@ -1,31 +1,37 @@
 //! How many cases of each call, each number and each kind of answer were compared.
 
 use crate::call::{Answer, Call, NAMES};
+use crate::expected::Outcome;
 
 /// The numbers that must occur. 10 is not among them: on a good image no wake finds the ready queue full.
-const NUMBERS: [u16; 12] = [0, 1, 2, 3, 4, 5, 6, 7, 8, 9, 11, 12];
+const NUMBERS: [u16; 16] = [0, 1, 2, 3, 4, 5, 6, 7, 8, 9, 11, 12, 13, 14, 15, 16];
+/// The calls on texts by their places among the names, and the numbers that must occur in each of them.
+const OF_TEXTS: [usize; 2] = [5, 6];
+const TEXT_NUMBERS: [u16; 5] = [0, 13, 14, 15, 16];
 /// The kinds of answer, all of which must occur.
 const KINDS: [u16; 10] = [0, 1, 2, 3, 4, 5, 6, 7, 8, 9];
 
 /// The counts of what was compared.
 #[derive(Default)]
 pub struct Tally {
-    /// Of each call the cases of each number, 0 to 12.
-    numbers: [[usize; 13]; NAMES.len()],
+    /// Of each call the cases of each number, 0 to 16.
+    numbers: [[usize; 17]; NAMES.len()],
     /// The accepted events of each kind of answer.
     kinds: [usize; KINDS.len()],
     /// The events that the runs took.
     taken: u64,
-    /// The words of all buffers.
+    /// The words of all buffers, and the bytes of all texts.
     words: usize,
+    bytes: usize,
 }
 
 impl Tally {
-    /// Counts a call with the model's answer.
-    pub fn count(&mut self, call: &Call, answer: Answer) {
-        self.numbers[call.place()][usize::from(answer.number())] += 1;
+    /// Counts a call with what the model says of it.
+    pub fn count(&mut self, call: &Call, outcome: &Outcome) {
+        self.numbers[call.place()][usize::from(outcome.number)] += 1;
         self.words += call.buffers().iter().map(|(_, words)| words.len()).sum::<usize>();
-        match answer {
+        self.bytes += call.texts().iter().map(|(_, bytes)| bytes.len()).sum::<usize>();
+        match outcome.answer {
             Answer::Event { number: 0, kind, .. } => self.kinds[usize::from(kind)] += 1,
             Answer::Run { taken, .. } => self.taken += taken,
             _ => {}
@@ -40,7 +46,8 @@ impl Tally {
         }
         print_line("all calls", "number", NUMBERS.map(|number| (number, self.of_number(number))));
         print_line("accepted events", "kind", KINDS.into_iter().zip(self.kinds));
-        println!("{} events taken by runs, {} words lent", self.taken, self.words);
+        let Tally { taken, words, bytes, .. } = self;
+        println!("{taken} events taken by runs, {words} words and {bytes} bytes lent");
     }
 
     /// What did not occur and must, if anything.
@@ -48,7 +55,15 @@ impl Tally {
         let number = NUMBERS.into_iter().find(|&number| self.of_number(number) == 0);
         let kind = KINDS.into_iter().find(|&kind| self.kinds[usize::from(kind)] == 0);
         let number = number.map(|number| format!("number {number} did not occur"));
-        number.or(kind.map(|kind| format!("kind {kind} did not occur")))
+        let kind = kind.map(|kind| format!("kind {kind} did not occur"));
+        number.or(kind).or(self.missing_of_texts())
+    }
+
+    /// The call on texts and its number that did not occur, if there is one.
+    fn missing_of_texts(&self) -> Option<String> {
+        let mut pairs = OF_TEXTS.into_iter().flat_map(|call| TEXT_NUMBERS.map(|n| (call, n)));
+        let (call, number) = pairs.find(|&(call, n)| self.numbers[call][usize::from(n)] == 0)?;
+        Some(format!("{}: number {number} did not occur", NAMES[call]))
     }
 
     /// The cases of a number, over all calls.

@@ -2,6 +2,7 @@
 
 mod images;
 mod plans;
+mod texts;
 
 use crate::call::Call;
 use model::building::faults::{self, Fault};
@@ -17,6 +18,7 @@ use model::numbers;
 use model::rng::Rng;
 use model::running;
 use model::runs::run;
+use model::texts::faults as text_faults;
 
 /// The most events, or runs, that follow one another from an image.
 const MOST_STEPS: usize = 20;
@@ -32,6 +34,9 @@ pub struct Source {
     faults: Vec<Fault>,
     /// The faults that give number 11.
     of_plan: Vec<Fault>,
+    /// The faults of texts, and those that give numbers 14 and 15.
+    text_faults: Vec<text_faults::Fault>,
+    later_faults: Vec<text_faults::Fault>,
     /// Calls that are made and not yet given.
     waiting: Vec<Call>,
 }
@@ -54,20 +59,23 @@ impl Source {
             damages: damage::all(),
             faults: faults::all(),
             of_plan: faults::of_number(numbers::PLAN),
+            text_faults: text_faults::all(),
+            later_faults: text_faults::past_the_grammar(),
             waiting: Vec::new(),
         }
     }
 
     /// Some calls that belong together.
     fn batch(&mut self) -> Vec<Call> {
-        match self.rng.below(100) {
+        match self.rng.below(120) {
             0 => self.large(),
             1..=19 => self.checks(),
             20..=34 => plans::calls(&mut self.rng, &self.faults, &self.of_plan),
             35..=64 => events(&mut self.rng),
             65..=74 => self.events_on_any(),
             75..=94 => runs(&mut self.rng),
-            _ => self.runs_on_any(),
+            95..=99 => self.runs_on_any(),
+            _ => texts::calls(&mut self.rng, &self.text_faults, &self.later_faults),
         }
     }
 
