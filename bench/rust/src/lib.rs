@@ -1,5 +1,5 @@
 //! The baseline in safe Rust: the paper's kernel, in place on an image of
-//! 16-bit words. The image is the only state.
+//! 16-bit words. The image is the only state. Beside it a translator of texts.
 #![forbid(unsafe_code)]
 
 mod check;
@@ -11,10 +11,12 @@ mod plans;
 mod queues;
 mod runs;
 mod services;
+mod texts;
 
 pub use check::check;
 pub use plans::{build, size};
 pub use runs::{event, run};
+pub use texts::{translate, translate_or_name, Refused};
 
 /// What one event comes to: its number, and the answer's kind and task, both
 /// 65535 where it is refused.
@@ -42,6 +44,17 @@ pub struct Measured {
     pub number: u16,
 }
 
+/// What two texts come to: how many words, 0 where they are refused, the
+/// number, and which text has the refused line: 0 the names, 1 the script, 65535
+/// where none is refused.
+#[repr(C)]
+#[derive(Clone, Copy, Debug, PartialEq, Eq)]
+pub struct Translated {
+    pub words: u64,
+    pub number: u16,
+    pub text: u16,
+}
+
 /// The numbers that come back.
 mod numbers {
     pub const UNDER_HEADER: u16 = 1;
@@ -56,4 +69,8 @@ mod numbers {
     pub const READY_FULL: u16 = 10;
     pub const PLAN: u16 = 11;
     pub const TARGET: u16 = 12;
+    pub const GRAMMAR: u16 = 13;
+    pub const NOT_GIVEN: u16 = 14;
+    pub const TOO_LARGE: u16 = 15;
+    pub const NO_ROOM: u16 = 16;
 }

@@ -1,8 +1,12 @@
 //! The kernels side by side, each behind the same calls.
 
-use baseline::{Measured, Ran, Told};
+use baseline::{Measured, Ran, Told, Translated};
+
+/// Translates names and a script to words in a target.
+pub type Translate = fn(&[u8], &[u8], &mut [u16]) -> Translated;
 
 /// A kernel's calls.
+#[derive(Clone, Copy)]
 pub struct Kernel {
     pub name: &'static str,
     pub check: fn(&[u16]) -> u16,
@@ -10,6 +14,8 @@ pub struct Kernel {
     pub build: fn(&[u16], &mut [u16]) -> u16,
     pub event: fn(&mut [u16], [u16; 3]) -> Told,
     pub run: fn(&mut [u16], &[u16]) -> Ran,
+    /// Not every kernel has a translator.
+    pub translate: Option<Translate>,
 }
 
 /// Calls into a kernel's archive, as safe functions on slices.
@@ -54,6 +60,23 @@ archive_calls!(c, c_check, c_size, c_build, c_event, c_run);
 #[cfg(product)]
 archive_calls!(product, kernel_check, kernel_size, kernel_build, kernel_event, kernel_run);
 
+#[cfg(product)]
+fn translate_in_product(names: &[u8], script: &[u8], target: &mut [u16]) -> Translated {
+    extern "C" {
+        fn kernel_translate(
+            names: *const u8,
+            names_bytes: usize,
+            script: *const u8,
+            script_bytes: usize,
+            target: *mut u16,
+            target_words: usize,
+        ) -> Translated;
+    }
+    let (words, room) = (target.as_mut_ptr(), target.len());
+    // SAFETY: pointer and count are those of one slice, three times.
+    unsafe { kernel_translate(names.as_ptr(), names.len(), script.as_ptr(), script.len(), words, room) }
+}
+
 fn event_in_rust(image: &mut [u16], [kind, device, character]: [u16; 3]) -> Told {
     baseline::event(image, kind, device, character)
 }
@@ -66,6 +89,7 @@ const PRODUCT: Option<Kernel> = Some(Kernel {
     build: product::build,
     event: product::event,
     run: product::run,
+    translate: Some(translate_in_product),
 });
 #[cfg(not(product))]
 const PRODUCT: Option<Kernel> = None;
@@ -78,12 +102,26 @@ pub const RUST: Kernel = Kernel {
     build: baseline::build,
     event: event_in_rust,
     run: baseline::run,
+    translate: Some(baseline::translate),
 };
 
 /// The kernel in C.
-const C: Kernel = Kernel { name: "C", check: c::check, size: c::size, build: c::build, event: c::event, run: c::run };
+const C: Kernel = Kernel {
+    name: "C",
+    check: c::check,
+    size: c::size,
+    build: c::build,
+    event: c::event,
+    run: c::run,
+    translate: None,
+};
 
 /// The product where it is linked, then the two baselines.
 pub fn all() -> Vec<Kernel> {
     PRODUCT.into_iter().chain([RUST, C]).collect()
+}
+
+/// Those of them that translate: the last is the baseline in Rust.
+pub fn translators() -> Vec<Kernel> {
+    all().into_iter().filter(|kernel| kernel.translate.is_some()).collect()
 }

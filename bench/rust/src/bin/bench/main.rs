@@ -7,6 +7,7 @@ mod measure;
 mod picture;
 mod programs;
 mod report;
+mod texts;
 mod vectors;
 mod workloads;
 
@@ -20,7 +21,8 @@ fn main() -> ExitCode {
     let outcome = match arguments.iter().map(String::as_str).collect::<Vec<_>>()[..] {
         ["verify", ref files @ ..] if !files.is_empty() => verify(files),
         ["measure", svg] => measure_all(svg),
-        _ => Err("use: bench verify FILES, or bench measure SVG".into()),
+        ["texts"] => measure_texts(&kernel_names()),
+        _ => Err("use: bench verify FILES, or bench measure SVG, or bench texts".into()),
     };
     match outcome {
         Ok(()) => ExitCode::SUCCESS,
@@ -43,17 +45,36 @@ fn verify(files: &[&str]) -> Result<(), String> {
     Ok(())
 }
 
-/// Measures every workload, prints the table and writes the picture.
+fn kernel_names() -> Vec<&'static str> {
+    kernels::all().iter().map(|kernel| kernel.name).collect()
+}
+
+/// Measures every workload, prints the tables and writes the picture of the
+/// first.
 fn measure_all(svg: &str) -> Result<(), String> {
     let kernels = kernels::all();
-    let names: Vec<&str> = kernels.iter().map(|kernel| kernel.name).collect();
+    let names = kernel_names();
     println!("Nanoseconds an event or call, the least of {} rounds.", measure::ROUNDS);
-    println!("{}", report::heading(&names));
+    println!("{}", report::heading(&names, "faster"));
     let mut rows = Vec::new();
     for workload in workloads::all() {
-        let row = Row::new(&workload.name, measure::measure(&kernels, &workload)?);
-        println!("{}", row.line());
+        let row = Row::new(&workload.name, measure::measure(&kernels, &workload)?, 2);
+        println!("{}", row.line(names.len()));
         rows.push(row);
     }
+    println!();
+    measure_texts(&names)?;
     fs::write(svg, picture::picture(&names, &rows)).map_err(|error| format!("{svg}: {error}"))
+}
+
+/// Measures the translations of texts and prints their table.
+fn measure_texts(names: &[&str]) -> Result<(), String> {
+    let translators = kernels::translators();
+    println!("Texts: nanoseconds a line, the least of {} rounds.", measure::ROUNDS);
+    println!("{}", report::heading(names, "Rust"));
+    for workload in workloads::texts() {
+        let row = Row::new(&workload.name, measure::measure(&translators, &workload)?, 1);
+        println!("{}", row.line(names.len()));
+    }
+    Ok(())
 }

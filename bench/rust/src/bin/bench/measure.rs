@@ -1,6 +1,7 @@
 //! Measures every kernel on a workload, in turns.
 
 use crate::kernels::Kernel;
+use crate::texts::Texts;
 use crate::vectors::same_words;
 use crate::workloads::{Work, Workload};
 use std::hint::black_box;
@@ -53,8 +54,20 @@ fn work(kernel: &Kernel, work: &Work, image: &mut [u16]) -> u64 {
         }
         Work::Checks(count) => (0..*count).map(|_| u64::from((kernel.check)(black_box(image)))).sum(),
         Work::Builds(count, plan) => (0..*count).map(|_| u64::from((kernel.build)(plan, black_box(image)))).sum(),
+        Work::Translations(all) => {
+            let parts = image.chunks_exact_mut(image.len() / all.len());
+            all.iter().zip(parts).map(|(texts, part)| translated(kernel, texts, part)).sum()
+        }
         Work::Ticks(count) => (0..*count).map(|_| answer((kernel.event)(image, [0, 0, 0]))).sum(),
     }
+}
+
+/// Translates to a target. Gives how many words there are.
+fn translated(kernel: &Kernel, texts: &Texts, target: &mut [u16]) -> u64 {
+    let translate = kernel.translate.expect("a kernel that translates");
+    let told = translate(texts.names.as_bytes(), texts.script.as_bytes(), target);
+    assert_eq!(told.number, 0, "{} takes the texts", kernel.name);
+    told.words
 }
 
 fn answer(told: baseline::Told) -> u64 {

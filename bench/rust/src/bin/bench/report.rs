@@ -1,6 +1,6 @@
-//! The table: nanoseconds of each kernel, and times the faster baseline.
+//! The tables: nanoseconds of each kernel, and times the faster baseline.
 
-/// One workload's result, a number for each kernel.
+/// One workload's result, a number for each kernel that does it.
 pub struct Row {
     pub name: String,
     pub nanoseconds: Vec<f64>,
@@ -9,33 +9,38 @@ pub struct Row {
 }
 
 impl Row {
-    /// The last two kernels are the baselines.
-    pub fn new(name: &str, nanoseconds: Vec<f64>) -> Row {
-        let baselines = &nanoseconds[nanoseconds.len() - 2..];
-        let faster = baselines[0].min(baselines[1]);
+    /// So many of the last kernels are the baselines.
+    pub fn new(name: &str, nanoseconds: Vec<f64>, baselines: usize) -> Row {
+        let baselines = &nanoseconds[nanoseconds.len() - baselines..];
+        let faster = baselines.iter().copied().fold(f64::MAX, f64::min);
         let times = nanoseconds.iter().map(|own| own / faster).collect();
         Row { name: name.into(), nanoseconds, times }
     }
 
     /// A kernel's nanoseconds, with two digits where they are few.
     pub fn shown(&self, kernel: usize) -> String {
-        let own = self.nanoseconds[kernel];
-        if own < 100.0 {
-            format!("{own:.2}")
-        } else {
-            format!("{own:.0}")
+        match self.nanoseconds.get(kernel) {
+            None => "-".into(),
+            Some(own) if *own < 100.0 => format!("{own:.2}"),
+            Some(own) => format!("{own:.0}"),
         }
     }
 
-    /// A line of the table; the ratio is the first kernel's.
-    pub fn line(&self) -> String {
-        let cells: String = (0..self.nanoseconds.len()).map(|k| format!("{:>11}", self.shown(k))).collect();
+    /// A line of a table of so many kernels; the ratio is the first kernel's.
+    pub fn line(&self, kernels: usize) -> String {
+        let cells: String = (0..kernels).map(|k| format!("{:>11}", self.shown(k))).collect();
         format!("{:<44}{cells}{:>9.2}", self.name, self.times[0])
     }
 }
 
-/// The heading of the table.
-pub fn heading(names: &[&str]) -> String {
+/// The heading of a table; the ratio is to the baseline that is named.
+pub fn heading(names: &[&str], baseline: &str) -> String {
     let cells: String = names.iter().map(|name| format!("{:>11}", format!("{name} ns"))).collect();
-    format!("{:<44}{cells}{:>9}\n{:>width$}", "workload", names[0], "/ faster", width = 44 + 11 * names.len() + 9)
+    format!(
+        "{:<44}{cells}{:>9}\n{:>width$}",
+        "workload",
+        names[0],
+        format!("/ {baseline}"),
+        width = 44 + 11 * names.len() + 9
+    )
 }

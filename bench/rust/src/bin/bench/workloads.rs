@@ -3,6 +3,7 @@
 use crate::assembler::Program;
 use crate::kernels::RUST;
 use crate::programs::*;
+use crate::texts::{long_names, mixed, short_names, uses, Mix, Texts};
 
 /// Events of one run.
 const EVENTS: usize = 60_000;
@@ -21,6 +22,9 @@ pub enum Work {
     Builds(usize, Vec<u16>),
     /// So many single calls of `event` with a tick; the unit is a call.
     Ticks(usize),
+    /// A translation of each of some texts to a part of the image; the unit is
+    /// a line.
+    Translations(Vec<Texts>),
 }
 
 pub struct Workload {
@@ -30,11 +34,12 @@ pub struct Workload {
 }
 
 impl Work {
-    /// How many events or calls are timed together.
+    /// How many events, calls or lines are timed together.
     pub fn units(&self) -> usize {
         match self {
             Work::Run(list) => list.len() / 3,
             Work::Checks(count) | Work::Builds(count, _) | Work::Ticks(count) => *count,
+            Work::Translations(all) => all.iter().map(Texts::lines).sum(),
         }
     }
 }
@@ -101,6 +106,28 @@ pub fn all() -> Vec<Workload> {
     all.extend(same_loop());
     all.extend(calls());
     all
+}
+
+/// Texts to translate, in the order of their table.
+pub fn texts() -> Vec<Workload> {
+    vec![
+        mixed_texts(1, Mix { lines: 30_000, labels: 1000, names: 500 }),
+        mixed_texts(10, Mix { lines: 3000, labels: 100, names: 50 }),
+        mixed_texts(100, Mix { lines: 300, labels: 10, names: 10 }),
+        translations("8192 names of 400 letters, nearly alike".into(), vec![uses(&long_names(8192))]),
+        translations("8192 names of 6 letters, nearly alike".into(), vec![uses(&short_names(8192))]),
+    ]
+}
+
+/// So many texts of one mix.
+fn mixed_texts(count: u64, mix: Mix) -> Workload {
+    let name = format!("{} lines, {} labels, {} names", mix.lines, mix.labels, mix.names);
+    translations(name, (1..=count).map(|seed| mixed(mix, seed)).collect())
+}
+
+/// A translation of each text, to a target with room for all.
+fn translations(name: String, all: Vec<Texts>) -> Workload {
+    Workload { name, image: (0..=u16::MAX).collect(), work: Work::Translations(all) }
 }
 
 fn arithmetics(n: usize, slice: u16) -> Setting {
