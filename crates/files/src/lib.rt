@@ -33,7 +33,7 @@ pub fn word(low: u8, high: u8) -> u16
 }
 
 // Writes the whole words of some bytes, and answers how many there are.
-fn put_words(bytes: &[u8], words: &mut [u16]) -> usize
+pub fn put_words(bytes: &[u8], words: &mut [u16]) -> usize
     requires { ⌜ length (now bytes) < 2 * length (now words) + 2 ⌝ }
     ensures { λ r. ⌜ r ≡ length (words-of (now (bytes .entry))) ⌝ }
     ensures { λ _. ⌜ now (words .exit) ≡ written (now (words .entry)) 0 (words-of (now (bytes .entry))) ⌝ }

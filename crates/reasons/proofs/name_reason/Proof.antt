@@ -1,0 +1,32 @@
+-- A word of a line lies in it. Assumes nothing.
+use Rattle.outside.specs.Reasons.{word-order, word-end}
+use borrow.Author.Needs.{needs}
+use Rattle.reasons.proofs.name_reason.Statement.{statement}
+use Rattle.reasons.proofs.name_reason.Tie as tie
+
+sub-gives : tie.Need-sub-gives
+sub-gives c = search (needs, word-order)
+
+part-gives-start : tie.Need-part-gives-start
+part-gives-start c = search (needs, word-order)
+
+part-gives-end : tie.Need-part-gives-end
+part-gives-end c = search (needs, word-end)
+
+returns-2 : tie.Need-returns-2
+returns-2 c = search (word-order, word-end)
+
+pub name-reason-spec : {M : Type 1} → statement M
+name-reason-spec =
+    tie.close
+    (tie.spec
+    (λ c κs. search needs)
+    (λ c. search needs)
+    (λ c. search needs)
+    sub-gives
+    part-gives-start
+    part-gives-end
+    (λ c κs. search needs)
+    returns-2
+    (λ c κs. search needs)
+    (λ c. search needs))
