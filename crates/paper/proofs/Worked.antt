@@ -4,12 +4,13 @@ use mathlib.Core.Path.{_≡_, refl}
 use mathlib.Core.List.{List, [], _∷_, _++_}
 use Prim.Native.Nat.{ℕ, _+_, _-_, _*_, _/_, _%_}
 use lib.ListN.{length, getD, take, drop, replicate}
-use Rattle.paper.specs.Image.{task, total, shape-of, place, at, put, reach, clock}
+use Rattle.paper.specs.Image.{task, total, shape-of, place, at, put, clock}
 use Rattle.paper.specs.Queues.{step, appended, first, taken, held, empty, full}
 use Rattle.paper.specs.Flags.{pending}
 use Rattle.paper.specs.Waking.{Outcome, dispatched, with-status, readied, woken, left, with-woken, unless-full}
 use Rattle.paper.specs.Services.{service-faulted, waiting, delivered, printing, printing-if-idle, served, waits-for, finished, service}
-use Rattle.paper.specs.Orders.{moved-past, operand, found, effect-of, checked, order, with-stack, changed, order-faulted}
+use Rattle.paper.specs.Machines.{machine, put-back}
+use Rattle.paper.specs.Orders.{with-register, with-flags, with-word, operand, found, effect-of, checked, decided, changed, faulted}
 use Rattle.paper.specs.Events.{event-of, ordered, stopped, turned, spent, turn-of, tick, input, port-next, output-done, happening}
 use Rattle.paper.specs.Plans.{plan-shape, fresh}
 use Rattle.paper.specs.Tests.{every, queued, buffers-hold, characters, readied-once, readied-tasks, clock-holds, port-holds, flags-hold, status-holds, task-holds, rules-hold}
@@ -170,7 +171,7 @@ pub record Worked : Type 0 where
   pub bound-reached : bound-ready 3 ≡ 1 ∷ 0 ∷ []
 
 pub worked : Worked
-unfolding total shape-of place at put reach step appended first taken held empty full dispatched with-status readied woken left with-woken unless-full service-faulted waiting delivered printing printing-if-idle served waits-for finished service moved-past operand found effect-of checked order with-stack changed order-faulted ordered event-of stopped turned spent turn-of tick input port-next output-done happening plan-shape fresh every queued buffers-hold characters readied-once readied-tasks clock-holds port-holds flags-hold status-holds task-holds rules-hold out-of-range not-packed segment-right wrong-segments check plan-broken check-plan check-build built event run words-of check-file decimal line printed-from runner
+unfolding total shape-of place at put step appended first taken held empty full dispatched with-status readied woken left with-woken unless-full service-faulted waiting delivered printing printing-if-idle served waits-for finished service machine put-back with-register with-flags with-word operand found effect-of checked decided changed faulted ordered event-of stopped turned spent turn-of tick input port-next output-done happening plan-shape fresh every queued buffers-hold characters readied-once readied-tasks clock-holds port-holds flags-hold status-holds task-holds rules-hold out-of-range not-packed segment-right wrong-segments check plan-broken check-plan check-build built event run words-of check-file decimal line printed-from runner
 worked =
     record {
       event-2 = refl;

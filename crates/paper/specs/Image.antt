@@ -1,8 +1,6 @@
 -- "Image": the header, the parts and where they lie, and the words by their names.
-use mathlib.Core.Bool.{cond}
 use mathlib.Core.List.{List, [], _∷_, _++_, map}
 use Prim.Native.Nat.{ℕ, zero, suc, _+_, _-_, _*_, _<_}
-use lib.Dec.{ltb}
 use lib.ListN.{getD, set}
 use Rattle.paper.specs.declared.Task.{Task}
 use Rattle.paper.specs.declared.Address.{Address}
@@ -10,7 +8,6 @@ use Rattle.paper.specs.declared.Place.{Place}
 use Rattle.paper.specs.declared.Shape.{Shape}
 use Rattle.paper.specs.declared.Cell.{Cell}
 use Rattle.paper.specs.declared.Part.{Part}
-use Rattle.paper.specs.declared.Reach.{Reach}
 
 -- a word as a task number, as an address in a segment, as a place in the image
 abbrev pub task : ℕ → Task
@@ -202,8 +199,3 @@ len i = cell Part.SegmentTable (i .0) 1
 abbrev pub segment-start : Shape → List ℕ → ℕ → ℕ
 segment-start s im zero = start s Part.Segments
 segment-start s im (suc k) = segment-start s im k + at s im (len (task k))
-
--- an address becomes a place only through base and length
-unfoldable pub reach : Shape → List ℕ → Task → Address → Reach
-reach s im i a =
-    cond (ltb (a .0) (at s im (len i))) (Reach.At (place-at (at s im (base i) + a .0))) Reach.Outside

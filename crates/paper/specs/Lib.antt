@@ -3,6 +3,7 @@ pub mod Queues
 pub mod Flags
 pub mod Waking
 pub mod Services
+pub mod Machines
 pub mod Orders
 pub mod Events
 pub mod Rules

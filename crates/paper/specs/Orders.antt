@@ -1,17 +1,16 @@
--- "Order code": one order of task i.
+-- "Order code": one order of a task's own machine, and of a task of an image.
 use mathlib.Core.Bool.{Bool, true, cond, _&&_}
 use mathlib.Core.List.{List, [], _∷_}
 use Prim.Native.Nat.{ℕ, zero, suc, _+_, _-_, _*_, _/_, _%_, min, max}
 use lib.Dec.{eqb, leb, ltb}
-use lib.ListN.{getD, set}
-use Rattle.paper.specs.Image.{address, word, at, put, reg, flags, reach}
-use Rattle.paper.specs.Flags.{flags-of, cc, error, pending, put-flags, most-cc}
+use lib.ListN.{length, getD, set}
+use Rattle.paper.specs.Image.{address}
+use Rattle.paper.specs.Flags.{flags-of, cc-of, error-of, pending-of, most-cc}
+use Rattle.paper.specs.Machines.{Machine, own, with-own}
 use Rattle.paper.specs.Services.{known-service}
 use Rattle.paper.specs.declared.Task.{Task}
-use Rattle.paper.specs.declared.Place.{Place}
+use Rattle.paper.specs.declared.Address.{Address}
 use Rattle.paper.specs.declared.Shape.{Shape}
-use Rattle.paper.specs.declared.Cell.{Cell}
-use Rattle.paper.specs.declared.Reach.{Reach}
 use Rattle.paper.specs.declared.Op.{Op}
 use Rattle.paper.specs.declared.Field.{Field}
 use Rattle.paper.specs.declared.OrderShape.{OrderShape}
@@ -94,43 +93,55 @@ zero-divisor = 4
 abbrev pub mod-word : ℕ → ℕ
 mod-word x = x % 65536
 
--- R0 is the next order's address, R1 the stack pointer
-abbrev pub next-order : Task → Cell
-next-order i = reg i 0
+-- a register; R0 is the next order's address, R1 the stack pointer
+abbrev pub register : Machine → ℕ → ℕ
+register m r = getD (m .registers) r 0
 
-abbrev pub stack : Task → Cell
-stack i = reg i 1
+abbrev pub next-order : Machine → ℕ
+next-order m = register m 0
+
+abbrev pub stack : Machine → ℕ
+stack m = register m 1
+
+-- the machine with a register, its flags or a word of its segment changed
+unfoldable pub with-register : Machine → ℕ → ℕ → Machine
+with-register m r w = record { registers = set (m .registers) r w; flags = m .flags; segment = m .segment }
+
+unfoldable pub with-flags : Machine → ℕ → Machine
+with-flags m f = record { registers = m .registers; flags = f; segment = m .segment }
+
+unfoldable pub with-word : Machine → Address → ℕ → Machine
+with-word m a w = record { registers = m .registers; flags = m .flags; segment = set (m .segment) (a .0) w }
 
 -- R0 is moved past the order, to next
-abbrev pub past : Shape → List ℕ → Task → ℕ → ℕ
-past s im i n = mod-word (at s im (next-order i) + n)
+abbrev pub past : Machine → ℕ → ℕ
+past m n = mod-word (next-order m + n)
 
-unfoldable pub moved-past : Shape → List ℕ → Task → ℕ → List ℕ
-moved-past s im i next = put s im (next-order i) next
+abbrev pub moved-past : Machine → ℕ → Machine
+moved-past m next = with-register m 0 next
 
 -- before operands are read
-unfoldable pub operand : Shape → List ℕ → Task → ℕ → ℕ → ℕ
-operand s im i next r = at s (moved-past s im i next) (reg i r)
+unfoldable pub operand : Machine → ℕ → ℕ → ℕ
+operand m next r = register (moved-past m next) r
 
--- the word at an address of the segment; an address outside faults
-abbrev pub found-at : List ℕ → Reach → Found
-found-at im (Reach.At p) = Found.Word (word im p)
-found-at im Reach.Outside = Found.Outside
+-- an address outside the segment faults
+abbrev pub inside : Machine → ℕ → Bool
+inside m a = ltb a (length (m .segment))
 
-unfoldable pub found : Shape → List ℕ → Task → ℕ → Found
-found s im i a = found-at im (reach s im i (address a))
+-- the word at an address of the segment
+unfoldable pub found : Machine → ℕ → Found
+found m a = cond (inside m a) (Found.Word (getD (m .segment) a 0)) Found.Outside
 
 abbrev pub reading : Found → (ℕ → Effect) → Effect
 reading (Found.Word w) f = f w
 reading Found.Outside f = Effect.Faults outside
 
-abbrev pub storing : Reach → (Place → Effect) → Effect
-storing (Reach.At p) f = f p
-storing Reach.Outside f = Effect.Faults outside
+abbrev pub storing : Machine → ℕ → Effect → Effect
+storing m a e = cond (inside m a) e (Effect.Faults outside)
 
 -- n, the second word of an order, at the address after the first
-abbrev pub second : Shape → List ℕ → Task → (ℕ → Effect) → Effect
-second s im i f = reading (found s im i (at s im (next-order i) + 1)) f
+abbrev pub second : Machine → (ℕ → Effect) → Effect
+second m f = reading (found m (next-order m + 1)) f
 
 -- Ra becomes a word; a jump: R0 becomes one; the flags become a word
 abbrev pub sets : ℕ → ℕ → ℕ → Effect
@@ -158,73 +169,88 @@ on-bits f x y = bitwise f 16 x y
 abbrev pub compared : ℕ → ℕ → ℕ
 compared x y = cond (eqb x y) 0 (cond (ltb x y) 1 2)
 
+-- the fields of the flags
+abbrev pub cc : Machine → ℕ
+cc m = cc-of (m .flags)
+
+abbrev pub error : Machine → ℕ
+error m = error-of (m .flags)
+
+abbrev pub pending : Machine → ℕ
+pending m = pending-of (m .flags)
+
 -- call: R1 falls by 1, the return address is stored there, R0 becomes n
-abbrev pub calls : Shape → List ℕ → Task → ℕ → ℕ → ℕ → Effect
-calls s im i next top n = storing (reach s im i (address top)) (λ p. Effect.Does next (Change.Call p top n))
+abbrev pub calls : Machine → ℕ → ℕ → ℕ → Effect
+calls m next top n = storing m top (Effect.Does next (Change.Call (address top) n))
 
 -- what each order does: next is R0 past it, x is Ra and y is Rb
-abbrev pub effect : Op → Shape → List ℕ → Task → ℕ → ℕ → ℕ → ℕ → Effect
-effect Op.Unknown s im i next a x y = Effect.Faults bad-order
-effect Op.Load s im i next a x y = second s im i (sets next a)
-effect Op.Copy s im i next a x y = sets next a y
-effect Op.Fetch s im i next a x y = reading (found s im i y) (sets next a)
-effect Op.Store s im i next a x y = storing (reach s im i (address y)) (λ p. Effect.Does next (Change.Store p x))
-effect Op.Add s im i next a x y = sets next a (mod-word (x + y))
-effect Op.Subtract s im i next a x y = sets next a (mod-word (x + 65536 - y))
-effect Op.Multiply s im i next a x y = sets next a (mod-word (x * y))
-effect Op.Quotient s im i next a x y = unless-zero y (sets next a (x / y))
-effect Op.Remainder s im i next a x y = unless-zero y (sets next a (x % y))
-effect Op.And s im i next a x y = sets next a (on-bits min x y)
-effect Op.Or s im i next a x y = sets next a (on-bits max x y)
-effect Op.ExclusiveOr s im i next a x y = sets next a (on-bits (λ j k. (j + k) % 2) x y)
-effect Op.Compare s im i next a x y = flags-become next (flags-of (compared x y) (error s im i) (pending s im i))
-effect Op.Jump s im i next a x y = second s im i (jumps next)
-effect Op.JumpIf s im i next a x y = second s im i (λ n. jumps next (cond (eqb (cc s im i) a) n next))
-effect Op.Call s im i next a x y = second s im i (calls s im i next (mod-word (at s im (stack i) + 65535)))
-effect Op.Return s im i next a x y =
-    reading (found s im i (at s im (stack i))) (λ w. Effect.Does next (Change.Return (mod-word (at s im (stack i) + 1)) w))
-effect Op.Service s im i next a x y = flags-become next (flags-of (cc s im i) (error s im i) a)
+abbrev pub effect : Op → Machine → ℕ → ℕ → ℕ → ℕ → Effect
+effect Op.Unknown m next a x y = Effect.Faults bad-order
+effect Op.Load m next a x y = second m (sets next a)
+effect Op.Copy m next a x y = sets next a y
+effect Op.Fetch m next a x y = reading (found m y) (sets next a)
+effect Op.Store m next a x y = storing m y (Effect.Does next (Change.Store (address y) x))
+effect Op.Add m next a x y = sets next a (mod-word (x + y))
+effect Op.Subtract m next a x y = sets next a (mod-word (x + 65536 - y))
+effect Op.Multiply m next a x y = sets next a (mod-word (x * y))
+effect Op.Quotient m next a x y = unless-zero y (sets next a (x / y))
+effect Op.Remainder m next a x y = unless-zero y (sets next a (x % y))
+effect Op.And m next a x y = sets next a (on-bits min x y)
+effect Op.Or m next a x y = sets next a (on-bits max x y)
+effect Op.ExclusiveOr m next a x y = sets next a (on-bits (λ j k. (j + k) % 2) x y)
+effect Op.Compare m next a x y = flags-become next (flags-of (compared x y) (error m) (pending m))
+effect Op.Jump m next a x y = second m (jumps next)
+effect Op.JumpIf m next a x y = second m (λ n. jumps next (cond (eqb (cc m) a) n next))
+effect Op.Call m next a x y = second m (calls m next (mod-word (stack m + 65535)))
+effect Op.Return m next a x y = reading (found m (stack m)) (λ w. Effect.Does next (Change.Return (mod-word (stack m + 1)) w))
+effect Op.Service m next a x y = flags-become next (flags-of (cc m) (error m) a)
 
 -- an order of op, a and b, of n words
-unfoldable pub effect-of : Shape → List ℕ → Task → ℕ → ℕ → ℕ → ℕ → Effect
-effect-of s im i op n a b =
-    let next = past s im i n in
-    effect (order-of op) s im i next a (operand s im i next a) (operand s im i next b)
+unfoldable pub effect-of : Machine → ℕ → ℕ → ℕ → ℕ → Effect
+effect-of m op n a b =
+    let next = past m n in
+    effect (order-of op) m next a (operand m next a) (operand m next b)
 
 -- op and fields, save the service number; service number; then the order
-unfoldable pub checked : OrderShape → Shape → List ℕ → Task → ℕ → Effect
-checked OrderShape.Unknown s im i w = Effect.Faults bad-order
-checked (OrderShape.Known n fa fb) s im i w =
+unfoldable pub checked : OrderShape → Machine → ℕ → Effect
+checked OrderShape.Unknown m w = Effect.Faults bad-order
+checked (OrderShape.Known n fa fb) m w =
     cond (holds fa (a-of w) && holds fb (b-of w))
-    (cond (serves fa (a-of w)) (effect-of s im i (op-of w) n (a-of w) (b-of w)) (Effect.Faults bad-service))
+    (cond (serves fa (a-of w)) (effect-of m (op-of w) n (a-of w) (b-of w)) (Effect.Faults bad-service))
     (Effect.Faults bad-order)
 
 -- one order: the first word's address before all
-unfoldable pub order : Shape → List ℕ → Task → Effect
-order s im i =
-    reading (found s im i (at s im (next-order i))) (λ w. checked (shape-of-order (order-of (op-of w))) s im i w)
+unfoldable pub decided : Machine → Effect
+decided m = reading (found m (next-order m)) (λ w. checked (shape-of-order (order-of (op-of w))) m w)
 
--- the image with R1 and R0 written anew
-unfoldable pub with-stack : Shape → List ℕ → Task → ℕ → ℕ → List ℕ
-with-stack s im i top n = put s (put s im (stack i) top) (next-order i) n
+-- the machine with R1 and R0 written anew
+abbrev pub with-stack : Machine → ℕ → ℕ → Machine
+with-stack m top n = with-register (with-register m 1 top) 0 n
 
--- the image after a change: R0 is moved past the order first
-unfoldable pub changed : Shape → List ℕ → Task → ℕ → Change → List ℕ
-changed s im i next (Change.Register a w) = put s (moved-past s im i next) (reg i a) w
-changed s im i next (Change.Store p w) = set (moved-past s im i next) (p .0) w
-changed s im i next (Change.Flags f) = put s (moved-past s im i next) (flags i) f
-changed s im i next (Change.Call p top n) = with-stack s (set (moved-past s im i next) (p .0) next) i top n
-changed s im i next (Change.Return top w) = with-stack s (moved-past s im i next) i top w
+-- the machine after a change: R0 is moved past the order first
+unfoldable pub changed : Machine → ℕ → Change → Machine
+changed m next (Change.Register a w) = with-register (moved-past m next) a w
+changed m next (Change.Store a w) = with-word (moved-past m next) a w
+changed m next (Change.Flags f) = with-flags (moved-past m next) f
+changed m next (Change.Call top n) = with-stack (with-word (moved-past m next) top next) (top .0) n
+changed m next (Change.Return top w) = with-stack (moved-past m next) top w
 
 -- a faulting order changes only the error in the flags
-unfoldable pub order-faulted : Shape → List ℕ → Task → ℕ → List ℕ
-order-faulted s im i e = put-flags s im i (cc s im i) e (pending s im i)
+unfoldable pub faulted : Machine → ℕ → Machine
+faulted m e = with-flags m (flags-of (cc m) e (pending m))
 
--- the image after an order, and its answer
-abbrev pub after-order : Shape → List ℕ → Task → Effect → List ℕ
-after-order s im i (Effect.Does next c) = changed s im i next c
-after-order s im i (Effect.Faults e) = order-faulted s im i e
+-- the machine after an order, and its answer
+abbrev pub after : Machine → Effect → Machine
+after m (Effect.Does next c) = changed m next c
+after m (Effect.Faults e) = faulted m e
 
 abbrev pub order-answer : Task → Effect → Answer
 order-answer i (Effect.Does next c) = Answer.OrderDone i
 order-answer i (Effect.Faults e) = Answer.OrderFaulted i
+
+-- an order of task i: what its own machine decides, and the image with that machine put back into its place
+abbrev pub order : Shape → List ℕ → Task → Effect
+order s im i = decided (own s im i)
+
+abbrev pub after-order : Shape → List ℕ → Task → Effect → List ℕ
+after-order s im i e = with-own s im i (after (own s im i) e)

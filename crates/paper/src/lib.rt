@@ -47,12 +47,6 @@ pub enum Queue {
     Message(Task, Task),
 }
 
-// Where an address of a task's segment leads.
-pub enum Reach {
-    At(Place),
-    Outside,
-}
-
 // The services.
 pub enum Service {
     Send,
@@ -184,16 +178,16 @@ pub enum Found {
     Outside,
 }
 
-// What an order changes of its task, beside that R0 is moved past it.
+// What an order changes of its task's own machine, beside that R0 is moved past it.
 pub enum Change {
     // a register becomes a word
     Register(usize, u16),
-    // a word is stored in the segment
-    Store(Place, u16),
+    // a word is stored at an address
+    Store(Address, u16),
     // the flags become a word
     Flags(u16),
-    // the return address is stored in the segment, R1 and R0 become words
-    Call(Place, u16, u16),
+    // the return address is stored at an address, which R1 becomes; R0 becomes a word
+    Call(Address, u16),
     // R1 and R0 become words
     Return(u16, u16),
 }
