@@ -4,17 +4,15 @@ use mathlib.Core.List.{List, [], _∷_, _++_}
 use mathlib.Core.Path.{_≡_}
 use Prim.Native.Nat.{ℕ, _+_, _-_, _*_, _<_, _≤_}
 use lib.ListN.{length, getD}
-use Rattle.paper.specs.Image.{word, shape-of, at, clock, reg, flags, reach}
+use Rattle.paper.specs.Image.{shape-of, at, clock}
 use Rattle.paper.specs.Queues.{first, held, empty}
+use Rattle.paper.specs.Machines.{lies, own}
 use Rattle.paper.specs.Events.{is-tick}
 use Rattle.paper.specs.Numbers.{verdict-number, check}
 use Rattle.paper.specs.Calls.{event, run}
 use Rattle.paper.specs.declared.Task.{Task}
-use Rattle.paper.specs.declared.Address.{Address}
-use Rattle.paper.specs.declared.Place.{Place}
 use Rattle.paper.specs.declared.Shape.{Shape}
 use Rattle.paper.specs.declared.Queue.{Queue}
-use Rattle.paper.specs.declared.Reach.{Reach}
 use Rattle.paper.specs.declared.Reply.{Reply}
 use Rattle.paper.specs.declared.Verdict.{Verdict}
 
@@ -60,10 +58,8 @@ pub record IsFirst (s : Shape) (im : List ℕ) (i : Task) : Type 0 where
 
 -- no word of task i differs between im and m: its registers, its flags, its segment, which lies where it lay
 pub record Untouched (s : Shape) (im m : List ℕ) (i : Task) : Type 0 where
-  pub registers : (r : ℕ) → r < 8 → at s m (reg i r) ≡ at s im (reg i r)
-  pub flags-kept : at s m (flags i) ≡ at s im (flags i)
-  pub lies : (a : Address) → reach s m i a ≡ reach s im i a
-  pub segment : (a : Address) (p : Place) → reach s im i a ≡ Reach.At p → word m p ≡ word im p
+  pub lies-kept : lies s m i ≡ lies s im i
+  pub own-kept : own s m i ≡ own s im i
 
 -- the turn of task i comes within a list of events; `after` gives the image after a prefix of it, `counted` the ticks of the prefix
 pub record Comes (s : Shape) (im events : List ℕ) (i : Task) (most : ℕ) (after : List ℕ → List ℕ) (counted : List ℕ → ℕ) : Type 0 where

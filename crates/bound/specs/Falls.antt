@@ -58,8 +58,8 @@ module _ (s : Shape) (im m : List ℕ) (g : Good s m) (used : ℕ) (one : used �
           falls = omega (arith, less);
         }
 
-    moves-nears : Moves s im m used → Nears s im m i (suc k) used
-    moves-nears v = ⊎-elim leaves-nears (λ h. keeps-nears (h .0) (h .1)) (v .turn)
+    moves-nears : (r : Reply) → Moves s im r m used → Nears s im m i (suc k) used
+    moves-nears r v = ⊎-elim (λ h. leaves-nears (h .0)) (λ h. keeps-nears (h .0) (h .1)) (v .turn)
 
 -- a tick counts 1
 tick-one : (k d c : ℕ) → tick-count k d c ≤ 1
@@ -72,14 +72,14 @@ tick-one k d c = go (is-tick k d c)
 -- an accepted event, and a task with others ahead of it
 module _ (s : Shape) (im : List ℕ) (g : Good s im) (i : Task) (k : ℕ) (b : Behind s im i (suc k)) (kind device character : ℕ) (told : Answer)
     (taken-up : happening s im (event-of s kind device character) .reply ≡ Reply.Accepted told) where
-  moves : Moves s im (happening s im (event-of s kind device character) .image) (tick-count kind device character)
+  moves : Moves s im (happening s im (event-of s kind device character) .reply) (happening s im (event-of s kind device character) .image) (tick-count kind device character)
   moves = event-moves s im g (behind-some s im g i (suc k) b) kind device character told taken-up
 
   -- the step lemma: a tick makes the measure fall by 1 at least, and no device event raises it
   pub event-nears : Nears s im (happening s im (event-of s kind device character) .image) i (suc k) (tick-count kind device character)
   event-nears =
       moves-nears s im _ (words-good s im g kind device character) (tick-count kind device character)
-      (tick-one kind device character) i k b moves
+      (tick-one kind device character) i k b _ moves
 
   -- and neither touches a word of the task
   pub event-untouched : Untouched s im (happening s im (event-of s kind device character) .image) i

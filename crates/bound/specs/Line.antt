@@ -1,27 +1,27 @@
 -- A task in the ready queue with others ahead of it is not first, and so no event touches a word of it. Assumes nothing.
-use mathlib.Core.Path.{_≡_, refl, sym, ap, _∙_}
+use mathlib.Core.Path.{_≡_, refl, sym, _∙_}
 use mathlib.Core.List.{List, [], _∷_}
 use mathlib.Core.Bool.{Bool, true, false, cond}
-use mathlib.Core.Logic.{_≢_, inl, inr}
+use mathlib.Core.Logic.{_≢_}
 use Prim.Native.Nat.{ℕ, zero, suc, _+_, _<_, _≤_}
 use native.Mathlib.Decide.{ℕ-discrete, decLt}
 use native.Mathlib.Omega.{arith}
 use borrow.Author.Tests.{eq-eqb, ltb-true}
 use lib.Dec.{eqb, leb, ltb}
 use lib.ListN.{length, getD}
-use Rattle.paper.specs.Image.{task, most-character, ord, place, at, reg, flags, status, reach}
+use Rattle.paper.specs.Image.{task, most-character, at, status}
 use Rattle.paper.specs.Queues.{first, taken, held, empty}
 use Rattle.paper.specs.Flags.{is-ready}
 use Rattle.paper.specs.Events.{is-tick, is-input, is-output-done, event-of, running, happening}
 use Rattle.paper.specs.Rules.{times, Ready, Good}
 use Rattle.paper.specs.declared.Task.{Task}
-use Rattle.paper.specs.declared.Place.{Place}
 use Rattle.paper.specs.declared.Shape.{Shape}
 use Rattle.paper.specs.declared.Cell.{Cell}
 use Rattle.paper.specs.declared.Queue.{Queue}
 use Rattle.paper.specs.declared.Event.{Event}
-use Rattle.laws.specs.Segments.{InSegment, segment-cell, in-segment, segment-valid, segment-place, read, segments-apart}
 use Rattle.laws.specs.Orders.{OwnCell}
+use Rattle.laws.specs.Agree.{lies-same, own-same, own-apart}
+use Rattle.laws.specs.Own.{own-picked}
 use Rattle.laws.specs.Checked.{all-three, good-sound}
 use Rattle.laws.specs.Stays.{first-task}
 use Rattle.laws.specs.Touches.{Touches, touches-none, tick-touches, input-touches, output-done-touches}
@@ -85,30 +85,14 @@ module _ (s : Shape) (im : List ℕ) (g : Good s im) (i : Task) (k : ℕ) (b : B
       let t′ : 1 + times (i .0) rest ≡ 1 = rw (eq-eqb (i .0) (first s im Queue.Ready) e) at t in
       omega (arith, times-some rest k (i .0) (omega arith) (b′ .1), t′)
 
-  -- none of its words is the first task's
-  not-own-word : (r : ℕ) → ¬ OwnCell s im (running s im) (reg i r)
-  not-own-word r (inl (_, e)) = not-first e
-  not-own-word r (inr (p, _)) = absurd (let z : _≡_ {A = ℕ} 1 9 = ap ord p in omega arith)
-
-  not-own-place : (p : Place) → InSegment s im i p → ¬ OwnCell s im (running s im) (segment-cell s p)
-  not-own-place p inside (inl (e, _)) = absurd (let z : _≡_ {A = ℕ} 9 1 = ap ord e in omega arith)
-  not-own-place p inside (inr (_, there)) =
-      segments-apart s im (g .laid) i hi p inside (running s im) (first-task s im g some) (λ e. not-first (sym e)) (place s (segment-cell s p)) there
-      (sym (segment-place s im (g .laid) i hi p inside))
-
-  -- so where those alone are touched, and the segment table is as it was, it is untouched
+  -- so where the first task's words alone are touched, and the segment table is as it was, it is untouched
   pub touches-untouched : (m : List ℕ) → Touches s (OwnCell s im (running s im)) im m → Tabled s im m → Untouched s im m i
-  unfolding reach
   touches-untouched m t table =
+      let there = lies-same s im m i (table i 0 hi (omega arith)) (table i 1 hi (omega arith)) in
       record {
-        registers = λ r hr. t .spared (reg i r) (hi, omega arith) refl (not-own-word r);
-        flags-kept = t .spared (flags i) (hi, omega arith) refl (not-own-word 8);
-        lies = λ a. rw (table i 0 hi (omega arith), table i 1 hi (omega arith));
-        segment = λ a p e.
-            let inside = in-segment s im (g .laid) i a p e in
-            read s im (g .laid) i hi p inside m ∙
-            t .spared (segment-cell s p) (segment-valid s im (g .laid) i hi p inside) refl (not-own-place p inside) ∙
-            sym (read s im (g .laid) i hi p inside im);
+        lies-kept = there;
+        own-kept = own-same s im m i hi (g .laid) there (λ c hc own.
+            t .spared c hc (own-picked s im i c own) (own-apart s im (g .laid) i (running s im) hi (first-task s im g some) not-first c own));
       }
 
 -- what changes no word of a task changes none but those of some

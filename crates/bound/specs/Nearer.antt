@@ -26,16 +26,11 @@ use Rattle.bound.specs.Falls.{event-nears, event-untouched}
 
 -- an image is untouched by nothing, and by one thing after another
 pub untouched-none : (s : Shape) (im : List ℕ) (i : Task) → Untouched s im im i
-untouched-none s im i = record { registers = λ r hr. refl; flags-kept = refl; lies = λ a. refl; segment = λ a p e. refl }
+untouched-none s im i = record { lies-kept = refl; own-kept = refl }
 
 pub untouched-then : (s : Shape) (im m n : List ℕ) (i : Task) → Untouched s im m i → Untouched s m n i → Untouched s im n i
 untouched-then s im m n i u v =
-    record {
-      registers = λ r hr. v .registers r hr ∙ u .registers r hr;
-      flags-kept = v .flags-kept ∙ u .flags-kept;
-      lies = λ a. v .lies a ∙ u .lies a;
-      segment = λ a p e. v .segment a p (u .lies a ∙ e) ∙ u .segment a p e;
-    }
+    record { lies-kept = v .lies-kept ∙ u .lies-kept; own-kept = v .own-kept ∙ u .own-kept }
 
 -- a call of `event` on a good image
 module _ (s : Shape) (im : List ℕ) (g : Good s im) (kind device character : ℕ) where

@@ -9,7 +9,7 @@ use borrow.Author.Tests.{eqb-false, leb-false, ltb-true}
 use lib.Dec.{eqb, leb, ltb}
 use lib.ListN.{length}
 use Rattle.paper.specs.Image.{task, most-character, total, at, put, clock, flags, status, busy}
-use Rattle.paper.specs.Queues.{appended, empty, full}
+use Rattle.paper.specs.Queues.{appended, first, empty, full}
 use Rattle.paper.specs.Flags.{flags-of, error, pending, cc as condition, waits, is-stopped}
 use Rattle.paper.specs.Waking.{Outcome, accepted, refused, with-status, one-if, with-woken, unless-full}
 use Rattle.paper.specs.Services.{asked, other, fault-of, unless-wrong, service-faulted, buffer, blocks, awaited, waiting, moved, served, waits-for, wakes, finished, service}
@@ -41,21 +41,38 @@ use Rattle.laws.specs.Turns.{status-apart, status-sound}
 use Rattle.laws.specs.Serving.{error-none}
 use Rattle.laws.specs.Moved.{moved-parts, small-error, moved-apart, served-apart, next-apart}
 use Rattle.laws.specs.Moving.{free-output}
-use Rattle.laws.specs.Stays.{served-nearly, next-nearly, spared-if, first-task, first-stands, asked-for, asked-nothing, words-good}
+use Rattle.laws.specs.Stays.{served-nearly, next-nearly, spared-if, first-task, first-stands, asked-for, asked-nothing, tick-good, words-good}
 use Rattle.laws.specs.Touches.{Touches, input-touches, output-done-touches}
 use Rattle.bound.specs.Bound.{tick-count}
 use Rattle.bound.specs.Measure.{pace-of, pace}
-use Rattle.bound.specs.Ready.{Tabled, apart-tabled, KeepsPlace, LeavesPlace, keeps-first, apart-keeps, left-passes, left-tabled, turned-passes, turned-tabled, WakesAs, awake}
+use Rattle.bound.specs.Ready.{Tabled, apart-tabled, KeepsPlace, LeavesPlace, held-some, keeps-held, keeps-first, apart-keeps, left-passes, left-tabled, turned-passes, turned-tabled, WakesAs, awake}
 use Rattle.bound.specs.Pace.{served-falls, ordered-falls}
 
+-- whether a rule before an order leaves the first task first, as its reply tells: a service that is done or faulted
+abbrev stays-by : Answer → Bool
+stays-by Answer.Idle = false
+stays-by (Answer.ErrorStop i) = false
+stays-by (Answer.TurnPassed i) = false
+stays-by (Answer.ServiceDone i) = true
+stays-by (Answer.ServiceWaits i) = false
+stays-by (Answer.ServiceFaulted i) = true
+stays-by (Answer.OrderDone i) = false
+stays-by (Answer.OrderFaulted i) = false
+stays-by (Answer.Input i) = false
+stays-by (Answer.OutputDone i) = false
+
+abbrev pub stays-first : Reply → Bool
+stays-first (Reply.Accepted a) = stays-by a
+stays-first (Reply.Refused r) = false
+
 -- the first task is gone from its place, or keeps it and has used up so many of the ticks that it can use
-pub record Moves (s : Shape) (im m : List ℕ) (used : ℕ) : Type 0 where
-  pub turn : LeavesPlace s im m ⊎ (KeepsPlace s im m × (used + pace s m ≤ pace s im))
+pub record Moves (s : Shape) (im : List ℕ) (r : Reply) (m : List ℕ) (used : ℕ) : Type 0 where
+  pub turn : (LeavesPlace s im m × (stays-first r ≡ false)) ⊎ (KeepsPlace s im m × (used + pace s m ≤ pace s im))
   pub tabled : Tabled s im m
 
 -- an outcome that does so, where it is accepted
 abbrev MovesAs : Shape → List ℕ → Outcome → ℕ → Type 0
-MovesAs s im o used = (told : Answer) → o .reply ≡ Reply.Accepted told → Sound s (o .image) → Moves s im (o .image) used
+MovesAs s im o used = (told : Answer) → o .reply ≡ Reply.Accepted told → Sound s (o .image) → Moves s im (o .reply) (o .image) used
 
 -- the parts that an order changes, the clock with it
 abbrev order-parts : Part → Bool
@@ -77,32 +94,32 @@ module _ (s : Shape) (im : List ℕ) (g : Good s im) (some : empty s im Queue.Re
   pace-is m h k c p ec ep = rw (keeps-first s im lies some m h k, ec, ep)
 
   -- rule 2
-  stopped-moves : Moves s im (stopped s im i) 1
+  stopped-moves : Moves s im (Reply.Accepted (Answer.ErrorStop i)) (stopped s im i) 1
   unfolding stopped
   stopped-moves =
       let m = put s im (status i) is-stopped in
       let h = put-sound s im (status i) is-stopped (hi, omega arith) (omega arith) lies in
       let a : (P : Part → Bool) → P Part.StatusTable ≡ true → Apart s P im m =
       λ P t. apart-put s P im im (apart-none s P im) (status i) is-stopped (hi, omega arith) t in
-      record { turn = inl (left-passes s im m lies some h a); tabled = left-tabled s im m lies some h a }
+      record { turn = inl (left-passes s im m lies some h a, refl); tabled = left-tabled s im m lies some h a }
 
   -- rule 3
-  turned-moves : Moves s im (turned s im i) 1
-  turned-moves = record { turn = inl (turned-passes s im lies some i); tabled = turned-tabled s im lies some i }
+  turned-moves : Moves s im (Reply.Accepted (Answer.TurnPassed i)) (turned s im i) 1
+  turned-moves = record { turn = inl (turned-passes s im lies some i, refl); tabled = turned-tabled s im lies some i }
 
   module _ (runs : at s im clock ≢ 0) where
     -- rule 4
     module _ (v : Service) (asks : pending s im i ≡ waits v) where
       -- a service that does not wait: it costs one tick
-      served-moves : (m : List ℕ) → Sound s m → KeepsPlace s im m → at s m clock ≡ at s im clock → pending s m i ≡ 0 → Tabled s im m → Moves s im m 1
-      served-moves m h k c p t =
+      served-moves : (r : Reply) (m : List ℕ) → Sound s m → KeepsPlace s im m → at s m clock ≡ at s im clock → pending s m i ≡ 0 → Tabled s im m → Moves s im r m 1
+      served-moves r m h k c p t =
           record {
             turn = inr (k, rw (pace-is m h k (at s im clock) 0 c p) (served-falls (at s im clock) (pending s im i) runs (λ e. waits-not v (sym e ∙ asks))));
             tabled = t;
           }
 
       -- it faulted
-      faulted-moves : (e : ℕ) → fault-of s im i v ≡ Fault.Error e → Moves s im (service-faulted s im i e) 1
+      faulted-moves : (e : ℕ) → fault-of s im i v ≡ Fault.Error e → Moves s im (Reply.Accepted (Answer.ServiceFaulted i)) (service-faulted s im i e) 1
       unfolding service-faulted
       faulted-moves e f =
           let w = flags-of (condition s im i) e 0 in
@@ -111,17 +128,17 @@ module _ (s : Shape) (im : List ℕ) (g : Good s im) (some : empty s im Queue.Re
           let h : Sound s m = put-sound s im (flags i) w (hi, omega arith) (omega arith) lies in
           let r : at s m (flags i) ≡ w = at-same s im (flags i) w (hi, omega arith) (sound lies .laid .words) in
           let low = small-error s im i v e f in
-          served-moves m h (apart-keeps s own-parts im m lies a refl) (kept-clock s own-parts im m a refl)
+          served-moves _ m h (apart-keeps s own-parts im m lies a refl) (kept-clock s own-parts im m a refl)
           (rw r (fields (condition s im i) e 0 (omega arith) (omega arith) .2)) (apart-tabled s own-parts im m refl a)
 
       -- it waits
-      waiting-moves : Moves s im (waiting s im i v) 1
+      waiting-moves : Moves s im (Reply.Accepted (Answer.ServiceWaits i)) (waiting s im i v) 1
       unfolding waiting
       waiting-moves =
           let m = with-status s im i (waits v) (awaited s im i v) in
           let h = status-sound s im i hi lies (waits v) (awaited s im i v) in
           let a = status-apart s im i hi lies (waits v) (awaited s im i v) in
-          record { turn = inl (left-passes s im m lies some h a); tabled = left-tabled s im m lies some h a }
+          record { turn = inl (left-passes s im m lies some h a, refl); tabled = left-tabled s im m lies some h a }
 
       -- it is done
       module _ (right : fault-of s im i v ≡ Fault.Nothing) (clear : blocks v s im (buffer s im i v) ≡ false) where
@@ -151,7 +168,7 @@ module _ (s : Shape) (im : List ℕ) (g : Good s im) (some : empty s im Queue.Re
         finished-moves : MovesAs s im (finished s im i v) 1
         finished-moves told t h =
             let k = finished-awake told t in
-            served-moves (finished s im i v .image) h (k .keeps) (k .clock-kept) (rw (k .flags-as i hi) served-pending) (k .tabled)
+            served-moves _ (finished s im i v .image) h (k .keeps) (k .clock-kept) (rw (k .flags-as i hi) served-pending) (k .tabled)
 
       service-moves : MovesAs s im (service s im i v) 1
       unfolding service
@@ -211,8 +228,8 @@ module _ (s : Shape) (im : List ℕ) (g : Good s im) (some : empty s im Queue.Re
   tick-moves = rw some turn-moves
 
   -- device events: the first task keeps its place, the clock and its flags
-  still : (m : List ℕ) → Sound s m → KeepsPlace s im m → at s m clock ≡ at s im clock → Touches s (λ c. ⊥) im m → Tabled s im m → Moves s im m 0
-  still m h k c u t =
+  still : (r : Reply) (m : List ℕ) → Sound s m → KeepsPlace s im m → at s m clock ≡ at s im clock → Touches s (λ c. ⊥) im m → Tabled s im m → Moves s im r m 0
+  still r m h k c u t =
       let p : pending s m i ≡ pending s im i = rw (u .spared (flags i) (hi, omega arith) refl (λ z. z)) in
       record { turn = inr (k, rw (pace-is m h k (at s im clock) (pending s im i) c p) (omega arith)); tabled = t }
 
@@ -236,7 +253,7 @@ module _ (s : Shape) (im : List ℕ) (g : Good s im) (some : empty s im Queue.Re
     input-moves : (c : ℕ) → MovesAs s im (input s im j c) 0
     input-moves c told t h =
         let k = input-awake c told t in
-        still (input s im j c .image) h (k .keeps) (k .clock-kept) (input-touches s im g j hj c) (k .tabled)
+        still _ (input s im j c .image) h (k .keeps) (k .clock-kept) (input-touches s im g j hj c) (k .tabled)
 
     output-awake : WakesAs s im (port-next s im j) (output-done s im j)
     unfolding output-done
@@ -257,7 +274,7 @@ module _ (s : Shape) (im : List ℕ) (g : Good s im) (some : empty s im Queue.Re
     output-moves : MovesAs s im (output-done s im j) 0
     output-moves told t h =
         let k = output-awake told t in
-        still (output-done s im j .image) h (k .keeps) (k .clock-kept) (output-done-touches s im g j hj) (k .tabled)
+        still _ (output-done s im j .image) h (k .keeps) (k .clock-kept) (output-done-touches s im g j hj) (k .tabled)
 
   -- whatever event comes and is accepted: a tick is one of the ticks that the first task can use, a device event none
   happens : (k d c : ℕ) → MovesAs s im (happening s im (event-of s k d c)) (tick-count k d c)
@@ -279,5 +296,21 @@ module _ (s : Shape) (im : List ℕ) (g : Good s im) (some : empty s im Queue.Re
       tick-first false = input-next (is-input s k d c) refl
 
   pub event-moves : (k d c : ℕ) (told : Answer) → happening s im (event-of s k d c) .reply ≡ Reply.Accepted told
-      → Moves s im (happening s im (event-of s k d c) .image) (tick-count k d c)
+      → Moves s im (happening s im (event-of s k d c) .reply) (happening s im (event-of s k d c) .image) (tick-count k d c)
   event-moves k d c told t = happens k d c told t (good-sound s _ (words-good s im g k d c))
+
+  -- so after a tick that tells of a service done or faulted the first task is first still, and the segment table as it was
+  pub tick-stays : (told : Answer) → tick s im .reply ≡ Reply.Accepted told → stays-first (Reply.Accepted told) ≡ true
+      → (empty s (tick s im .image) Queue.Ready ≡ false) × (first s (tick s im .image) Queue.Ready ≡ first s im Queue.Ready) × Tabled s im (tick s im .image)
+  tick-stays told t f = go (v .turn)
+    where
+      h : Sound s (tick s im .image)
+      h = good-sound s _ (tick-good s im g)
+
+      v : Moves s im (tick s im .reply) (tick s im .image) 1
+      v = tick-moves told t h
+
+      go : (LeavesPlace s im (tick s im .image) × (stays-first (tick s im .reply) ≡ false)) ⊎ (KeepsPlace s im (tick s im .image) × (1 + pace s (tick s im .image) ≤ pace s im))
+          → (empty s (tick s im .image) Queue.Ready ≡ false) × (first s (tick s im .image) Queue.Ready ≡ first s im Queue.Ready) × Tabled s im (tick s im .image)
+      go (inl (_, e)) = absurd (true≢false (sym f ∙ (rw t at e)))
+      go (inr (k, _)) = (held-some s _ _ _ (keeps-held s im lies some _ k), keeps-first s im lies some _ h k, v .tabled)

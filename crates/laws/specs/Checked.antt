@@ -335,6 +335,3 @@ check-zero im = (λ e. checked-good im (zero-is (check im) .0 e), λ g. zero-is 
 -- a good image is sound, and so is one that was inspected and found fine
 pub good-sound : (s : Shape) (im : List ℕ) → Good s im → Sound s im
 good-sound s im g = shut record { laid = g .laid; queues = g .queues }
-
-pub inspected-sound : (s : Shape) (im : List ℕ) (v : Verdict) → v ≡ check im → s ≡ shape-of im → v ≡ Verdict.Fine → Sound s im
-inspected-sound s im v ev es f = rw es (good-sound (shape-of im) im (checked-good im (sym ev ∙ f)))

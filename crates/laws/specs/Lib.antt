@@ -10,9 +10,9 @@ pub mod Checked
 pub mod Rows
 pub mod Fresh
 pub mod Once
-pub mod Fields
 pub mod Effects
 pub mod Orders
+pub mod Agree
 pub mod Standing
 pub mod Apart
 pub mod Kept

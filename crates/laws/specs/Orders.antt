@@ -2,30 +2,32 @@
 use mathlib.Core.Path.{_≡_, refl, sym, ap, _∙_}
 use mathlib.Core.List.{List}
 use mathlib.Core.Bool.{not}
-use mathlib.Core.Logic.{_⊎_, inl, inr}
-use Prim.Native.Nat.{ℕ, _<_, _≤_}
+use mathlib.Core.Logic.{_≢_, _⊎_, inl, inr}
+use Prim.Native.Nat.{ℕ, _+_, _-_, _<_, _≤_}
 use native.Mathlib.Omega.{arith}
 use lib.Dec.{T, T-not, eqb}
-use lib.ListN.{length, set}
+use lib.ListN.{length}
 use Rattle.paper.specs.Image.{ord, lead, cell, shape-of, Valid, place, at, put, reg, flags}
 use Rattle.paper.specs.Queues.{Has, queue-word}
-use Rattle.paper.specs.Flags.{flags-of, cc as condition, error, pending}
-use Rattle.paper.specs.Orders.{stack, moved-past, order, with-stack, changed, order-faulted, after-order}
+use Rattle.paper.specs.Flags.{cc-of, error-of, pending-of, most-cc, most-error, error, pending}
+use Rattle.paper.specs.Services.{services}
+use Rattle.paper.specs.Machines.{Machine, machine, lies, own, with-own}
+use Rattle.paper.specs.Orders.{after, order, after-order}
 use Rattle.paper.specs.Rules.{Laid, Flagged}
 use Rattle.paper.specs.declared.Task.{Task}
-use Rattle.paper.specs.declared.Place.{Place}
 use Rattle.paper.specs.declared.Shape.{Shape}
 use Rattle.paper.specs.declared.Cell.{Cell}
 use Rattle.paper.specs.declared.Part.{Part}
 use Rattle.paper.specs.declared.Queue.{Queue}
-use Rattle.paper.specs.declared.Change.{Change}
 use Rattle.paper.specs.declared.Effect.{Effect}
-use Rattle.laws.specs.Cells.{at-same, at-other, other-part, length-put}
+use Rattle.own.specs.Machines.{Apart, Fits, OwnPlace, machine-fits, machine-flags, length-put-back, after-fits, machine-put, put-elsewhere}
+use Rattle.laws.specs.Places.{one-cell}
+use Rattle.laws.specs.Cells.{at-other, length-put}
 use Rattle.laws.specs.Layout.{shape-is}
 use Rattle.laws.specs.Queues.{word-valid}
-use Rattle.laws.specs.Segments.{segment-cell, InSegment, segment-valid, segment-place, stored}
+use Rattle.laws.specs.Segments.{segment-cell, InSegment, segment-from, segment-upto, segment-valid, segment-place}
 use Rattle.laws.specs.Sound.{Sound, shut, sound, laid-frame, queued-frame}
-use Rattle.laws.specs.Effects.{Own, own-error, fields, order-own}
+use Rattle.laws.specs.Effects.{Own, own-error, order-own, does-fine, faulted-flags}
 
 -- a cell of task i: one of its registers, its flags, or a word of its segment
 abbrev pub OwnCell : Shape → List ℕ → Task → Cell → Type 0
@@ -41,54 +43,45 @@ module _ (s : Shape) (im : List ℕ) (i : Task) where
   pub keeps-all : Keeps s im i im
   keeps-all = record { long = refl; others = λ c hc f. refl }
 
-  -- a write of an own cell keeps the others
-  keeps-put : (m : List ℕ) (d : Cell) (v : ℕ) → Keeps s im i m → Valid s d → OwnCell s im i d → Keeps s im i (put s m d v)
-  keeps-put m d v k hd own =
-      record {
-        long = length-put s m d v ∙ k .long;
-        others = λ c hc f. at-other s m d c v hd hc (λ e. f (rw e own)) ∙ k .others c hc f;
-      }
-
   module _ (hi : i .0 < s .n) where
+    -- a write of a word of its row keeps the others
     pub keeps-word : (m : List ℕ) (r v : ℕ) → r < 9 → Keeps s im i m → Keeps s im i (put s m (reg i r) v)
-    keeps-word m r v hr k = keeps-put m (reg i r) v k (hi, hr) (inl (refl, refl))
+    keeps-word m r v hr k =
+        record {
+          long = length-put s m (reg i r) v ∙ k .long;
+          others = λ c hc f. at-other s m (reg i r) c v (hi, hr) hc (λ e. f (rw e (inl (refl, refl)))) ∙ k .others c hc f;
+        }
 
-    keeps-moved : (next : ℕ) → Keeps s im i (moved-past s im i next)
-    unfolding moved-past
-    keeps-moved next = keeps-word im 0 next (omega arith) keeps-all
-
-    keeps-stack : (m : List ℕ) (top n : ℕ) → Keeps s im i m → Keeps s im i (with-stack s m i top n)
-    unfolding with-stack
-    keeps-stack m top n k = keeps-word (put s m (stack i) top) 0 n (omega arith) (keeps-word m 1 top (omega arith) k)
-
-    -- and so does a store in the segment
-    module _ (laid : Laid s im) (p : Place) (inside : InSegment s im i p) where
-      keeps-store : (m : List ℕ) (v : ℕ) → Keeps s im i m → Keeps s im i (set m (p .0) v)
-      keeps-store m v k =
-          rw (stored s im laid i hi p inside m v)
-          (keeps-put m (segment-cell s p) v k (segment-valid s im laid i hi p inside) (inr (refl, rw (segment-place s im laid i hi p inside) inside)))
-
-    -- so after an order every cell but the task's own is as it was
     module _ (laid : Laid s im) where
-      keeps-change : (next : ℕ) (c : Change) → Own s im i (Effect.Does next c) → Keeps s im i (changed s im i next c)
-      unfolding changed Own
-      keeps-change next (Change.Register a w) h = keeps-word (moved-past s im i next) a w (omega arith) (keeps-moved next)
-      keeps-change next (Change.Store p w) h = keeps-store laid p h (moved-past s im i next) w (keeps-moved next)
-      keeps-change next (Change.Flags f) h = keeps-word (moved-past s im i next) 8 f (omega arith) (keeps-moved next)
-      keeps-change next (Change.Call p top n) h =
-          keeps-stack (set (moved-past s im i next) (p .0) next) top n (keeps-store laid p h (moved-past s im i next) next (keeps-moved next))
-      keeps-change next (Change.Return top w) h = keeps-stack (moved-past s im i next) top w (keeps-moved next)
+      -- a task's row lies before its segment, and that within the image
+      pub lies-apart : Apart (lies s im i) im
+      unfolding place
+      lies-apart = (omega (arith, segment-from s im laid i hi), omega (arith, segment-upto s im laid i hi, laid .words))
 
-      keeps-fault : (e : ℕ) → Keeps s im i (order-faulted s im i e)
-      unfolding order-faulted
-      keeps-fault e = keeps-word im 8 _ (omega arith) keeps-all
+      -- a cell of its words is its own
+      pub own-cell : (c : Cell) → Valid s c → OwnPlace (lies s im i) (place s c .0) → OwnCell s im i c
+      unfolding place
+      own-cell c hc (inl k) =
+          let e = one-cell s c (reg i (place s c .0 - place s (reg i 0) .0)) hc (hi, omega arith) (omega arith) in
+          inl (ap (λ (x : Cell). x .part) e, ap (λ (x : Cell). x .row) e)
+      own-cell c hc (inr k) =
+          let e = one-cell s c (segment-cell s (place s c)) hc (segment-valid s im laid i hi (place s c) k) (sym (segment-place s im laid i hi (place s c) k)) in
+          inr (ap (λ (x : Cell). x .part) e, k)
 
-      keeps-effect : (e : Effect) → Own s im i e → Keeps s im i (after-order s im i e)
-      keeps-effect (Effect.Does next c) h = keeps-change next c h
-      keeps-effect (Effect.Faults e) h = keeps-fault e
+      -- so any machine put back keeps every cell but those, and so does an order
+      pub keeps-own : (m : Machine) → Fits (lies s im i) m → Keeps s im i (with-own s im i m)
+      unfolding at
+      keeps-own m fits =
+          record {
+            long = length-put-back (lies s im i) im m;
+            others = λ c hc f. put-elsewhere (lies s im i) im m fits (place s c .0) (λ k. f (own-cell c hc k));
+          }
+
+      pub effect-keeps : (e : Effect) → Keeps s im i (after-order s im i e)
+      effect-keeps e = keeps-own _ (after-fits (lies s im i) (own s im i) (machine-fits (lies s im i) im) e)
 
       pub order-keeps : Keeps s im i (after-order s im i (order s im i))
-      order-keeps = keeps-effect (order s im i) (order-own s im i hi laid)
+      order-keeps = effect-keeps (order s im i)
 
 -- cells of other parts are no task's own
 pub not-own : (s : Shape) (im : List ℕ) (i : Task) (c : Cell) → T (not (eqb (ord (c .part)) 1)) → T (not (eqb (ord (c .part)) 9)) → ¬ OwnCell s im i c
@@ -132,58 +125,46 @@ module _ (s : Shape) (im : List ℕ) (i : Task) (hi : i .0 < s .n) (h : Sound s 
       let z : 8 ≡ r = ap (λ (c : Cell). c .column) e in
       omega arith)
 
-  store-apart : (p : Place) → InSegment s im i p → (m : List ℕ) (v : ℕ) → at s (set m (p .0) v) (flags i) ≡ at s m (flags i)
-  store-apart p inside m v =
-      let c = segment-valid s im (sound h .laid) i hi p inside in
-      rw (stored s im (sound h .laid) i hi p inside m v) (other-part s m Part.Segments Part.TaskTable _ (i .0) _ 8 v tt (c .0) (c .1) hi (omega arith))
+-- a task's flags are its machine's
+place-flags : (s : Shape) (i : Task) → place s (flags i) .0 ≡ place s (reg i 0) .0 + 8
+unfolding place
+place-flags s i = omega arith
 
-  moved-apart : (next : ℕ) → at s (moved-past s im i next) (flags i) ≡ at s im (flags i)
-  unfolding moved-past
-  moved-apart next = register-apart im 0 next (omega arith)
+pub own-flags : (s : Shape) (im : List ℕ) (i : Task) → at s im (flags i) ≡ own s im i .flags
+unfolding at machine
+own-flags s im i = rw (place-flags s i)
 
-  stack-apart : (m : List ℕ) (top n : ℕ) → at s (with-stack s m i top n) (flags i) ≡ at s m (flags i)
-  unfolding with-stack
-  stack-apart m top n = register-apart _ 0 n (omega arith) ∙ register-apart m 1 top (omega arith)
+pub with-own-flags : (s : Shape) (im : List ℕ) (i : Task) → i .0 < s .n → Laid s im → (m : Machine) → Fits (lies s im i) m
+    → at s (with-own s im i m) (flags i) ≡ m .flags
+unfolding at
+with-own-flags s im i hi laid m fits =
+    rw (place-flags s i)
+    (sym (machine-flags (lies s im i) (with-own s im i m)) ∙
+    ap (λ (x : Machine). x .flags) (machine-put (lies s im i) im m fits (lies-apart s im i hi laid)))
 
-  -- flags that are written
-  written : (m : List ℕ) (v : ℕ) → length m ≡ length im → at s (put s m (flags i) v) (flags i) ≡ v
-  written m v e = at-same s m (flags i) v (hi, omega arith) (e ∙ sound h .laid .words)
+-- flags in range
+flagged-of : (s : Shape) (im : List ℕ) (i : Task) (x : ℕ) → at s im (flags i) ≡ x → cc-of x ≤ most-cc → error-of x ≤ most-error
+    → pending-of x ≤ length services → (error-of x ≢ 0 → pending-of x ≡ 0) → Flagged s im i
+flagged-of s im i x e c r p both =
+    record { cc-range = rw e c; error-range = rw e r; pending-range = rw e p; never-both = rw e both }
 
-  -- where nothing is pending and there is no error, an order leaves flags in range, and never both
-  module _ (calm : error s im i ≡ 0) (idle : pending s im i ≡ 0) where
-    flagged-change : (next : ℕ) (c : Change) → Own s im i (Effect.Does next c) → Flagged s (changed s im i next c) i
-    unfolding changed Own
-    flagged-change next (Change.Register a w) own =
-        flagged-frame s im _ i (register-apart (moved-past s im i next) a w own ∙ moved-apart next) f
-    flagged-change next (Change.Store p w) own = flagged-frame s im _ i (store-apart p own (moved-past s im i next) w ∙ moved-apart next) f
-    flagged-change next (Change.Flags x) own =
-        let e = written (moved-past s im i next) x (keeps-moved s im i hi next .long) in
-        let r = own f calm in
-        record {
-          cc-range = rw e (r .0);
-          error-range = rw e (omega (arith, r .1));
-          pending-range = rw e (r .2);
-          never-both = rw e (λ ne. absurd (ne (r .1)));
-        }
-    flagged-change next (Change.Call p top n) own =
-        flagged-frame s im _ i (stack-apart _ top n ∙ store-apart p own (moved-past s im i next) next ∙ moved-apart next) f
-    flagged-change next (Change.Return top w) own = flagged-frame s im _ i (stack-apart (moved-past s im i next) top w ∙ moved-apart next) f
+-- where nothing is pending and there is no error, an order leaves flags in range, and never both
+module _ (s : Shape) (im : List ℕ) (i : Task) (hi : i .0 < s .n) (h : Sound s im) (f : Flagged s im i) (calm : error s im i ≡ 0) (idle : pending s im i ≡ 0) where
+  flags-written : (e : Effect) → at s (after-order s im i e) (flags i) ≡ after (own s im i) e .flags
+  flags-written e = with-own-flags s im i hi (sound h .laid) _ (after-fits (lies s im i) (own s im i) (machine-fits (lies s im i) im) e)
 
-    flagged-fault : (e : ℕ) → e ≤ 4 → Flagged s (order-faulted s im i e) i
-    unfolding order-faulted
-    flagged-fault e he =
-        let w = written im (flags-of (condition s im i) e (pending s im i)) refl in
-        let r = fields (condition s im i) e (pending s im i) (omega arith) (omega arith) in
-        record {
-          cc-range = rw w (omega (arith, r .0, f .cc-range));
-          error-range = rw w (omega (arith, r .1));
-          pending-range = rw w (omega (arith, r .2, f .pending-range));
-          never-both = rw w (λ ne. r .2 ∙ idle);
-        }
+  flagged-effect : (e : Effect) → Own (own s im i) e → Flagged s (after-order s im i e) i
+  flagged-effect (Effect.Does next c) own′ =
+      let is = own-flags s im i in
+      let fine = does-fine (own s im i) next c own′ in
+      flagged-of s _ i _ (flags-written (Effect.Does next c)) (fine .cc-fine (rw is at (f .cc-range))) (omega (arith, fine .error-kept, is, calm))
+      (fine .pending-fine (rw is at (f .pending-range))) (λ ne. absurd (ne (fine .error-kept ∙ (rw is at calm))))
+  flagged-effect (Effect.Faults e) own′ =
+      let is = own-flags s im i in
+      let range = own-error (own s im i) e own′ in
+      let r = faulted-flags (own s im i) e (omega (arith, range)) in
+      flagged-of s _ i _ (flags-written (Effect.Faults e)) (rw (r .0) (rw is at (f .cc-range))) (omega (arith, r .1, range))
+      (rw (r .2) (rw is at (f .pending-range))) (λ ne. r .2 ∙ (rw is at idle))
 
-    flagged-effect : (e : Effect) → Own s im i e → Flagged s (after-order s im i e) i
-    flagged-effect (Effect.Does next c) own = flagged-change next c own
-    flagged-effect (Effect.Faults e) own = flagged-fault e (own-error s im i e own .1)
-
-    pub order-flagged : Flagged s (after-order s im i (order s im i)) i
-    order-flagged = flagged-effect (order s im i) (order-own s im i hi (sound h .laid))
+  pub order-flagged : Flagged s (after-order s im i (order s im i)) i
+  order-flagged = flagged-effect (order s im i) (order-own (own s im i))

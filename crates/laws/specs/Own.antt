@@ -32,6 +32,10 @@ own-parts p = eqb (ord p) 1 || eqb (ord p) 9
 abbrev pub header-part : Part → Bool
 header-part p = eqb (ord p) 0
 
+pub own-picked : (s : Shape) (im : List ℕ) (i : Task) (c : Cell) → OwnCell s im i c → own-parts (c .part) ≡ true
+own-picked s im i c (inl (p, _)) = ap own-parts p
+own-picked s im i c (inr (p, _)) = ap own-parts p
+
 -- the buffer that a task waits on is as it was, where buffers are not picked
 module _ (s : Shape) (P : Part → Bool) (im m : List ℕ) (a : Apart s P im m) (inputs : P Part.InputBuffers ≡ false) (outputs : P Part.OutputBuffers ≡ false)
     (messages : P Part.MessageBuffers ≡ false) (i : Task) (hi : i .0 < s .n) (h : Stands s im i) where
@@ -47,11 +51,7 @@ module _ (s : Shape) (P : Part → Bool) (im m : List ℕ) (a : Apart s P im m) 
 module _ (s : Shape) (im : List ℕ) (w : Woken) (h : Nearly s im w) (i : Task) (hi : i .0 < s .n) (at-ready : at s im (status i) ≡ is-ready)
     (no-peer : at s im (peer i) ≡ 0) (m : List ℕ) (k : Keeps s im i m) (f : Flagged s m i) where
   keeps-apart : Apart s own-parts im m
-  keeps-apart = record { long = k .long; others = λ c hc e. k .others c hc (go c e) }
-    where
-      go : (c : Cell) → own-parts (c .part) ≡ false → ¬ OwnCell s im i c
-      go c e (inl (p, _)) = true≢false (sym (ap own-parts p) ∙ e)
-      go c e (inr (p, _)) = true≢false (sym (ap own-parts p) ∙ e)
+  keeps-apart = record { long = k .long; others = λ c hc e. k .others c hc (λ own. true≢false (sym (own-picked s im i c own) ∙ e)) }
 
   -- another task's words are not this one's
   other-row-kept : (j : Task) → j .0 < s .n → j .0 ≢ i .0 → (r : ℕ) → r < 9 → at s m (reg j r) ≡ at s im (reg j r)

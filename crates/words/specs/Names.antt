@@ -1,10 +1,8 @@
 -- What the names in code stand for.
-use Prim.Native.Nat.{_<_, _≤_}
-use Rattle.paper.specs.Image.{start, total, clock, reg, flags, status, peer, busy, character}
-use Rattle.paper.specs.declared.Place.{Place}
+use Prim.Native.Nat.{_<_}
+use Rattle.paper.specs.Image.{clock, reg, flags, status, peer, busy, character}
 use Rattle.paper.specs.declared.Shape.{Shape}
 use Rattle.paper.specs.declared.Cell.{Cell}
-use Rattle.paper.specs.declared.Part.{Part}
 use Rattle.words.specs.declared.Spot.{Spot}
 
 -- the cell of a spot
@@ -26,7 +24,3 @@ Names s (Spot.Status i) = i .0 < s .n
 Names s (Spot.Peer i) = i .0 < s .n
 Names s (Spot.Busy i) = i .0 < s .n
 Names s (Spot.Character i) = i .0 < s .n
-
--- the place is one of the segments; shut, as contracts say it
-unfoldable pub Among : Shape → Place → Type 0
-Among s p = (start s Part.Segments ≤ p .0) × (p .0 < total s)

@@ -1,27 +1,22 @@
 -- What the calls of this crate ask and make, as laws over values. Assumes nothing.
-use mathlib.Core.Path.{_≡_, sym, ap, _∙_}
+use mathlib.Core.Path.{_≡_, ap, _∙_}
 use mathlib.Core.List.{List}
 use mathlib.Core.Bool.{Bool, false}
 use Prim.Native.Nat.{ℕ, _+_, _<_, _≤_}
 use native.Mathlib.Omega.{arith}
 use lib.Dec.{eqb}
 use lib.ListN.{getD, set, length}
-use Rattle.paper.specs.Image.{place-at, lead, Valid, place, at, put, base, len, reach}
+use Rattle.paper.specs.Image.{lead, Valid, place, at, put}
 use Rattle.paper.specs.Queues.{Has, header-capacity, queue-word, head, count, slot, appended, first, taken, empty, full}
-use Rattle.paper.specs.declared.Task.{Task}
-use Rattle.paper.specs.declared.Address.{Address}
 use Rattle.paper.specs.declared.Place.{Place}
 use Rattle.paper.specs.declared.Shape.{Shape}
 use Rattle.paper.specs.declared.Cell.{Cell}
 use Rattle.paper.specs.declared.Queue.{Queue}
-use Rattle.paper.specs.declared.Reach.{Reach}
 use Rattle.laws.specs.Places.{below}
-use Rattle.laws.specs.Layout.{total-is}
 use Rattle.laws.specs.Queues.{word-valid}
-use Rattle.laws.specs.Segments.{segment-cell, InSegment, segment-from, segment-upto, reaches, stays-outside}
 use Rattle.laws.specs.Sound.{Sound, sound, has-room, has-word, fixed, put-sound, appended-sound, taken-sound}
 use Rattle.rings.specs.Ring.{Ring, append-at, first-at, take-at}
-use Rattle.words.specs.Names.{spot-cell, Names, Among}
+use Rattle.words.specs.Names.{spot-cell, Names}
 use Rattle.words.specs.declared.Spot.{Spot}
 
 -- a spot is a cell of the image, past the fixed words of its row
@@ -138,33 +133,3 @@ module _ (s : Shape) (im : List ℕ) (q : Queue) (p : Place) (e : p ≡ place s 
 pub empty-is : (s : Shape) (im : List ℕ) (q : Queue) (n : ℕ) → n ≡ at s im (count s q) → eqb n 0 ≡ empty s im q
 unfolding empty
 empty-is s im q n e = rw e
-
--- an address within the length, and one past it
-module _ (s : Shape) (im : List ℕ) (i : Task) (a : Address) (n : ℕ) (en : n ≡ at s im (len i)) where
-  pub reach-at : (b : ℕ) → b ≡ at s im (base i) → a .0 < n → Reach.At (place-at (b + a .0)) ≡ reach s im i a
-  reach-at b eb h = rw eb (sym (reaches s im i a (omega arith)))
-
-  pub reach-outside : n ≤ a .0 → Reach.Outside ≡ reach s im i a
-  reach-outside h = sym (stays-outside s im i a (omega arith))
-
--- a place of a task's segment is one among the segments
-pub inside-among : (s : Shape) (im : List ℕ) (i : Task) → i .0 < s .n → Sound s im → (p : Place) → InSegment s im i p → Among s p
-unfolding Among
-inside-among s im i hi h p inside =
-    (omega (arith, inside, segment-from s im (sound h .laid) i hi), omega (arith, inside, segment-upto s im (sound h .laid) i hi))
-
--- a place among the segments
-module _ (s : Shape) (im : List ℕ) (p : Place) (h : Sound s im) (among : Among s p) where
-  pub among-inside : p .0 < length im
-  unfolding Among
-  among-inside = omega (arith, sound h .laid .words)
-
-  among-place : place s (segment-cell s p) .0 ≡ p .0
-  unfolding place Among
-  among-place = omega arith
-
-  pub written-sound : (out : List ℕ) (v : ℕ) → out ≡ set im (p .0) v → Sound s out
-  unfolding put Among
-  written-sound out v eo =
-      let e : out ≡ put s im (segment-cell s p) v = eo ∙ ap (λ (x : ℕ). set im x v) (sym among-place) in
-      rw e (put-sound s im (segment-cell s p) v (omega arith, omega (arith, total-is s)) (omega arith) h)

@@ -2,23 +2,19 @@
 ghost use mathlib.Core.Path.{_≡_};
 ghost use mathlib.Core.Bool.{false};
 ghost use Prim.Native.Nat.{_<_};
-ghost use lib.ListN.{set, length};
-ghost use Rattle.paper.specs.Image.{word, cell, place, at as word-at, put as put-word, reach as reach-of};
+ghost use Rattle.paper.specs.Image.{cell, place, at as word-at, put as put-word};
 ghost use Rattle.paper.specs.declared.Part.the-variants.{SegmentTable};
 ghost use Rattle.paper.specs.Rules.{Fit};
 ghost use Rattle.paper.specs.Queues.{Has, head, appended, first as first-of, taken, count as count-cell, empty as empty-of, full as full-of};
 ghost use Rattle.laws.specs.Sound.{Sound};
-ghost use Rattle.words.specs.Names.{spot-cell, Names, Among};
-use paper::Address;
+ghost use Rattle.words.specs.Names.{spot-cell, Names};
 use paper::Cell;
 use paper::Part;
 use paper::Place;
 use paper::Queue;
-use paper::Reach;
 use paper::Shape;
 use paper::Task;
 use places::head_of;
-use places::load;
 use places::place_of;
 use places::store;
 use places::word_of;
@@ -184,39 +180,4 @@ pub fn entry(s: Shape, im: &[u16], t: Task, k: usize) -> u16
             column: k,
         },
     )
-}
-
-// Where an address of a task's segment leads.
-pub fn reach(s: Shape, im: &[u16], t: Task, a: Address) -> Reach
-    requires { ⌜ Sound s (now im) ⌝ }
-    requires { ⌜ t .0 < s .n ⌝ }
-    ensures { λ r. ⌜ r ≡ reach-of s (now (im .entry)) t a ⌝ }
-{
-    let base = entry(s, im, t, 0);
-    let length = entry(s, im, t, 1);
-    let offset = a.0;
-    if offset < length {
-        Reach::At(Place(base as usize + offset as usize))
-    } else {
-        Reach::Outside
-    }
-}
-
-// The word at a place of the segments.
-pub fn read(s: Shape, im: &[u16], p: Place) -> u16
-    requires { ⌜ Sound s (now im) ⌝ }
-    requires { ⌜ Among s p ⌝ }
-    ensures { λ r. ⌜ r ≡ word (now (im .entry)) p ⌝ }
-{
-    load(im, p)
-}
-
-// Writes a word at a place of the segments.
-pub fn write(s: Shape, im: &mut [u16], p: Place, v: u16)
-    requires { ⌜ Sound s (now im) ⌝ }
-    requires { ⌜ Among s p ⌝ }
-    ensures { λ _. ⌜ now (im .exit) ≡ set (now (im .entry)) (p .0) v ⌝ }
-    ensures { λ _. ⌜ Sound s (now (im .exit)) ⌝ }
-{
-    store(im, p, v);
 }
