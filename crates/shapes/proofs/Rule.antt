@@ -1,5 +1,5 @@
 -- The rule of a table of order shapes, proved over all of its entries by one test that antt computes. Assumes nothing.
-use mathlib.Core.Path.{_≡_, refl}
+use mathlib.Core.Path.{_≡_}
 use mathlib.Core.Bool.{Bool, true, false, _&&_}
 use mathlib.Core.List.{List, [], _∷_}
 use Prim.Native.Nat.{ℕ, zero, suc, _+_, _<_}
@@ -7,9 +7,8 @@ use native.Mathlib.Nat.{add-zero, zero-add, add-suc, suc-add}
 use native.Mathlib.Omega.{arith}
 use lib.Dec.{T, eqb, eqb→eq}
 use lib.ListN.{length, getD}
-use Rattle.paper.specs.Orders.{order-of, shape-of-order}
-use Rattle.paper.specs.declared.Op.{Op}
-use Rattle.shapes.specs.Entries.{encoded, decoded, Shapes}
+use Rattle.paper.specs.Orders.{order-of}
+use Rattle.shapes.specs.Entries.{encoded, Shapes}
 
 left : (a b : Bool) → T (a && b) → T a
 left true b t = tt
@@ -32,7 +31,7 @@ entry-from f (x ∷ xs) i t (suc k) h =
 
 -- the test of an entry
 abbrev entry-right : ℕ → ℕ → Bool
-entry-right op e = eqb e (encoded (shape-of-order (order-of op)))
+entry-right op e = eqb e (encoded (order-of op))
 
 -- a table of 256 entries that passes the test has the rule
 pub lawful : (t : List ℕ) → T (eqb (length t) 256) → T (every-entry entry-right 0 t) → Shapes t
@@ -40,34 +39,7 @@ unfolding Shapes
 lawful t n right op h =
     eqb→eq _ _ (rw zero-add at (entry-from entry-right t 0 right op (omega (arith, eqb→eq (length t) 256 n))))
 
--- an encoded shape is read back
-pub read-back : (o : Op) → decoded (encoded (shape-of-order o)) ≡ shape-of-order o
-unfolding decoded
-read-back Op.Unknown = refl
-read-back Op.Load = refl
-read-back Op.Copy = refl
-read-back Op.Fetch = refl
-read-back Op.Store = refl
-read-back Op.Add = refl
-read-back Op.Subtract = refl
-read-back Op.Multiply = refl
-read-back Op.Quotient = refl
-read-back Op.Remainder = refl
-read-back Op.And = refl
-read-back Op.Or = refl
-read-back Op.ExclusiveOr = refl
-read-back Op.Compare = refl
-read-back Op.Jump = refl
-read-back Op.JumpIf = refl
-read-back Op.Call = refl
-read-back Op.Return = refl
-read-back Op.Service = refl
-
--- so an entry that is an op's shape encoded is that shape decoded
-pub shape-read : (op e : ℕ) → e ≡ encoded (shape-of-order (order-of op)) → decoded e ≡ shape-of-order (order-of op)
-shape-read op e h = rw h (read-back (order-of op))
-
 -- the entry of an op
-pub entry-read : (t : List ℕ) (op : ℕ) → Shapes t → op < 256 → getD t op 0 ≡ encoded (shape-of-order (order-of op))
+pub entry-read : (t : List ℕ) (op : ℕ) → Shapes t → op < 256 → getD t op 0 ≡ encoded (order-of op)
 unfolding Shapes
 entry-read t op h l = h op l

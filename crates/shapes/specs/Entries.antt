@@ -1,20 +1,36 @@
--- How the table of order shapes writes a shape as one number, and the rule of the table.
-use mathlib.Core.Bool.{cond}
-use mathlib.Core.List.{List, [], _∷_}
+-- How the table of order shapes writes an order as one number, and the rule of the table.
+use mathlib.Core.List.{List}
+use mathlib.Core.Bool.{cond, _||_}
 use mathlib.Core.Path.{_≡_}
-use Prim.Native.Nat.{ℕ, _+_, _*_, _/_, _%_, _<_}
-use lib.Dec.{eqb}
+use Prim.Native.Nat.{ℕ, _+_, _*_, _/_, _%_, _<_, min}
+use lib.Dec.{eqb, leb}
 use lib.ListN.{getD}
-use Rattle.paper.specs.Orders.{order-of, shape-of-order}
+use Rattle.paper.specs.Orders.{op-of, order-of, shape-of-order, on-bits}
+use Rattle.paper.specs.declared.Op.{Op}
 use Rattle.paper.specs.declared.Field.{Field}
 use Rattle.paper.specs.declared.OrderShape.{OrderShape}
 
--- a field as a number
-abbrev pub code : Field → ℕ
-code Field.Unused = 0
-code Field.Register = 1
-code Field.Condition = 2
-code Field.Service = 3
+-- the kind of an order, sixteen in all: three pairs share one
+abbrev pub kind : Op → ℕ
+kind Op.Unknown = 0
+kind Op.Load = 1
+kind Op.Copy = 2
+kind Op.Fetch = 3
+kind Op.Store = 4
+kind Op.Add = 5
+kind Op.Subtract = 6
+kind Op.Multiply = 7
+kind Op.Quotient = 8
+kind Op.Remainder = 8
+kind Op.And = 9
+kind Op.Or = 10
+kind Op.ExclusiveOr = 11
+kind Op.Return = 12
+kind Op.Compare = 13
+kind Op.Call = 14
+kind Op.Jump = 15
+kind Op.JumpIf = 15
+kind Op.Service = 0
 
 -- the bits of a field, of four, that are 0 in an order
 abbrev pub zeros : Field → ℕ
@@ -23,21 +39,29 @@ zeros Field.Register = 8
 zeros Field.Condition = 12
 zeros Field.Service = 0
 
--- a shape as a number: 256 x (words + 4 x a + 16 x b), and the bits that are 0 in the low byte of an order; 0 for an unknown op
-abbrev pub encoded : OrderShape → ℕ
-encoded OrderShape.Unknown = 0
-encoded (OrderShape.Known n a b) = 256 * (n + 4 * code a + 16 * code b) + 16 * zeros a + zeros b
+-- and of the low byte of an order
+abbrev pub clear-bits : OrderShape → ℕ
+clear-bits OrderShape.Unknown = 0
+clear-bits (OrderShape.Known n a b) = 16 * zeros a + zeros b
 
--- and back
-abbrev pub field-of : ℕ → Field
-field-of k = getD (Field.Unused ∷ Field.Register ∷ Field.Condition ∷ []) k Field.Service
+-- the entry of an order: 4096 x its kind, and the bits that are 0 in its low byte
+abbrev pub encoded : Op → ℕ
+encoded o = 4096 * kind o + clear-bits (shape-of-order o)
 
-abbrev shape-of-code : ℕ → OrderShape
-shape-of-code k = cond (eqb (k % 4) 0) OrderShape.Unknown (OrderShape.Known (k % 4) (field-of (k / 4 % 4)) (field-of (k / 16)))
+-- what an entry stands for: the count of words by its kind, a field by the bits that are 0 in it
+abbrev words-of : ℕ → ℕ
+words-of k = cond (eqb k 1 || leb 14 k) 2 1
+
+abbrev field-of : ℕ → Field
+field-of z = cond (eqb z 15) Field.Unused (cond (eqb z 8) Field.Register (cond (eqb z 12) Field.Condition Field.Service))
 
 unfoldable pub decoded : ℕ → OrderShape
-decoded e = shape-of-code (e / 256)
+decoded e = cond (eqb e 0) OrderShape.Unknown (OrderShape.Known (words-of (e / 4096)) (field-of (e / 16 % 16)) (field-of (e % 16)))
 
--- the rule: the entry of each of the 256 high bytes is the shape of that op
+-- the rule: the entry of each of the 256 high bytes is that of its order
 unfoldable pub Shapes : List ℕ → Type 0
-Shapes t = (op : ℕ) → op < 256 → getD t op 0 ≡ encoded (shape-of-order (order-of op))
+Shapes t = (op : ℕ) → op < 256 → getD t op 0 ≡ encoded (order-of op)
+
+-- the test of a first word by its entry, both as they are
+unfoldable pub Fits : ℕ → Type 0
+Fits w = on-bits min (encoded (order-of (op-of w))) w ≡ 0

@@ -1,57 +1,82 @@
 // The constant table of order shapes.
 
-// An entry of the table: 256 x (words + 4 x field a + 16 x field b), where a field is 0 unused, 1 register, 2 condition, 3 service; and the bits that are 0 in the low byte of such an order.
-const WORD: u16 = 256;
+// An entry of the table: 4096 x the kind of its order, sixteen in all, and the bits that are 0 in the low byte of such an order.
+const KIND: u16 = 4096;
 
-// What a field that is unused, a register, a condition or a service adds as field a.
+// The bits of a field a that is unused, a register, a condition or a service.
 const NO_A: u16 = 16 * 15;
 
-const REGISTER_A: u16 = 4 * WORD + 16 * 8;
+const REGISTER_A: u16 = 16 * 8;
 
-const CONDITION_A: u16 = 8 * WORD + 16 * 12;
+const CONDITION_A: u16 = 16 * 12;
 
-const SERVICE_A: u16 = 12 * WORD;
+const SERVICE_A: u16 = 0;
 
-// And as field b.
+// And of a field b.
 const NO_B: u16 = 15;
 
-const REGISTER_B: u16 = 16 * WORD + 8;
+const REGISTER_B: u16 = 8;
 
+// The orders: quotient and remainder share a kind, jump and jump if do, and a service and an unknown op.
 const UNKNOWN: u16 = 0;
 
-const NO_FIELD: u16 = WORD + NO_A + NO_B;
+const LOAD: u16 = KIND + REGISTER_A + NO_B;
 
-const N_ALONE: u16 = 2 * WORD + NO_A + NO_B;
+const COPY: u16 = 2 * KIND + REGISTER_A + REGISTER_B;
 
-const ONE_REGISTER_AND_N: u16 = 2 * WORD + REGISTER_A + NO_B;
+const FETCH: u16 = 3 * KIND + REGISTER_A + REGISTER_B;
 
-const CONDITION_AND_N: u16 = 2 * WORD + CONDITION_A + NO_B;
+const STORE: u16 = 4 * KIND + REGISTER_A + REGISTER_B;
 
-const SERVICE_NUMBER: u16 = WORD + SERVICE_A + NO_B;
+const ADD: u16 = 5 * KIND + REGISTER_A + REGISTER_B;
 
-const TWO_REGISTERS: u16 = WORD + REGISTER_A + REGISTER_B;
+const SUBTRACT: u16 = 6 * KIND + REGISTER_A + REGISTER_B;
 
-// One entry for each high byte: ops 1 to 18 as named beside them, ops 0 and 19 to 255 unknown.
+const MULTIPLY: u16 = 7 * KIND + REGISTER_A + REGISTER_B;
+
+const QUOTIENT: u16 = 8 * KIND + REGISTER_A + REGISTER_B;
+
+const REMAINDER: u16 = 8 * KIND + REGISTER_A + REGISTER_B;
+
+const AND: u16 = 9 * KIND + REGISTER_A + REGISTER_B;
+
+const OR: u16 = 10 * KIND + REGISTER_A + REGISTER_B;
+
+const EXCLUSIVE_OR: u16 = 11 * KIND + REGISTER_A + REGISTER_B;
+
+const COMPARE: u16 = 13 * KIND + REGISTER_A + REGISTER_B;
+
+const JUMP: u16 = 15 * KIND + NO_A + NO_B;
+
+const JUMP_IF: u16 = 15 * KIND + CONDITION_A + NO_B;
+
+const CALL: u16 = 14 * KIND + NO_A + NO_B;
+
+const RETURN: u16 = 12 * KIND + NO_A + NO_B;
+
+const SERVICE: u16 = SERVICE_A + NO_B;
+
+// One entry for each high byte: ops 1 to 18 by their names, ops 0 and 19 to 255 unknown.
 pub const ORDER_SHAPES: [u16; 256] = [
     UNKNOWN,
-    ONE_REGISTER_AND_N, // 1 load
-    TWO_REGISTERS, // 2 copy
-    TWO_REGISTERS, // 3 fetch
-    TWO_REGISTERS, // 4 store
-    TWO_REGISTERS, // 5 add
-    TWO_REGISTERS, // 6 subtract
-    TWO_REGISTERS, // 7 multiply
-    TWO_REGISTERS, // 8 quotient
-    TWO_REGISTERS, // 9 remainder
-    TWO_REGISTERS, // 10 and
-    TWO_REGISTERS, // 11 or
-    TWO_REGISTERS, // 12 exclusive or
-    TWO_REGISTERS, // 13 compare
-    N_ALONE, // 14 jump
-    CONDITION_AND_N, // 15 jump if
-    N_ALONE, // 16 call
-    NO_FIELD, // 17 return
-    SERVICE_NUMBER, // 18 service
+    LOAD, // 1
+    COPY, // 2
+    FETCH, // 3
+    STORE, // 4
+    ADD, // 5
+    SUBTRACT, // 6
+    MULTIPLY, // 7
+    QUOTIENT, // 8
+    REMAINDER, // 9
+    AND, // 10
+    OR, // 11
+    EXCLUSIVE_OR, // 12
+    COMPARE, // 13
+    JUMP, // 14
+    JUMP_IF, // 15
+    CALL, // 16
+    RETURN, // 17
+    SERVICE, // 18
     UNKNOWN, // 19..
     UNKNOWN,
     UNKNOWN,
