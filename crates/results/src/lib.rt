@@ -1,7 +1,7 @@
 // What orders make of words: results, conditions and flags.
 ghost use mathlib.Core.Path.{_≡_};
 ghost use Prim.Native.Nat.{_+_, _-_, _*_, _%_, _<_, min, max};
-ghost use Rattle.paper.specs.Flags.{flags-of, cc-of as cc-field, error-of as error-field, pending-of as pending-field};
+ghost use Rattle.paper.specs.Flags.{flags-of, cc-of as cc-field, error-of as error-field};
 ghost use Rattle.paper.specs.Orders.{mod-word as word-mod, on-bits, compared as condition};
 
 // Words are counted mod this.
@@ -73,29 +73,6 @@ pub fn compared(x: u16, y: u16) -> u16
     if x < y { 1 } else { 2 }
 }
 
-// The condition in the flags.
-pub fn cc_of(f: u16) -> u16
-    ensures { λ r. ⌜ r ≡ cc-field f ⌝ }
-{
-    f % ERROR
-}
-
-// The flags with another condition.
-pub fn with_cc(f: u16, cc: u16) -> u16
-    requires { ⌜ cc < 4 ⌝ }
-    ensures { λ r. ⌜ r ≡ flags-of cc (error-field f) (pending-field f) ⌝ }
-{
-    cc + ERROR * (f / ERROR % ERROR_END) + PENDING * (f / PENDING)
-}
-
-// The flags with another error.
-pub fn with_error(f: u16, error: u16) -> u16
-    requires { ⌜ error < 8 ⌝ }
-    ensures { λ r. ⌜ r ≡ flags-of (cc-field f) error (pending-field f) ⌝ }
-{
-    f % ERROR + ERROR * error + PENDING * (f / PENDING)
-}
-
 // The flags with another service pending.
 pub fn with_pending(f: u16, pending: u16) -> u16
     requires { ⌜ pending < 16 ⌝ }
@@ -117,11 +94,4 @@ pub fn error_of(f: u16) -> u16
     ensures { λ r. ⌜ r ≡ error-field f ⌝ }
 {
     f / ERROR % ERROR_END
-}
-
-// The service pending in the flags.
-pub fn pending_of(f: u16) -> u16
-    ensures { λ r. ⌜ r ≡ pending-field f ⌝ }
-{
-    f / PENDING
 }

@@ -1,0 +1,57 @@
+-- Assumes nothing.
+use Rattle.machine.specs.Holding.{is-based, is-near, stack-in}
+use Rattle.machine.specs.Answering.{call-outside, twice-fits, read-in, past-from, past-low, stack-room, call-next}
+use lib.Dec.{lit≤}
+use borrow.Author.Needs.{needs}
+use Rattle.machine.proofs.calls_to.Statement.{statement}
+use Rattle.machine.proofs.calls_to.Tie as tie
+
+slice-read-sum : tie.Need-slice-read-sum
+slice-read-sum c = search stack-in
+
+place-requires : tie.Need-place-requires
+place-requires c κs = search is-based
+
+fault-requires : tie.Need-fault-requires
+fault-requires c κs = (search needs, (search call-outside, search needs))
+
+onward-requires : tie.Need-onward-requires
+onward-requires c κs = (search is-near, search needs)
+
+address-requires : tie.Need-address-requires
+address-requires c κs = (search past-from, search (past-low, lit≤))
+
+mul-p : tie.Need-mul-p
+mul-p c = search twice-fits
+
+slice-write-p : tie.Need-slice-write-p
+slice-write-p c = search read-in
+
+slice-write-p-2 : tie.Need-slice-write-p-2
+slice-write-p-2 c = search stack-room
+
+place-requires-2 : tie.Need-place-requires-2
+place-requires-2 c κs = search is-based
+
+returns-2 : tie.Need-returns-2
+returns-2 c = search call-next
+
+pub calls-to-spec : {M : Type 1} → statement M
+calls-to-spec =
+    tie.close
+    (tie.spec
+    slice-read-sum
+    (λ c κs. search needs)
+    place-requires
+    (λ c κs. search needs)
+    fault-requires
+    (λ c. search needs)
+    (λ c. search needs)
+    onward-requires
+    address-requires
+    mul-p
+    slice-write-p
+    slice-write-p-2
+    place-requires-2
+    (λ c. search needs)
+    returns-2)

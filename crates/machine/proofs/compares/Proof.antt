@@ -1,0 +1,18 @@
+-- Assumes nothing.
+use Rattle.machine.specs.Answering.{on-at, written}
+use borrow.Author.Needs.{needs}
+use Rattle.machine.proofs.compares.Statement.{statement}
+use Rattle.machine.proofs.compares.Tie as tie
+
+returns : tie.Need-returns
+returns c = (search on-at, search written)
+
+pub compares-spec : {M : Type 1} → statement M
+compares-spec =
+    tie.close
+    (tie.spec
+    (λ c κs. search needs)
+    (λ c. search needs)
+    (λ c κs. search needs)
+    (λ c. search needs)
+    returns)

@@ -1,0 +1,34 @@
+-- Assumes nothing.
+use Rattle.machine.specs.Holding.{is-some, is-from, is-low}
+use Rattle.machine.specs.Answering.{held-row, held-room}
+use Rattle.machine.specs.Carrying.{fault-went}
+use borrow.Author.Needs.{needs}
+use Rattle.machine.proofs.fault.Statement.{statement}
+use Rattle.machine.proofs.fault.Tie as tie
+
+stand-requires : tie.Need-stand-requires
+stand-requires c κs = (search is-some, (search is-from, search is-low))
+
+slice-read-p : tie.Need-slice-read-p
+slice-read-p c = search held-row
+
+add-p : tie.Need-add-p
+add-p c = search held-room
+
+slice-write-p : tie.Need-slice-write-p
+slice-write-p c = search held-row
+
+returns : tie.Need-returns
+returns c = search fault-went
+
+pub fault-spec : {M : Type 1} → statement M
+fault-spec =
+    tie.close
+    (tie.spec
+    stand-requires
+    slice-read-p
+    (λ c. search needs)
+    add-p
+    slice-write-p
+    (λ c. search needs)
+    returns)

@@ -1,0 +1,43 @@
+-- Assumes nothing.
+use Rattle.machine.specs.Holding.{is-based, is-near, register-in}
+use Rattle.machine.specs.Answering.{fetch-outside, twice-fits, read-in, fetch-next}
+use borrow.Author.Needs.{needs}
+use Rattle.machine.proofs.fetches.Statement.{statement}
+use Rattle.machine.proofs.fetches.Tie as tie
+
+place-requires : tie.Need-place-requires
+place-requires c κs = search is-based
+
+fault-requires : tie.Need-fault-requires
+fault-requires c κs = (search needs, (search fetch-outside, search needs))
+
+mul-v : tie.Need-mul-v
+mul-v c = search twice-fits
+
+slice-read-v : tie.Need-slice-read-v
+slice-read-v c = search read-in
+
+onward-requires : tie.Need-onward-requires
+onward-requires c κs = (search is-near, search needs)
+
+set-requires : tie.Need-set-requires
+set-requires c κs = search register-in
+
+returns-2 : tie.Need-returns-2
+returns-2 c = search fetch-next
+
+pub fetches-spec : {M : Type 1} → statement M
+fetches-spec =
+    tie.close
+    (tie.spec
+    place-requires
+    (λ c κs. search needs)
+    fault-requires
+    (λ c. search needs)
+    (λ c. search needs)
+    mul-v
+    slice-read-v
+    onward-requires
+    set-requires
+    (λ c. search needs)
+    returns-2)

@@ -1,0 +1,28 @@
+-- Assumes nothing.
+use Rattle.machine.specs.Deciding.{bad-fields, is-fetched}
+use Rattle.machine.specs.Choosing.{done-after, kind-is}
+use borrow.Author.Needs.{needs}
+use Rattle.machine.proofs.known.Statement.{statement}
+use Rattle.machine.proofs.known.Tie as tie
+
+fault-requires : tie.Need-fault-requires
+fault-requires c κs = (search needs, (search bad-fields, search needs))
+
+returns : tie.Need-returns
+returns c = search done-after
+
+by-kind-requires : tie.Need-by-kind-requires
+by-kind-requires c κs = (search needs, (search is-fetched, search kind-is))
+
+pub known-spec : {M : Type 1} → statement M
+known-spec =
+    tie.close
+    (tie.spec
+    (λ c κs. search needs)
+    (λ c κs. search needs)
+    fault-requires
+    (λ c. search needs)
+    returns
+    by-kind-requires
+    (λ c. search needs)
+    (λ c. search needs))

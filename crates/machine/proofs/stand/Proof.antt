@@ -1,0 +1,17 @@
+-- Assumes nothing.
+use Rattle.machine.specs.Answering.{stood}
+use borrow.Author.Needs.{needs}
+use Rattle.machine.proofs.stand.Statement.{statement}
+use Rattle.machine.proofs.stand.Tie as tie
+
+returns : tie.Need-returns
+returns c = search stood
+
+pub stand-spec : {M : Type 1} → statement M
+stand-spec =
+    tie.close
+    (tie.spec
+    (λ c κs. search needs)
+    (λ c. search needs)
+    (λ c. search needs)
+    returns)

@@ -1,0 +1,39 @@
+-- Assumes nothing.
+use Rattle.machine.specs.Holding.{is-based, is-near}
+use Rattle.machine.specs.Answering.{store-outside, twice-fits, read-in, store-next}
+use borrow.Author.Needs.{needs}
+use Rattle.machine.proofs.stores.Statement.{statement}
+use Rattle.machine.proofs.stores.Tie as tie
+
+place-requires : tie.Need-place-requires
+place-requires c κs = search is-based
+
+fault-requires : tie.Need-fault-requires
+fault-requires c κs = (search needs, (search store-outside, search needs))
+
+mul-p : tie.Need-mul-p
+mul-p c = search twice-fits
+
+slice-write-p : tie.Need-slice-write-p
+slice-write-p c = search read-in
+
+onward-requires : tie.Need-onward-requires
+onward-requires c κs = (search is-near, search needs)
+
+returns-2 : tie.Need-returns-2
+returns-2 c = search store-next
+
+pub stores-spec : {M : Type 1} → statement M
+stores-spec =
+    tie.close
+    (tie.spec
+    place-requires
+    (λ c κs. search needs)
+    fault-requires
+    (λ c. search needs)
+    (λ c. search needs)
+    mul-p
+    slice-write-p
+    onward-requires
+    (λ c. search needs)
+    returns-2)

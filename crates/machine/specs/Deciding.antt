@@ -1,0 +1,304 @@
+-- What an order of the machine in a lent part is decided to do, from its first word. Assumes nothing.
+use mathlib.Core.Path.{_≡_, refl, sym, ap, _∙_}
+use mathlib.Core.List.{List}
+use mathlib.Core.Bool.{Bool, true, false, cond, not, _&&_, _||_, true≢false}
+use mathlib.Core.Logic.{_≢_, _⊎_, inl, inr, dite}
+use Prim.Native.Nat.{ℕ, _+_, _/_, _%_, _<_, _≤_, min}
+use native.Mathlib.Decide.{ℕ-discrete, decLt}
+use native.Mathlib.Omega.{arith}
+use borrow.Author.Tests.{not-true, not-false, ltb-true, ltb-false, eqb-true, le-leb, lt-leb}
+use lib.Dec.{eqb, leb, ltb}
+use lib.ListN.{getD}
+use lib.Seq.{getD-set-same, getD-set-other, set-set}
+use Rattle.paper.specs.Flags.{flags-of}
+use Rattle.paper.specs.Machines.{Machine, machine}
+use Rattle.paper.specs.Orders.{op-of, a-of, b-of, order-of, two-registers, shape-of-order, holds, serves, outside, bad-order, bad-service, mod-word, next-order, stack, past, operand, found, reading, second, sets, on-bits, cc, error, flags-become, calls, effect, effect-of, checked, decided}
+use Rattle.paper.specs.declared.Op.{Op}
+use Rattle.paper.specs.declared.Field.{Field}
+use Rattle.paper.specs.declared.OrderShape.{OrderShape}
+use Rattle.paper.specs.declared.Change.{Change}
+use Rattle.paper.specs.declared.Effect.{Effect}
+use Rattle.shapes.specs.Entries.{kind, encoded, Fits}
+use Rattle.shapes.specs.Reading.{told, fields-told, misfit, one-of, op-is}
+use Rattle.machine.specs.Parts.{Lent, in-part, address-of, held, machine-of}
+use Rattle.machine.specs.After.{InHand, Fetched, Named}
+use Rattle.machine.specs.Holding.{next-held, register-held, flags-held, operand-next, operand-held, word-held, outside-held, is-lent, is-quiet, is-from, is-some}
+use Rattle.machine.specs.declared.PartPlace.{PartPlace}
+use Rattle.machine.specs.declared.Segment.{Segment}
+
+-- the first word's address before all
+module _ (g : Segment) (p : List ℕ) (at : PartPlace) (hand : InHand g p at) where
+  own-place : at .0 ≡ g .from + address-of g at
+  own-place = omega (arith, is-from g p at hand)
+
+  next-is : next-order (machine-of g p at) ≡ address-of g at
+  next-is = next-held g p at (is-lent g p at hand)
+
+  pub first-outside : (t : Bool) → t ≡ ltb (at .0) (g .to) → not t ≡ true → decided (machine-of g p at) ≡ Effect.Faults outside
+  unfolding decided
+  first-outside t et past-it =
+      let past = outside-held g p at (address-of g at) (at .0) own-place (ltb-false (at .0) (g .to) (sym et ∙ not-true t past-it)) in
+      rw (next-is, past)
+
+  decided-is : (w : ℕ) → at .0 < g .to → w ≡ getD p (at .0) 0
+      → decided (machine-of g p at) ≡ checked (shape-of-order (order-of (op-of w))) (machine-of g p at) w
+  unfolding decided
+  decided-is w h ew =
+      let word = word-held g p at (address-of g at) (at .0) own-place (is-lent g p at hand) h in
+      rw (next-is, word, ew)
+
+  -- a word that does not fit its entry faults
+  module _ (w : ℕ) (h : at .0 < g .to) (ew : w ≡ getD p (at .0) 0) (e r : ℕ) (ee : e ≡ encoded (order-of (op-of w))) (er : r ≡ on-bits min e w) where
+    pub bad-fields : r ≢ 0 → decided (machine-of g p at) ≡ Effect.Faults bad-order
+    bad-fields ne = decided-is w h ew ∙ misfit w (machine-of g p at) (λ z. ne (er ∙ ap (λ (k : ℕ). on-bits min k w) ee ∙ z))
+
+    pub is-fetched : r ≡ 0 → Fetched g p at w
+    unfolding Fetched Fits
+    is-fetched z = (h, ew, sym (ap (λ (k : ℕ). on-bits min k w) ee) ∙ sym er ∙ z)
+
+-- a number other than 0
+pos : (a : ℕ) → a ≢ 0 → 0 < a
+pos a ne = dite (decLt 0 a) (λ l. l) (λ l. absurd (ne (omega arith)))
+
+-- an unknown op faults
+unknown-faults : (m : Machine) (w : ℕ) (o : Op) → o ≡ Op.Unknown → checked (shape-of-order o) m w ≡ Effect.Faults bad-order
+unfolding checked
+unknown-faults m w o e = rw e
+
+-- an order with fields as far as their bits tell
+module _ (g : Segment) (p : List ℕ) (at : PartPlace) (w : ℕ) (hand : InHand g p at) (fetched : Fetched g p at w) where
+  pub is-inside : at .0 < g .to
+  unfolding Fetched
+  is-inside = fetched .0
+
+  fits : Fits w
+  unfolding Fetched
+  fits = fetched .2
+
+  ordered-by : decided (machine-of g p at) ≡ checked (shape-of-order (order-of (op-of w))) (machine-of g p at) w
+  unfolding Fetched
+  ordered-by = decided-is g p at hand w (fetched .0) (fetched .1)
+
+  past-is : (n : ℕ) → n ≤ 2 → past (machine-of g p at) n ≡ address-of g at + n
+  unfolding Lent
+  past-is n small = omega (arith, next-is g p at hand, is-lent g p at hand, is-inside)
+
+  abbrev Acts : Op → ℕ → Type 0
+  Acts o n =
+      decided (machine-of g p at) ≡
+      effect o (machine-of g p at) (address-of g at + n) (a-of w) (operand (machine-of g p at) (address-of g at + n) (a-of w))
+      (operand (machine-of g p at) (address-of g at + n) (b-of w))
+
+  module _ (o : Op) (n : ℕ) (fa fb : Field) (small : n ≤ 2) (e : order-of (op-of w) ≡ o) (sh : shape-of-order o ≡ OrderShape.Known n fa fb)
+      (ha : holds fa (a-of w) ≡ true) (hb : holds fb (b-of w) ≡ true) where
+    known-acts : serves fa (a-of w) ≡ true → Acts o n
+    unfolding checked effect-of
+    known-acts hs = rw (e, sh, ha, hb, hs, e, past-is n small) at ordered-by
+
+    unserved : serves fa (a-of w) ≡ false → decided (machine-of g p at) ≡ Effect.Faults bad-service
+    unfolding checked
+    unserved hs = rw (e, sh, ha, hb, hs) at ordered-by
+
+  fields : (o : Op) (n : ℕ) (fa fb : Field) → order-of (op-of w) ≡ o → shape-of-order o ≡ OrderShape.Known n fa fb
+      → (told fa (a-of w) ≡ true) × (told fb (b-of w) ≡ true)
+  fields o n fa fb e sh = fields-told w n fa fb (rw e sh) fits
+
+  -- two registers
+  module _ (sh : shape-of-order (order-of (op-of w)) ≡ two-registers) where
+    registers : (told Field.Register (a-of w) ≡ true) × (told Field.Register (b-of w) ≡ true)
+    registers = fields-told w 1 Field.Register Field.Register sh fits
+
+    two-acts : Acts (order-of (op-of w)) 1
+    two-acts = known-acts (order-of (op-of w)) 1 Field.Register Field.Register (omega arith) refl sh (registers .0) (registers .1) refl
+
+    module _ (a b : ℕ) (ea : a ≡ w / 16 % 8) (eb : b ≡ w % 8) where
+      a-is : a-of w ≡ a
+      a-is = omega (arith, ltb-true (a-of w) 8 (registers .0))
+
+      b-is : b-of w ≡ b
+      b-is = omega (arith, ltb-true (b-of w) 8 (registers .1))
+
+      fields-act : (v y : ℕ) → operand (machine-of g p at) (address-of g at + 1) a ≡ v → operand (machine-of g p at) (address-of g at + 1) b ≡ y
+          → decided (machine-of g p at) ≡ effect (order-of (op-of w)) (machine-of g p at) (address-of g at + 1) a v y
+      fields-act v y ev ey = rw (← ev, ← ey) (rw (a-is, b-is) at two-acts)
+
+      pub two-act : (v y : ℕ) → a ≢ 0 → b ≢ 0 → v ≡ getD p a 0 → y ≡ getD p b 0
+          → decided (machine-of g p at) ≡ effect (order-of (op-of w)) (machine-of g p at) (address-of g at + 1) a v y
+      two-act v y na nb ev ey =
+          fields-act v y (operand-held g p at (address-of g at + 1) a (pos a na) (omega arith) ∙ sym ev)
+          (operand-held g p at (address-of g at + 1) b (pos b nb) (omega arith) ∙ sym ey)
+
+      -- R0 among them: R0 is moved past the order first
+      module _ (next : PartPlace) (en : next .0 ≡ at .0 + 1) (m : List ℕ) (em : m ≡ held g p next) where
+        moved : machine-of g m at ≡ machine-of g p at
+        moved = ap (machine (in-part g)) (ap (λ (l : List ℕ). held g l at) em ∙ set-set p 0 (address-of g next) (address-of g at))
+
+        operand-moved : (r : ℕ) → r < 8 → operand (machine-of g p at) (address-of g at + 1) r ≡ getD m r 0
+        operand-moved r h = rw em (dite (ℕ-discrete r 0) zero other)
+          where
+            past-it : address-of g next ≡ address-of g at + 1
+            past-it = omega (arith, is-from g p at hand)
+
+            zero : r ≡ 0 → operand (machine-of g p at) (address-of g at + 1) r ≡ getD (held g p next) r 0
+            zero e = rw e (operand-next g p at (address-of g at + 1) ∙ sym past-it ∙ sym (getD-set-same p 0 (address-of g next) 0 (is-some g p at hand)))
+
+            other : r ≢ 0 → operand (machine-of g p at) (address-of g at + 1) r ≡ getD (held g p next) r 0
+            other ne = operand-held g p at (address-of g at + 1) r (pos r ne) h ∙ sym (getD-set-other p 0 r (address-of g next) 0 ne)
+
+        pub moved-act : (v y : ℕ) → v ≡ getD m a 0 → y ≡ getD m b 0
+            → decided (machine-of g m at) ≡ effect (order-of (op-of w)) (machine-of g m at) (address-of g at + 1) a v y
+        moved-act v y ev ey = rw moved (fields-act v y (operand-moved a (omega arith) ∙ sym ev) (operand-moved b (omega arith) ∙ sym ey))
+
+  pub two-named : shape-of-order (order-of (op-of w)) ≡ two-registers → Named g p at
+  unfolding Fetched Named
+  two-named sh =
+      let ew = fetched .1 in
+      (is-inside, rw (← ew) sh, rw (← ew) fits)
+
+  -- the second word
+  module _ (x : PartPlace) (ex : x .0 ≡ at .0 + 1) (f : ℕ → Effect) (acts : decided (machine-of g p at) ≡ second (machine-of g p at) f) where
+    second-place : x .0 ≡ g .from + (next-order (machine-of g p at) + 1)
+    second-place = omega (arith, next-is g p at hand, is-from g p at hand)
+
+    second-outside : g .to ≤ x .0 → decided (machine-of g p at) ≡ Effect.Faults outside
+    second-outside h = rw (outside-held g p at (next-order (machine-of g p at) + 1) (x .0) second-place h) at acts
+
+    second-is : x .0 < g .to → decided (machine-of g p at) ≡ f (getD p (x .0) 0)
+    second-is h = rw (word-held g p at (next-order (machine-of g p at) + 1) (x .0) second-place (is-lent g p at hand) h) at acts
+
+  -- a register and a second word
+  module _ (e : order-of (op-of w) ≡ Op.Load) where
+    load-fields : (told Field.Register (a-of w) ≡ true) × (told Field.Unused (b-of w) ≡ true)
+    load-fields = fields Op.Load 2 Field.Register Field.Unused e refl
+
+    loads-by : decided (machine-of g p at) ≡ second (machine-of g p at) (sets (address-of g at + 2) (a-of w))
+    loads-by = known-acts Op.Load 2 Field.Register Field.Unused (omega arith) e refl (load-fields .0) (load-fields .1) refl
+
+    pub load-outside : (x : PartPlace) (t : Bool) → x .0 ≡ at .0 + 1 → t ≡ ltb (x .0) (g .to) → not t ≡ true → decided (machine-of g p at) ≡ Effect.Faults outside
+    load-outside x t ex et h = second-outside x ex _ loads-by (ltb-false (x .0) (g .to) (sym et ∙ not-true t h))
+
+    module _ (a : ℕ) (ea : a ≡ w / 16 % 8) where
+      loaded : a ≡ a-of w
+      loaded = omega (arith, ltb-true (a-of w) 8 (load-fields .0))
+
+      pub load-acts : (x : PartPlace) (t : Bool) (n : ℕ) → x .0 ≡ at .0 + 1 → t ≡ ltb (x .0) (g .to) → not t ≡ false → n ≡ getD p (x .0) 0
+          → decided (machine-of g p at) ≡ sets (address-of g at + 2) a n
+      load-acts x t n ex et h en =
+          rw (loaded, en) (second-is x ex _ loads-by (ltb-true (x .0) (g .to) (sym et ∙ not-false t h)))
+
+  -- a second word alone
+  module _ (o : Op) (e : order-of (op-of w) ≡ o) (sh : shape-of-order o ≡ OrderShape.Known 2 Field.Unused Field.Unused) where
+    alone-fields : (told Field.Unused (a-of w) ≡ true) × (told Field.Unused (b-of w) ≡ true)
+    alone-fields = fields o 2 Field.Unused Field.Unused e sh
+
+    alone-acts : Acts o 2
+    alone-acts = known-acts o 2 Field.Unused Field.Unused (omega arith) e sh (alone-fields .0) (alone-fields .1) refl
+
+  module _ (e : order-of (op-of w) ≡ Op.Call) (x : PartPlace) (t : Bool) (ex : x .0 ≡ at .0 + 1) (et : t ≡ ltb (x .0) (g .to)) where
+    pub call-outside : not t ≡ true → decided (machine-of g p at) ≡ Effect.Faults outside
+    call-outside h = second-outside x ex _ (alone-acts Op.Call e refl) (ltb-false (x .0) (g .to) (sym et ∙ not-true t h))
+
+    pub call-acts : (n : ℕ) → not t ≡ false → n ≡ getD p (x .0) 0
+        → decided (machine-of g p at) ≡ calls (machine-of g p at) (address-of g at + 2) (mod-word (stack (machine-of g p at) + 65535)) n
+    call-acts n h en = rw en (second-is x ex _ (alone-acts Op.Call e refl) (ltb-true (x .0) (g .to) (sym et ∙ not-false t h)))
+
+  -- one word
+  module _ (e : order-of (op-of w) ≡ Op.Return) (v : ℕ) (ev : v ≡ getD p 1 0) (x : PartPlace) (ex : x .0 ≡ g .from + v) where
+    returns-by : decided (machine-of g p at) ≡ reading (found (machine-of g p at) v) (λ n. Effect.Does (address-of g at + 1) (Change.Return (mod-word (v + 1)) n))
+    returns-by =
+        let none = fields Op.Return 1 Field.Unused Field.Unused e refl in
+        let acts = known-acts Op.Return 1 Field.Unused Field.Unused (omega arith) e refl (none .0) (none .1) refl in
+        let top : stack (machine-of g p at) ≡ v = register-held g p at 1 (omega arith) (omega arith) ∙ sym ev in
+        rw top at acts
+
+    pub return-outside : (t : Bool) → t ≡ ltb (x .0) (g .to) → not t ≡ true → decided (machine-of g p at) ≡ Effect.Faults outside
+    return-outside t et h = rw (outside-held g p at v (x .0) ex (ltb-false (x .0) (g .to) (sym et ∙ not-true t h))) at returns-by
+
+    pub return-acts : (t : Bool) (n top : ℕ) → t ≡ ltb (x .0) (g .to) → not t ≡ false → n ≡ getD p (x .0) 0 → top ≡ mod-word (v + 1)
+        → decided (machine-of g p at) ≡ Effect.Does (address-of g at + 1) (Change.Return top n)
+    return-acts t n top et h en etop =
+        rw (en, etop) (rw (word-held g p at v (x .0) ex (is-lent g p at hand) (ltb-true (x .0) (g .to) (sym et ∙ not-false t h))) at returns-by)
+
+  -- a condition
+  condition-bare : cc (machine-of g p at) ≡ getD p 8 0
+  condition-bare = omega (arith, flags-held g p at, is-quiet g p at hand)
+
+  module _ (e : order-of (op-of w) ≡ Op.JumpIf) where
+    condition-refused : 2 < a-of w → decided (machine-of g p at) ≡ Effect.Faults bad-order
+    unfolding checked
+    condition-refused h = rw (e, lt-leb (a-of w) 2 h) at ordered-by
+
+    condition-acts : a-of w ≤ 2 → Acts Op.JumpIf 2
+    condition-acts low =
+        let none = fields Op.JumpIf 2 Field.Condition Field.Unused e refl in
+        known-acts Op.JumpIf 2 Field.Condition Field.Unused (omega arith) e refl (le-leb (a-of w) 2 low) (none .1) refl
+
+  -- a jump, or one by a condition
+  module _ (ek : kind (order-of (op-of w)) ≡ 15) where
+    either-jump : (order-of (op-of w) ≡ Op.Jump) ⊎ (order-of (op-of w) ≡ Op.JumpIf)
+    either-jump = one-of (order-of (op-of w)) 15 ek
+
+    pub bad-condition : 2 < a-of w → decided (machine-of g p at) ≡ Effect.Faults bad-order
+    bad-condition h = go either-jump
+      where
+        go : (order-of (op-of w) ≡ Op.Jump) ⊎ (order-of (op-of w) ≡ Op.JumpIf) → decided (machine-of g p at) ≡ Effect.Faults bad-order
+        go (inl e) = absurd (omega (arith, eqb-true (a-of w) 0 (alone-fields Op.Jump e refl .0)))
+        go (inr e) = condition-refused e h
+
+    module _ (low : a-of w ≤ 2) (x : PartPlace) (t : Bool) (ex : x .0 ≡ at .0 + 1) (et : t ≡ ltb (x .0) (g .to)) where
+      pub jump-outside : not t ≡ true → decided (machine-of g p at) ≡ Effect.Faults outside
+      jump-outside h = go either-jump
+        where
+          past-it : g .to ≤ x .0
+          past-it = ltb-false (x .0) (g .to) (sym et ∙ not-true t h)
+
+          go : (order-of (op-of w) ≡ Op.Jump) ⊎ (order-of (op-of w) ≡ Op.JumpIf) → decided (machine-of g p at) ≡ Effect.Faults outside
+          go (inl e) = second-outside x ex _ (alone-acts Op.Jump e refl) past-it
+          go (inr e) = second-outside x ex _ (condition-acts e low) past-it
+
+      module _ (h : not t ≡ false) (b : Bool) (eb : b ≡ (eqb (op-of w) 14 || eqb (getD p 8 0) (a-of w))) where
+        within : x .0 < g .to
+        within = ltb-true (x .0) (g .to) (sym et ∙ not-false t h)
+
+        by-condition : (e : order-of (op-of w) ≡ Op.JumpIf) → decided (machine-of g p at) ≡ sets (address-of g at + 2) 0 (cond b (getD p (x .0) 0) (address-of g at + 2))
+        by-condition e =
+            let op : op-of w ≡ 15 = op-is (op-of w) Op.JumpIf tt e in
+            let same : eqb (cc (machine-of g p at)) (a-of w) ≡ b = rw condition-bare (sym (rw op at eb)) in
+            rw same at (second-is x ex _ (condition-acts e low) within)
+
+        pub jump-taken : (n : ℕ) → b ≡ true → n ≡ getD p (x .0) 0 → decided (machine-of g p at) ≡ sets (address-of g at + 2) 0 n
+        jump-taken n z en = go either-jump
+          where
+            go : (order-of (op-of w) ≡ Op.Jump) ⊎ (order-of (op-of w) ≡ Op.JumpIf) → decided (machine-of g p at) ≡ sets (address-of g at + 2) 0 n
+            go (inl e) = rw en (second-is x ex _ (alone-acts Op.Jump e refl) within)
+            go (inr e) = rw en (rw z at (by-condition e))
+
+        pub jump-passed : b ≡ false → decided (machine-of g p at) ≡ sets (address-of g at + 2) 0 (address-of g at + 2)
+        jump-passed z = go either-jump
+          where
+            go : (order-of (op-of w) ≡ Op.Jump) ⊎ (order-of (op-of w) ≡ Op.JumpIf) → decided (machine-of g p at) ≡ sets (address-of g at + 2) 0 (address-of g at + 2)
+            go (inl e) =
+                let op : op-of w ≡ 14 = op-is (op-of w) Op.Jump tt e in
+                absurd (true≢false (sym (rw op at eb) ∙ z))
+            go (inr e) = rw z at (by-condition e)
+
+  -- a service, or an unknown op
+  pub unknown-op : kind (order-of (op-of w)) ≡ 0 → op-of w ≢ 18 → decided (machine-of g p at) ≡ Effect.Faults bad-order
+  unknown-op ek ne = go (one-of (order-of (op-of w)) 0 ek)
+    where
+      go : (order-of (op-of w) ≡ Op.Unknown) ⊎ (order-of (op-of w) ≡ Op.Service) → decided (machine-of g p at) ≡ Effect.Faults bad-order
+      go (inl e) = ordered-by ∙ unknown-faults (machine-of g p at) w (order-of (op-of w)) e
+      go (inr e) = absurd (ne (op-is (op-of w) Op.Service tt e))
+
+  module _ (op : op-of w ≡ 18) (t : Bool) (et : t ≡ (leb 1 (a-of w) && leb (a-of w) 4)) where
+    service-field : told Field.Unused (b-of w) ≡ true
+    service-field = fields Op.Service 1 Field.Service Field.Unused (ap order-of op) refl .1
+
+    pub unknown-service : not t ≡ true → decided (machine-of g p at) ≡ Effect.Faults bad-service
+    unknown-service h =
+        unserved Op.Service 1 Field.Service Field.Unused (omega arith) (ap order-of op) refl refl service-field (sym et ∙ not-true t h)
+
+    pub service-acts : not t ≡ false
+        → decided (machine-of g p at) ≡ flags-become (address-of g at + 1) (flags-of (cc (machine-of g p at)) (error (machine-of g p at)) (a-of w))
+    service-acts h =
+        known-acts Op.Service 1 Field.Service Field.Unused (omega arith) (ap order-of op) refl refl service-field (sym et ∙ not-false t h)

@@ -1,0 +1,9 @@
+pub mod Parts
+pub mod After
+pub mod Holding
+pub mod Deciding
+pub mod Carrying
+pub mod Answering
+pub mod Choosing
+pub mod Working
+pub mod Rows

@@ -1,2 +1,0 @@
-pub mod Seated
-pub mod Needs
