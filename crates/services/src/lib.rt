@@ -1,41 +1,64 @@
-// The services: what a pending one does for the first task, on a sound image.
+// The services: what a pending one does for the first task, on a sound image. Each decides everything before it writes.
 ghost use mathlib.Core.Path.{_≡_};
-ghost use mathlib.Core.Bool.{false};
+ghost use mathlib.Core.Bool.{false, _&&_};
 ghost use Prim.Native.Nat.{_<_};
+ghost use lib.Dec.{eqb};
+ghost use Rattle.paper.specs.Image.{at, status as status-of, peer as peer-of};
+ghost use Rattle.paper.specs.Flags.{flags-of, cc, error};
 ghost use Rattle.paper.specs.Queues.{Has, appended, empty as empty-of, full as full-of};
-ghost use Rattle.paper.specs.Services.{fault-of as fault-by, service-faulted, buffer as buffer-by, blocks as blocks-by, waiting, delivered, printing, printing-if-idle, moves, served, finished, service as service-of};
+ghost use Rattle.paper.specs.Waking.{with-status as statused, left};
+ghost use Rattle.paper.specs.Services.{given, service-faulted, delivered, printing, printing-if-idle, service as service-of};
+ghost use Rattle.paper.specs.declared.Answer.the-variants.{ServiceDone, ServiceFaulted, ServiceWaits};
 ghost use Rattle.paper.specs.declared.Queue.the-variants.{Ready, Output};
-ghost use Rattle.paper.specs.declared.Fault.the-variants.{Nothing};
+ghost use Rattle.paper.specs.declared.Reply.the-variants.{Accepted};
+ghost use Rattle.paper.specs.declared.Service.the-variants.{Send, Receive, Input, Output as Print};
 ghost use Rattle.laws.specs.Sound.{Sound};
+ghost use Rattle.services.specs.Done.{done};
 use paper::Answer;
-use paper::Fault;
 use paper::Queue;
 use paper::Refusal;
 use paper::Reply;
 use paper::Service;
 use paper::Shape;
 use paper::Task;
-use requests::awaited;
-use requests::blocks;
-use requests::buffer;
-use requests::fault_of;
-use requests::given;
-use requests::waits;
-use requests::wakes;
 use results::with_fault;
 use results::with_pending;
-use waking::fits;
+use truths::both;
 use waking::leave;
+use waking::wake;
 use waking::with_status;
-use waking::with_woken;
 use words::Spot;
 use words::append;
+use words::empty;
+use words::full;
 use words::get;
 use words::put;
 use words::take;
 
-// R3 is where a word is delivered.
+// The registers of services: R2 names the other task, R3 holds the word.
+const OTHER: usize = 2;
+
 const WORD: usize = 3;
+
+// The errors of services.
+const NO_SUCH_TASK: u16 = 5;
+
+const NO_CHARACTER: u16 = 6;
+
+// A character is at most this.
+const MOST_CHARACTER: u16 = 255;
+
+// The statuses of tasks that wait.
+const WAITS_TO_SEND: u16 = 1;
+
+const WAITS_TO_RECEIVE: u16 = 2;
+
+const WAITS_FOR_INPUT: u16 = 3;
+
+const WAITS_FOR_OUTPUT: u16 = 4;
+
+// The peer field of a task that waits for no other.
+const NO_PEER: u16 = 0;
 
 // A port is idle or busy.
 const IDLE: u16 = 0;
@@ -45,42 +68,87 @@ const BUSY: u16 = 1;
 // Nothing is pending.
 const SERVED: u16 = 0;
 
-// The first task waits: it takes its status, leaves the queue, and another is dispatched.
-fn wait(s: Shape, im: &mut [u16], t: Task, v: Service)
+// Whether a task waits with a status for another.
+fn waits_for(s: Shape, im: &[u16], j: Task, status: u16, t: Task) -> bool
     requires { ⌜ Sound s (now im) ⌝ }
-    requires { ⌜ t .0 < s .n ⌝ }
-    requires { ⌜ empty-of s (now im) Ready ≡ false ⌝ }
-    ensures { λ _. ⌜ now (im .exit) ≡ waiting s (now (im .entry)) t v ⌝ }
-    ensures { λ _. ⌜ Sound s (now (im .exit)) ⌝ }
+    requires { ⌜ j .0 < s .n ⌝ }
+    ensures { λ r. ⌜ r ≡ (eqb (at s (now (im .entry)) (status-of j)) status && eqb (at s (now (im .entry)) (peer-of j)) (t .0)) ⌝ }
 {
-    let peer = awaited(s, im, t, v);
-    with_status(s, im, t, waits(v), peer);
-    leave(s, im);
+    both(
+        get(s, im, Spot::Status(j)) == status,
+        get(s, im, Spot::Peer(j)) == t.0,
+    )
 }
 
-// A service's error is set, and nothing is pending.
-fn fault(s: Shape, im: &mut [u16], t: Task, e: u16)
+// A service faults: its error is set, and nothing is pending.
+fn fault(s: Shape, im: &mut [u16], t: Task, e: u16) -> Reply
     requires { ⌜ Sound s (now im) ⌝ }
     requires { ⌜ t .0 < s .n ⌝ }
     requires { ⌜ e < 8 ⌝ }
+    ensures { λ r. ⌜ r ≡ Accepted (ServiceFaulted t) ⌝ }
     ensures { λ _. ⌜ now (im .exit) ≡ service-faulted s (now (im .entry)) t e ⌝ }
     ensures { λ _. ⌜ Sound s (now (im .exit)) ⌝ }
 {
     let f = with_fault(get(s, im, Spot::Flags(t)), e);
     put(s, im, Spot::Flags(t), f);
+    Reply::Accepted(Answer::ServiceFaulted(t))
 }
 
-// The first word of a queue is taken and delivered to R3.
-fn deliver(s: Shape, im: &mut [u16], t: Task, q: Queue)
+// The first task waits: it takes a status, leaves the queue, and another is dispatched.
+fn wait(s: Shape, im: &mut [u16], t: Task, status: u16, peer: u16) -> Reply
+    requires { ⌜ Sound s (now im) ⌝ }
+    requires { ⌜ t .0 < s .n ⌝ }
+    requires { ⌜ empty-of s (now im) Ready ≡ false ⌝ }
+    ensures { λ r. ⌜ r ≡ Accepted (ServiceWaits t) ⌝ }
+    ensures { λ _. ⌜ now (im .exit) ≡ left s (statused s (now (im .entry)) t status peer) ⌝ }
+    ensures { λ _. ⌜ Sound s (now (im .exit)) ⌝ }
+{
+    with_status(s, im, t, status, peer);
+    leave(s, im);
+    Reply::Accepted(Answer::ServiceWaits(t))
+}
+
+// The flags of a task, with nothing pending.
+fn cleared(s: Shape, im: &[u16], t: Task) -> u16
+    requires { ⌜ Sound s (now im) ⌝ }
+    requires { ⌜ t .0 < s .n ⌝ }
+    ensures { λ r. ⌜ r ≡ flags-of (cc s (now (im .entry)) t) (error s (now (im .entry)) t) 0 ⌝ }
+{
+    with_pending(get(s, im, Spot::Flags(t)), SERVED)
+}
+
+// The word in R3 goes to a buffer that has room, and nothing is pending.
+fn pass(s: Shape, im: &mut [u16], t: Task, q: Queue) -> Reply
+    requires { ⌜ Sound s (now im) ⌝ }
+    requires { ⌜ t .0 < s .n ⌝ }
+    requires { ⌜ Has s q ⌝ }
+    requires { ⌜ full-of s (now im) q ≡ false ⌝ }
+    ensures { λ r. ⌜ r ≡ Accepted (ServiceDone t) ⌝ }
+    ensures { λ _. ⌜ now (im .exit) ≡ done s (now (im .entry)) t (appended s (now (im .entry)) q (given s (now (im .entry)) t)) ⌝ }
+    ensures { λ _. ⌜ Sound s (now (im .exit)) ⌝ }
+{
+    let f = cleared(s, im, t);
+    let w = get(s, im, Spot::Register(t, WORD));
+    append(s, im, q, w);
+    put(s, im, Spot::Flags(t), f);
+    Reply::Accepted(Answer::ServiceDone(t))
+}
+
+// The first word of a buffer goes to R3, and nothing is pending.
+fn deliver(s: Shape, im: &mut [u16], t: Task, q: Queue) -> Reply
     requires { ⌜ Sound s (now im) ⌝ }
     requires { ⌜ t .0 < s .n ⌝ }
     requires { ⌜ Has s q ⌝ }
     requires { ⌜ empty-of s (now im) q ≡ false ⌝ }
-    ensures { λ _. ⌜ now (im .exit) ≡ delivered s (now (im .entry)) t q ⌝ }
+    ensures { λ r. ⌜ r ≡ Accepted (ServiceDone t) ⌝ }
+    ensures { λ _. ⌜ now (im .exit) ≡ done s (now (im .entry)) t (delivered s (now (im .entry)) t q) ⌝ }
     ensures { λ _. ⌜ Sound s (now (im .exit)) ⌝ }
 {
+    let f = cleared(s, im, t);
     let w = take(s, im, q);
     put(s, im, Spot::Register(t, WORD), w);
+    put(s, im, Spot::Flags(t), f);
+    Reply::Accepted(Answer::ServiceDone(t))
 }
 
 // The first word of the output buffer goes to the port, which becomes busy.
@@ -109,73 +177,99 @@ fn print_if_idle(s: Shape, im: &mut [u16], t: Task)
     }
 }
 
-// An output is appended, and printed where the port is idle.
-fn output(s: Shape, im: &mut [u16], t: Task, w: u16)
+// Send: the word in R3 for the task that R2 names, which is woken if it waits for it.
+fn send(s: Shape, im: &mut [u16], t: Task) -> Reply
     requires { ⌜ Sound s (now im) ⌝ }
     requires { ⌜ t .0 < s .n ⌝ }
-    requires { ⌜ full-of s (now im) (Output t) ≡ false ⌝ }
-    ensures { λ _. ⌜ now (im .exit) ≡ printing-if-idle s (appended s (now (im .entry)) (Output t) w) t ⌝ }
+    requires { ⌜ empty-of s (now im) Ready ≡ false ⌝ }
+    ensures { λ r. ⌜ r ≡ service-of s (now (im .entry)) t Send .reply ⌝ }
+    ensures { λ _. ⌜ now (im .exit) ≡ service-of s (now (im .entry)) t Send .image ⌝ }
     ensures { λ _. ⌜ Sound s (now (im .exit)) ⌝ }
 {
+    let j = Task(get(s, im, Spot::Register(t, OTHER)));
+    if s.n <= j.0 as usize {
+        return fault(s, im, t, NO_SUCH_TASK);
+    }
+    if full(s, im, Queue::Message(t, j)) {
+        return wait(s, im, t, WAITS_TO_SEND, j.0);
+    }
+    if waits_for(s, im, j, WAITS_TO_RECEIVE, t) {
+        if full(s, im, Queue::Ready) {
+            return Reply::Refused(Refusal::ReadyFull);
+        }
+        let r = pass(s, im, t, Queue::Message(t, j));
+        wake(s, im, j);
+        return r;
+    }
+    pass(s, im, t, Queue::Message(t, j))
+}
+
+// Receive: the first word from the task that R2 names, which is woken if it waits to send.
+fn receive(s: Shape, im: &mut [u16], t: Task) -> Reply
+    requires { ⌜ Sound s (now im) ⌝ }
+    requires { ⌜ t .0 < s .n ⌝ }
+    requires { ⌜ empty-of s (now im) Ready ≡ false ⌝ }
+    ensures { λ r. ⌜ r ≡ service-of s (now (im .entry)) t Receive .reply ⌝ }
+    ensures { λ _. ⌜ now (im .exit) ≡ service-of s (now (im .entry)) t Receive .image ⌝ }
+    ensures { λ _. ⌜ Sound s (now (im .exit)) ⌝ }
+{
+    let j = Task(get(s, im, Spot::Register(t, OTHER)));
+    if s.n <= j.0 as usize {
+        return fault(s, im, t, NO_SUCH_TASK);
+    }
+    if empty(s, im, Queue::Message(j, t)) {
+        return wait(s, im, t, WAITS_TO_RECEIVE, j.0);
+    }
+    if waits_for(s, im, j, WAITS_TO_SEND, t) {
+        if full(s, im, Queue::Ready) {
+            return Reply::Refused(Refusal::ReadyFull);
+        }
+        let r = deliver(s, im, t, Queue::Message(j, t));
+        wake(s, im, j);
+        return r;
+    }
+    deliver(s, im, t, Queue::Message(j, t))
+}
+
+// Input: the first word of the input buffer.
+fn input(s: Shape, im: &mut [u16], t: Task) -> Reply
+    requires { ⌜ Sound s (now im) ⌝ }
+    requires { ⌜ t .0 < s .n ⌝ }
+    requires { ⌜ empty-of s (now im) Ready ≡ false ⌝ }
+    ensures { λ r. ⌜ r ≡ service-of s (now (im .entry)) t Input .reply ⌝ }
+    ensures { λ _. ⌜ now (im .exit) ≡ service-of s (now (im .entry)) t Input .image ⌝ }
+    ensures { λ _. ⌜ Sound s (now (im .exit)) ⌝ }
+{
+    if empty(s, im, Queue::Input(t)) {
+        return wait(s, im, t, WAITS_FOR_INPUT, NO_PEER);
+    }
+    deliver(s, im, t, Queue::Input(t))
+}
+
+// Output: the word in R3, printed where the port is idle.
+fn output(s: Shape, im: &mut [u16], t: Task) -> Reply
+    requires { ⌜ Sound s (now im) ⌝ }
+    requires { ⌜ t .0 < s .n ⌝ }
+    requires { ⌜ empty-of s (now im) Ready ≡ false ⌝ }
+    ensures { λ r. ⌜ r ≡ service-of s (now (im .entry)) t Print .reply ⌝ }
+    ensures { λ _. ⌜ now (im .exit) ≡ service-of s (now (im .entry)) t Print .image ⌝ }
+    ensures { λ _. ⌜ Sound s (now (im .exit)) ⌝ }
+{
+    let w = get(s, im, Spot::Register(t, WORD));
+    if MOST_CHARACTER < w {
+        return fault(s, im, t, NO_CHARACTER);
+    }
+    if full(s, im, Queue::Output(t)) {
+        return wait(s, im, t, WAITS_FOR_OUTPUT, NO_PEER);
+    }
+    let f = cleared(s, im, t);
     append(s, im, Queue::Output(t), w);
     print_if_idle(s, im, t);
-}
-
-// The word of a service moves to or from its buffer.
-fn move_word(s: Shape, im: &mut [u16], t: Task, v: Service, q: Queue)
-    requires { ⌜ Sound s (now im) ⌝ }
-    requires { ⌜ t .0 < s .n ⌝ }
-    requires { ⌜ Has s q ⌝ }
-    requires { ⌜ q ≡ buffer-by s (now im) t v ⌝ }
-    requires { ⌜ blocks-by v s (now im) q ≡ false ⌝ }
-    ensures { λ _. ⌜ now (im .exit) ≡ moves v s (now (im .entry)) t q ⌝ }
-    ensures { λ _. ⌜ Sound s (now (im .exit)) ⌝ }
-{
-    let w = given(s, im, t);
-    match v {
-        Service::Send => append(s, im, q, w),
-        Service::Receive => deliver(s, im, t, q),
-        Service::Input => deliver(s, im, t, q),
-        Service::Output => output(s, im, t, w),
-    }
-}
-
-// The word moves, and nothing is pending.
-fn serve(s: Shape, im: &mut [u16], t: Task, v: Service, q: Queue)
-    requires { ⌜ Sound s (now im) ⌝ }
-    requires { ⌜ t .0 < s .n ⌝ }
-    requires { ⌜ Has s q ⌝ }
-    requires { ⌜ q ≡ buffer-by s (now im) t v ⌝ }
-    requires { ⌜ blocks-by v s (now im) q ≡ false ⌝ }
-    ensures { λ _. ⌜ now (im .exit) ≡ served s (now (im .entry)) t v ⌝ }
-    ensures { λ _. ⌜ Sound s (now (im .exit)) ⌝ }
-{
-    let f = with_pending(get(s, im, Spot::Flags(t)), SERVED);
-    move_word(s, im, t, v, q);
     put(s, im, Spot::Flags(t), f);
-}
-
-// A service whose buffer is open to it: done, unless a wake finds the ready queue full.
-fn finish(s: Shape, im: &mut [u16], t: Task, v: Service, q: Queue) -> Reply
-    requires { ⌜ Sound s (now im) ⌝ }
-    requires { ⌜ t .0 < s .n ⌝ }
-    requires { ⌜ fault-by s (now im) t v ≡ Nothing ⌝ }
-    requires { ⌜ q ≡ buffer-by s (now im) t v ⌝ }
-    requires { ⌜ blocks-by v s (now im) q ≡ false ⌝ }
-    ensures { λ r. ⌜ r ≡ finished s (now (im .entry)) t v .reply ⌝ }
-    ensures { λ _. ⌜ now (im .exit) ≡ finished s (now (im .entry)) t v .image ⌝ }
-    ensures { λ _. ⌜ Sound s (now (im .exit)) ⌝ }
-{
-    let w = wakes(s, im, t, v);
-    if !fits(s, im, w) {
-        return Reply::Refused(Refusal::ReadyFull);
-    }
-    serve(s, im, t, v, q);
-    with_woken(s, im, w);
     Reply::Accepted(Answer::ServiceDone(t))
 }
 
-// The service that the first task has pending: a wrong number first, then the buffer, then the word.
+// The service that the first task has pending.
 pub fn service(s: Shape, im: &mut [u16], t: Task, v: Service) -> Reply
     requires { ⌜ Sound s (now im) ⌝ }
     requires { ⌜ t .0 < s .n ⌝ }
@@ -184,15 +278,10 @@ pub fn service(s: Shape, im: &mut [u16], t: Task, v: Service) -> Reply
     ensures { λ _. ⌜ now (im .exit) ≡ service-of s (now (im .entry)) t v .image ⌝ }
     ensures { λ _. ⌜ Sound s (now (im .exit)) ⌝ }
 {
-    let wrong = fault_of(s, im, t, v);
-    if let Fault::Error(e) = wrong {
-        fault(s, im, t, e);
-        return Reply::Accepted(Answer::ServiceFaulted(t));
+    match v {
+        Service::Send => send(s, im, t),
+        Service::Receive => receive(s, im, t),
+        Service::Input => input(s, im, t),
+        Service::Output => output(s, im, t),
     }
-    let q = buffer(s, im, t, v);
-    if blocks(s, im, v, q) {
-        wait(s, im, t, v);
-        return Reply::Accepted(Answer::ServiceWaits(t));
-    }
-    finish(s, im, t, v, q)
 }

@@ -5,12 +5,14 @@ use Rattle.services.proofs.deliver.Statement.{statement}
 use Rattle.services.proofs.deliver.Tie as tie
 
 returns : tie.Need-returns
-returns c = search delivers
+returns c = (search needs, (search delivers, search needs))
 
 pub deliver-spec : {M : Type 1} → statement M
 deliver-spec =
     tie.close
     (tie.spec
+    (λ c κs. search needs)
+    (λ c κs. search needs)
     (λ c κs. search needs)
     (λ c κs. search needs)
     (λ c. search needs)

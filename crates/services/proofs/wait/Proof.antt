@@ -1,5 +1,5 @@
 -- Assumes nothing.
-use Rattle.services.specs.Needs.{still-some, waited}
+use Rattle.services.specs.Needs.{still-some, gone}
 use borrow.Author.Needs.{needs}
 use Rattle.services.proofs.wait.Statement.{statement}
 use Rattle.services.proofs.wait.Tie as tie
@@ -8,14 +8,12 @@ leave-requires : tie.Need-leave-requires
 leave-requires c κs = search still-some
 
 returns : tie.Need-returns
-returns c = search waited
+returns c = search gone
 
 pub wait-spec : {M : Type 1} → statement M
 wait-spec =
     tie.close
     (tie.spec
-    (λ c κs. search needs)
-    (λ c κs. search needs)
     (λ c κs. search needs)
     leave-requires
     (λ c. search needs)
