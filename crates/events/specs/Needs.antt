@@ -1,19 +1,19 @@
 -- What the calls of this crate ask and make, as laws over values. Assumes nothing.
-use mathlib.Core.Path.{_≡_, refl, sym, ap, _∙_}
+use mathlib.Core.Path.{_≡_, refl, sym, _∙_}
 use mathlib.Core.List.{List}
 use mathlib.Core.Bool.{Bool, true, false, not, _&&_}
-use mathlib.Core.Logic.{_≢_, inl, inr}
-use Prim.Native.Nat.{ℕ, zero, suc, _-_, _<_}
+use mathlib.Core.Logic.{_≢_}
+use Prim.Native.Nat.{ℕ, zero, suc, _-_, _/_, _<_, _≤_}
 use native.Mathlib.Omega.{arith}
 use borrow.Author.Tests.{eqb-false, eq-eqb, ne-eqb, not-true, not-false}
 use lib.Dec.{eqb, leb, ltb}
-use Rattle.paper.specs.Image.{task, ord, at, put, clock, flags, status, busy, character}
-use Rattle.paper.specs.Queues.{count, capacity, appended, first, taken, empty, full}
+use Rattle.paper.specs.Image.{task, at, put, clock, flags, status, busy, character}
+use Rattle.paper.specs.Queues.{count, capacity, appended, taken, empty, full}
 use Rattle.paper.specs.Flags.{error-of, pending-of}
 use Rattle.paper.specs.Waking.{left, one-if, with-woken}
 use Rattle.paper.specs.Services.{asked, printing, service}
-use Rattle.paper.specs.Orders.{order, after-order, order-answer}
-use Rattle.paper.specs.Events.{is-tick, is-input, is-output-done, event-of, stopped, turned, spent, ordered, turn-of, tick, input, port-next, output-done}
+use Rattle.paper.specs.Rules.{Flagged}
+use Rattle.paper.specs.Events.{is-tick, is-input, is-output-done, event-of, stopped, turned, acting, turn-of, input, port-next, output-done, happening}
 use Rattle.paper.specs.declared.Task.{Task}
 use Rattle.paper.specs.declared.Shape.{Shape}
 use Rattle.paper.specs.declared.Queue.{Queue}
@@ -27,12 +27,10 @@ use Rattle.paper.specs.declared.Reply.{Reply}
 use Rattle.laws.specs.Cells.{cells}
 use Rattle.laws.specs.Queues.{taken-count, taken-rest}
 use Rattle.laws.specs.Sound.{Sound, sound}
-use Rattle.laws.specs.Orders.{OwnCell, order-keeps}
-use Rattle.effects.specs.Needs.{NoneOf}
+use Rattle.laws.specs.Stays.{Formed}
 use Rattle.waking.specs.Room.{Room, has-room}
 use Rattle.laws.specs.Moved.{apart-full, sent-apart, next-apart}
 use Rattle.services.specs.Needs.{no-room, some-room, room-stays, the-one}
-use Rattle.events.specs.Runs.{Runs}
 
 -- three tests, as the code joins them
 three : (a b c p t : Bool) → p ≡ (b && c) → t ≡ (a && p) → (a && b && c) ≡ t
@@ -68,15 +66,6 @@ module _ (s : Shape) (k d c : ℕ) (p t : Bool) (ep : p ≡ (eqb d 0 && eqb c 0)
       unfolding event-of
       malformed f = rw (tick-test, h, input-test, g, done-test, f)
 
--- what pending asks for
-pub asks-nothing : (p : ℕ) → NoneOf 4 p → Asked.Nothing ≡ asked p
-asks-nothing zero h = refl
-asks-nothing (suc zero) h = absurd (h .0 .0 .0 .1 refl)
-asks-nothing (suc (suc zero)) h = absurd (h .0 .0 .1 refl)
-asks-nothing (suc (suc (suc zero))) h = absurd (h .0 .1 refl)
-asks-nothing (suc (suc (suc (suc zero)))) h = absurd (h .1 refl)
-asks-nothing (suc (suc (suc (suc (suc k))))) h = refl
-
 -- rule 2
 module _ (s : Shape) (im m : List ℕ) (i : Task) (hi : i .0 < s .n) where
   pub still-some : m ≡ put s im (status i) 5 → empty s im Queue.Ready ≡ false → empty s m Queue.Ready ≡ false
@@ -106,98 +95,65 @@ pub turns : (s : Shape) (im m l out : List ℕ) (i : Task) → m ≡ taken s im 
 unfolding turned
 turns s im m l out i em el eo = rw (← em, ← el) eo
 
--- rule 5
-pub spends : (s : Shape) (im out : List ℕ) (k : ℕ) → k ≡ at s im clock → out ≡ put s im clock (k - 1) → out ≡ spent s im
-unfolding spent
-spends s im out k ek eo = rw (← ek) eo
+-- the service of a number
+module _ (s : Shape) (im : List ℕ) (i : Task) (v : Service) (k p : ℕ) (e : p ≡ k) (a : asked k ≡ Asked.For v) where
+  pub serve-reply : (r : Reply) → r ≡ service s im i v .reply → r ≡ acting s im i (asked p) .reply
+  serve-reply r er = rw (e, a) er
 
-not-own : (s : Shape) (im : List ℕ) (i : Task) → ¬ OwnCell s im i clock
-not-own s im i (inl (e, _)) =
-    let z : _≡_ {A = ℕ} 0 1 = ap ord e in
+  pub serve-image : (out : List ℕ) → out ≡ service s im i v .image → out ≡ acting s im i (asked p) .image
+  serve-image out eo = rw (e, a) eo
+
+-- a number that is none of the first three is the last
+pub last-number : (p : ℕ) → (1 ≤ p) × (p ≤ 4) → ((Unit {0} × (p ≢ 1)) × (p ≢ 2)) × (p ≢ 3) → p ≡ 4
+last-number p (lo, hi) (((_, a), b), c) = omega arith
+
+-- where a service is pending there is no error
+no-error : (e p : ℕ) → 1 ≤ p → (e ≢ 0 → p ≡ 0) → e ≡ 0
+no-error zero p lo h = refl
+no-error (suc e) p lo h =
+    let z : p ≡ 0 = h (λ q. omega arith) in
     omega arith
-not-own s im i (inr (e, _)) =
-    let z : _≡_ {A = ℕ} 0 9 = ap ord e in
-    omega arith
 
-module _ (s : Shape) (im m : List ℕ) (i : Task) (em : m ≡ after-order s im i (order s im i)) where
-  pub still-time : Sound s im → i .0 < s .n → 0 < at s im clock → 0 < at s m clock
-  still-time h hi some = rw (em, order-keeps s im i hi (sound h .laid) .others clock (omega arith, omega arith) (not-own s im i)) some
+-- rules 2 to 4, as the flags and the clock tell
+module _ (s : Shape) (im : List ℕ) (i : Task) (f : ℕ) (ef : f ≡ at s im (flags i)) where
+  module _ (lo : 4 ≤ f) (hi : f < 32) where
+    wrong : eqb (error-of f) 0 ≡ false
+    wrong = ne-eqb (error-of f) 0 (λ z. omega arith)
 
-  pub order-image : (out : List ℕ) → out ≡ spent s m → out ≡ ordered s im i (order s im i) .image
-  unfolding ordered
-  order-image out eo = rw (← em) eo
-
-pub order-reply : (s : Shape) (im : List ℕ) (i : Task) (a : Answer) → a ≡ order-answer i (order s im i) → Reply.Accepted a ≡ ordered s im i (order s im i) .reply
-unfolding ordered
-order-reply s im i a ea = rw ea
-
--- rules 2 to 5, as the flags and the clock tell
-module _ (s : Shape) (im : List ℕ) (i : Task) (f e : ℕ) (ef : f ≡ at s im (flags i)) (ee : e ≡ error-of f) where
-  module _ (ne : e ≢ 0) where
     pub stop-reply : Reply.Accepted (Answer.ErrorStop i) ≡ turn-of s im i .reply
     unfolding turn-of
-    stop-reply = rw (← ef, ← ee, ne-eqb e 0 ne)
+    stop-reply = rw (← ef, wrong)
 
     pub stop-image : (out : List ℕ) → out ≡ stopped s im i → out ≡ turn-of s im i .image
     unfolding turn-of
-    stop-image out eo = rw (← ef, ← ee, ne-eqb e 0 ne) eo
+    stop-image out eo = rw (← ef, wrong) eo
 
-  module _ (ez : e ≡ 0) (k : ℕ) (ek : k ≡ at s im clock) where
-    module _ (kz : k ≡ 0) where
-      pub turn-reply : Reply.Accepted (Answer.TurnPassed i) ≡ turn-of s im i .reply
-      unfolding turn-of
-      turn-reply = rw (← ef, ← ee, eq-eqb e 0 ez, ← ek, eq-eqb k 0 kz)
+  module _ (fl : Flagged s im i) where
+    pub service-known : f / 32 ≤ 4
+    service-known = rw ef (fl .pending-range)
 
-      pub turn-image : (out : List ℕ) → out ≡ turned s im i → out ≡ turn-of s im i .image
-      unfolding turn-of
-      turn-image out eo = rw (← ef, ← ee, eq-eqb e 0 ez, ← ek, eq-eqb k 0 kz) eo
+  module _ (fl : Flagged s im i) (hi : 32 ≤ f) where
+    right : eqb (error-of f) 0 ≡ true
+    right = eq-eqb (error-of f) 0 (no-error (error-of f) (pending-of f) (omega arith) (λ n. rw ef (fl .never-both (rw (← ef) n))))
 
-    module _ (kn : k ≢ 0) (p : ℕ) (a : Asked) (ep : p ≡ pending-of f) (ea : a ≡ asked p) where
-      pub service-reply : (v : Service) (r : Reply) → a ≡ Asked.For v → r ≡ service s im i v .reply → r ≡ turn-of s im i .reply
-      unfolding turn-of
-      service-reply v r av er = rw (← ef, ← ee, eq-eqb e 0 ez, ← ek, ne-eqb k 0 kn, ← ep, ← ea, av) er
+    module _ (k : ℕ) (ek : k ≡ at s im clock) where
+      module _ (kz : k ≡ 0) where
+        pub turn-reply : Reply.Accepted (Answer.TurnPassed i) ≡ turn-of s im i .reply
+        unfolding turn-of
+        turn-reply = rw (← ef, right, ← ek, eq-eqb k 0 kz)
 
-      pub service-image : (v : Service) (out : List ℕ) → a ≡ Asked.For v → out ≡ service s im i v .image → out ≡ turn-of s im i .image
-      unfolding turn-of
-      service-image v out av eo = rw (← ef, ← ee, eq-eqb e 0 ez, ← ek, ne-eqb k 0 kn, ← ep, ← ea, av) eo
+        pub turn-image : (out : List ℕ) → out ≡ turned s im i → out ≡ turn-of s im i .image
+        unfolding turn-of
+        turn-image out eo = rw (← ef, right, ← ek, eq-eqb k 0 kz) eo
 
-      pub act-reply : (r : Reply) → a ≡ Asked.Nothing → r ≡ ordered s im i (order s im i) .reply → r ≡ turn-of s im i .reply
-      unfolding turn-of
-      act-reply r av er = rw (← ef, ← ee, eq-eqb e 0 ez, ← ek, ne-eqb k 0 kn, ← ep, ← ea, av) er
+      module _ (kn : k ≢ 0) where
+        pub service-reply : (r : Reply) → r ≡ acting s im i (asked (f / 32)) .reply → r ≡ turn-of s im i .reply
+        unfolding turn-of
+        service-reply r er = rw (← ef, right, ← ek, ne-eqb k 0 kn) er
 
-      pub act-image : (out : List ℕ) → a ≡ Asked.Nothing → out ≡ ordered s im i (order s im i) .image → out ≡ turn-of s im i .image
-      unfolding turn-of
-      act-image out av eo = rw (← ef, ← ee, eq-eqb e 0 ez, ← ek, ne-eqb k 0 kn, ← ep, ← ea, av) eo
-
-pub has-time : (s : Shape) (im : List ℕ) (k : ℕ) → k ≡ at s im clock → k ≢ 0 → 0 < at s im clock
-has-time s im k e ne = omega arith
-
--- a tick, as the ready queue tells
-module _ (s : Shape) (im : List ℕ) (b : Bool) (eb : b ≡ empty s im Queue.Ready) where
-  pub idle-reply : b ≡ true → Reply.Accepted Answer.Idle ≡ tick s im .reply
-  unfolding tick
-  idle-reply t = rw (← eb, t)
-
-  pub idle-image : b ≡ true → im ≡ tick s im .image
-  unfolding tick
-  idle-image t = rw (← eb, t)
-
-  module _ (t : b ≡ false) where
-    pub some-ready : empty s im Queue.Ready ≡ false
-    some-ready = sym eb ∙ t
-
-    module _ (w : ℕ) (ew : w ≡ first s im Queue.Ready) where
-      pub runs-below : Runs s im → w < s .n
-      unfolding Runs
-      runs-below h = rw ew (h some-ready)
-
-      pub tick-reply : (r : Reply) → r ≡ turn-of s im (task w) .reply → r ≡ tick s im .reply
-      unfolding tick
-      tick-reply r er = rw (← eb, t, ← ew) er
-
-      pub tick-image : (out : List ℕ) → out ≡ turn-of s im (task w) .image → out ≡ tick s im .image
-      unfolding tick
-      tick-image out eo = rw (← eb, t, ← ew) eo
+        pub service-image : (out : List ℕ) → out ≡ acting s im i (asked (f / 32)) .image → out ≡ turn-of s im i .image
+        unfolding turn-of
+        service-image out eo = rw (← ef, right, ← ek, ne-eqb k 0 kn) eo
 
 -- whom an event wakes
 module _ (s : Shape) (im : List ℕ) (i : Task) (x k : ℕ) (ek : k ≡ at s im (status i)) where
@@ -294,3 +250,38 @@ module _ (s : Shape) (im : List ℕ) (i : Task) (h : Sound s im) (hi : i .0 < s 
   done-room ew em =
       room-stays s im m w (rw em (apart-full s im (port-next s im i) (next-apart s im h i hi)))
       (λ j e. owner-in s (eqb (at s im (status i)) 4) i j w hi ew e) (sym er ∙ not-false r g)
+
+-- an event that is no tick, by what it is
+module _ (s : Shape) (im : List ℕ) (e : Event) where
+  pub input-task : (i : Task) (c : ℕ) → e ≡ Event.Input i c → Formed s e → i .0 < s .n
+  unfolding Formed
+  input-task i c f h = (rw f at h) .0
+
+  pub done-task : (i : Task) → e ≡ Event.OutputDone i → Formed s e → i .0 < s .n
+  unfolding Formed
+  done-task i f h = rw f at h
+
+  pub reported-input : (i : Task) (c : ℕ) (r : Reply) → e ≡ Event.Input i c → r ≡ input s im i c .reply → r ≡ happening s im e .reply
+  unfolding happening
+  reported-input i c r f er = rw f er
+
+  pub input-happens : (i : Task) (c : ℕ) (out : List ℕ) → e ≡ Event.Input i c → out ≡ input s im i c .image → out ≡ happening s im e .image
+  unfolding happening
+  input-happens i c out f eo = rw f eo
+
+  pub reported-done : (i : Task) (r : Reply) → e ≡ Event.OutputDone i → r ≡ output-done s im i .reply → r ≡ happening s im e .reply
+  unfolding happening
+  reported-done i r f er = rw f er
+
+  pub done-happens : (i : Task) (out : List ℕ) → e ≡ Event.OutputDone i → out ≡ output-done s im i .image → out ≡ happening s im e .image
+  unfolding happening
+  done-happens i out f eo = rw f eo
+
+  module _ (f : e ≡ Event.Malformed) where
+    pub refused-reply : Reply.Refused Refusal.MalformedEvent ≡ happening s im e .reply
+    unfolding happening
+    refused-reply = rw f
+
+    pub refused-image : im ≡ happening s im e .image
+    unfolding happening
+    refused-image = rw f

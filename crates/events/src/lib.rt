@@ -1,21 +1,20 @@
-// Events: the tick's five rules, input and output done, on a good image.
+// Events: the rules of a tick that come before an order, input and output done, on a sound image.
 ghost use mathlib.Core.Path.{_≡_};
 ghost use mathlib.Core.Bool.{false};
-ghost use Prim.Native.Nat.{_<_};
+ghost use mathlib.Core.Logic.{_≢_};
+ghost use Prim.Native.Nat.{_<_, _≤_};
 ghost use lib.Dec.{eqb};
-ghost use Rattle.paper.specs.Image.{at as word-at, clock, status as status-cell};
+ghost use Rattle.paper.specs.Image.{at as word-at, clock as clock-cell, flags as flags-cell, status as status-cell};
+ghost use Rattle.paper.specs.Rules.{Flagged};
 ghost use Rattle.paper.specs.Waking.{one-if};
 ghost use Rattle.paper.specs.Queues.{empty as empty-of};
 ghost use Rattle.paper.specs.Services.{asked as asked-by};
-ghost use Rattle.paper.specs.Orders.{order as order-by};
-ghost use Rattle.paper.specs.Events.{event-of as event-by, stopped, turned, spent, ordered, turn-of as turn-by, tick as tick-by, input as input-by, port-next, output-done as output-done-by};
+ghost use Rattle.paper.specs.Events.{event-of as event-by, stopped, turned, acting, turn-of as turn-by, input as input-by, port-next, output-done as output-done-by, happening};
+ghost use Rattle.paper.specs.declared.Event.the-variants.{Tick};
 ghost use Rattle.paper.specs.declared.Queue.the-variants.{Ready};
 ghost use Rattle.laws.specs.Sound.{Sound};
-ghost use Rattle.shapes.specs.Entries.{Shapes};
-ghost use Rattle.events.specs.Runs.{Runs};
-use orders::order;
+ghost use Rattle.laws.specs.Stays.{Formed};
 use paper::Answer;
-use paper::Asked;
 use paper::Event;
 use paper::Queue;
 use paper::Refusal;
@@ -24,8 +23,6 @@ use paper::Service;
 use paper::Shape;
 use paper::Task;
 use paper::Woken;
-use results::error_of;
-use results::pending_of;
 use services::print;
 use services::service;
 use truths::both;
@@ -35,7 +32,6 @@ use waking::with_woken;
 use words::Spot;
 use words::append;
 use words::empty;
-use words::first;
 use words::full;
 use words::get;
 use words::put;
@@ -48,14 +44,15 @@ const INPUT: u16 = 1;
 
 const OUTPUT_DONE: u16 = 2;
 
+// Flags from this on have a service pending, whose number is counted by this.
+const PENDING: u16 = 32;
+
 // The numbers of the services.
 const SEND: u16 = 1;
 
 const RECEIVE: u16 = 2;
 
 const ASK_INPUT: u16 = 3;
-
-const ASK_OUTPUT: u16 = 4;
 
 // A character is at most this.
 const MOST_CHARACTER: u16 = 255;
@@ -100,7 +97,7 @@ fn stop(s: Shape, im: &mut [u16], t: Task)
 }
 
 // Rule 3: the first task goes to the end of the ready queue, and the clock becomes S.
-fn turn(s: Shape, im: &mut [u16], t: Task)
+pub fn turn(s: Shape, im: &mut [u16], t: Task)
     requires { ⌜ Sound s (now im) ⌝ }
     requires { ⌜ empty-of s (now im) Ready ≡ false ⌝ }
     ensures { λ _. ⌜ now (im .exit) ≡ turned s (now (im .entry)) t ⌝ }
@@ -111,69 +108,46 @@ fn turn(s: Shape, im: &mut [u16], t: Task)
     put(s, im, Spot::Clock, s.slice);
 }
 
-// The clock, which is not 0, falls by 1.
-fn spend(s: Shape, im: &mut [u16])
-    requires { ⌜ Sound s (now im) ⌝ }
-    requires { ⌜ 0 < word-at s (now im) clock ⌝ }
-    ensures { λ _. ⌜ now (im .exit) ≡ spent s (now (im .entry)) ⌝ }
-    ensures { λ _. ⌜ Sound s (now (im .exit)) ⌝ }
-{
-    let c = get(s, im, Spot::Clock);
-    put(s, im, Spot::Clock, c - 1);
-}
-
-// Rule 5: one order; the clock falls by 1.
-fn act(s: Shape, im: &mut [u16], shapes: &[u16; 256], t: Task) -> Reply
+// The service with a number.
+fn serve(s: Shape, im: &mut [u16], t: Task, pending: u16) -> Reply
     requires { ⌜ Sound s (now im) ⌝ }
     requires { ⌜ t .0 < s .n ⌝ }
-    requires { ⌜ Shapes (now shapes) ⌝ }
-    requires { ⌜ 0 < word-at s (now im) clock ⌝ }
-    ensures { λ r. ⌜ r ≡ ordered s (now (im .entry)) t (order-by s (now (im .entry)) t) .reply ⌝ }
-    ensures { λ _. ⌜ now (im .exit) ≡ ordered s (now (im .entry)) t (order-by s (now (im .entry)) t) .image ⌝ }
+    requires { ⌜ empty-of s (now im) Ready ≡ false ⌝ }
+    requires { ⌜ (1 ≤ pending) × (pending ≤ 4) ⌝ }
+    ensures { λ r. ⌜ r ≡ acting s (now (im .entry)) t (asked-by pending) .reply ⌝ }
+    ensures { λ _. ⌜ now (im .exit) ≡ acting s (now (im .entry)) t (asked-by pending) .image ⌝ }
     ensures { λ _. ⌜ Sound s (now (im .exit)) ⌝ }
 {
-    let answer = order(s, im, shapes, t);
-    spend(s, im);
-    Reply::Accepted(answer)
-}
-
-// What the pending field of the flags asks for.
-fn asked(p: u16) -> Asked
-    ensures { λ r. ⌜ r ≡ asked-by p ⌝ }
-{
-    match p {
-        SEND => Asked::For(Service::Send),
-        RECEIVE => Asked::For(Service::Receive),
-        ASK_INPUT => Asked::For(Service::Input),
-        ASK_OUTPUT => Asked::For(Service::Output),
-        _ => Asked::Nothing,
+    match pending {
+        SEND => service(s, im, t, Service::Send),
+        RECEIVE => service(s, im, t, Service::Receive),
+        ASK_INPUT => service(s, im, t, Service::Input),
+        _ => service(s, im, t, Service::Output),
     }
 }
 
-// Rules 2 to 5, of the first task.
-pub fn turn_of(s: Shape, im: &mut [u16], shapes: &[u16; 256], t: Task) -> Reply
+// Rules 2 to 4, of the first task, whose flags have an error or a service pending.
+pub fn before_order(s: Shape, im: &mut [u16], t: Task, flags: u16, clock: u16) -> Reply
     requires { ⌜ Sound s (now im) ⌝ }
     requires { ⌜ t .0 < s .n ⌝ }
-    requires { ⌜ Shapes (now shapes) ⌝ }
     requires { ⌜ empty-of s (now im) Ready ≡ false ⌝ }
+    requires { ⌜ Flagged s (now im) t ⌝ }
+    requires { ⌜ flags ≡ word-at s (now im) (flags-cell t) ⌝ }
+    requires { ⌜ clock ≡ word-at s (now im) clock-cell ⌝ }
+    requires { ⌜ 4 ≤ flags ⌝ }
     ensures { λ r. ⌜ r ≡ turn-by s (now (im .entry)) t .reply ⌝ }
     ensures { λ _. ⌜ now (im .exit) ≡ turn-by s (now (im .entry)) t .image ⌝ }
     ensures { λ _. ⌜ Sound s (now (im .exit)) ⌝ }
 {
-    let f = get(s, im, Spot::Flags(t));
-    if error_of(f) != 0 {
+    if flags < PENDING {
         stop(s, im, t);
         return Reply::Accepted(Answer::ErrorStop(t));
     }
-    let pending = pending_of(f);
-    if get(s, im, Spot::Clock) == 0 {
+    if clock == 0 {
         turn(s, im, t);
         return Reply::Accepted(Answer::TurnPassed(t));
     }
-    match asked(pending) {
-        Asked::For(v) => service(s, im, t, v),
-        Asked::Nothing => act(s, im, shapes, t),
-    }
+    serve(s, im, t, flags / PENDING)
 }
 
 // Whom an event wakes: a task, where its status is the one given.
@@ -244,18 +218,17 @@ pub fn output_done(s: Shape, im: &mut [u16], t: Task) -> Reply
     Reply::Accepted(Answer::OutputDone(t))
 }
 
-// A tick: the first rule that applies.
-pub fn tick(s: Shape, im: &mut [u16], shapes: &[u16; 256]) -> Reply
+// An event that is no tick.
+pub fn report(s: Shape, im: &mut [u16], e: Event) -> Reply
     requires { ⌜ Sound s (now im) ⌝ }
-    requires { ⌜ Shapes (now shapes) ⌝ }
-    requires { ⌜ Runs s (now im) ⌝ }
-    ensures { λ r. ⌜ r ≡ tick-by s (now (im .entry)) .reply ⌝ }
-    ensures { λ _. ⌜ now (im .exit) ≡ tick-by s (now (im .entry)) .image ⌝ }
-    ensures { λ _. ⌜ Sound s (now (im .exit)) ⌝ }
+    requires { ⌜ Formed s e ⌝ }
+    requires { ⌜ e ≢ Tick ⌝ }
+    ensures { λ r. ⌜ r ≡ happening s (now (im .entry)) e .reply ⌝ }
+    ensures { λ _. ⌜ now (im .exit) ≡ happening s (now (im .entry)) e .image ⌝ }
 {
-    if empty(s, im, Queue::Ready) {
-        return Reply::Accepted(Answer::Idle);
+    match e {
+        Event::Input(t, c) => input(s, im, t, c),
+        Event::OutputDone(t) => output_done(s, im, t),
+        _ => Reply::Refused(Refusal::MalformedEvent),
     }
-    let t = Task(first(s, im, Queue::Ready));
-    turn_of(s, im, shapes, t)
 }

@@ -1,31 +1,143 @@
-// One event on a good image: the step that every call and every run takes.
+// Events on a good image, one after another: a list of them, and one of them, which is a list of one.
 ghost use mathlib.Core.Path.{_≡_};
+ghost use mathlib.Core.Bool.{false};
+ghost use Prim.Native.Nat.{_+_, _*_, _%_, _<_, _≤_};
+ghost use lib.ListN.{length};
 ghost use Rattle.paper.specs.Events.{event-of as event-by, happening};
-ghost use Rattle.laws.specs.Stays.{Lawful, Formed};
+ghost use Rattle.laws.specs.Stays.{Lawful};
 ghost use Rattle.shapes.specs.Entries.{Shapes};
+ghost use Rattle.happening.specs.Lists.{nth-event, Ends};
+ghost use Rattle.happening.specs.Ahead.{zeros-at, Ahead, Stops};
 use events::event_of;
-use events::input;
-use events::output_done;
-use events::tick;
-use paper::Event;
-use paper::Refusal;
+use events::report;
+use paper::Answer;
 use paper::Reply;
 use paper::Shape;
+use ticks::ticks;
+use truths::both;
 
-// One event.
-fn happen(s: Shape, im: &mut [u16], shapes: &[u16; 256], e: Event) -> Reply
+// The words of an event.
+const EVENT_WORDS: usize = 3;
+
+// How many events are looked at together: first a few, then more.
+const LOOK: usize = 4;
+
+const LONG_LOOK: usize = 8;
+
+// How many events were taken, and the reply of the last, or of the one that was refused.
+pub struct Took {
+    pub taken: usize,
+    pub last: Reply,
+}
+
+// Whether n words of a list, from a place on, are 0.
+fn zeros(l: &[u16], from: usize, n: usize) -> bool
+    requires { ⌜ from + n ≤ length (now l) ⌝ }
+    ensures { λ r. ⌜ r ≡ zeros-at (now (l .entry)) from n ⌝ }
+{
+    let mut right = true;
+    let mut k: usize = 0;
+    while k < n {
+        right = both(right, l[from + k] == 0);
+        k += 1;
+    }
+    right
+}
+
+// Where events that are ticks end, from one event on, as far as looks at several of them tell.
+fn looked_ahead(events: &[u16], from: usize, count: usize) -> usize
+    requires { ⌜ (from ≤ count) × (3 * count ≤ length (now events)) ⌝ }
+    ensures { λ r. ⌜ (from ≤ r) × (r ≤ count) ⌝ }
+    ensures { λ r. ⌜ Ahead (now (events .entry)) from r ⌝ }
+{
+    if count - from < LOOK {
+        return from;
+    }
+    if !zeros(events, EVENT_WORDS * from, EVENT_WORDS * LOOK) {
+        return from;
+    }
+    let mut to = from + LOOK;
+    while LONG_LOOK <= count - to {
+        if !zeros(events, EVENT_WORDS * to, EVENT_WORDS * LONG_LOOK) {
+            return to;
+        }
+        to += LONG_LOOK;
+    }
+    to
+}
+
+// Where events that are ticks end, from one event on.
+fn ticks_ahead(events: &[u16], from: usize, count: usize) -> usize
+    requires { ⌜ (from ≤ count) × (3 * count ≤ length (now events)) ⌝ }
+    ensures { λ r. ⌜ (from ≤ r) × (r ≤ count) ⌝ }
+    ensures { λ r. ⌜ Ahead (now (events .entry)) from r ⌝ }
+    ensures { λ r. ⌜ Stops (now (events .entry)) r count ⌝ }
+{
+    let mut to = looked_ahead(events, from, count);
+    while to < count {
+        if !zeros(events, EVENT_WORDS * to, EVENT_WORDS) {
+            return to;
+        }
+        to += 1;
+    }
+    to
+}
+
+// Event k of a list, which is no tick.
+fn report_at(s: Shape, im: &mut [u16], events: &[u16], k: usize) -> Reply
     requires { ⌜ Lawful s (now im) ⌝ }
-    requires { ⌜ Formed s e ⌝ }
-    requires { ⌜ Shapes (now shapes) ⌝ }
-    ensures { λ r. ⌜ r ≡ happening s (now (im .entry)) e .reply ⌝ }
-    ensures { λ _. ⌜ now (im .exit) ≡ happening s (now (im .entry)) e .image ⌝ }
+    requires { ⌜ 3 * k + 2 < length (now events) ⌝ }
+    requires { ⌜ zeros-at (now events) (3 * k) 3 ≡ false ⌝ }
+    ensures { λ r. ⌜ r ≡ happening s (now (im .entry)) (nth-event s (now (events .entry)) k) .reply ⌝ }
+    ensures { λ _. ⌜ now (im .exit) ≡ happening s (now (im .entry)) (nth-event s (now (events .entry)) k) .image ⌝ }
     ensures { λ _. ⌜ Lawful s (now (im .exit)) ⌝ }
 {
-    match e {
-        Event::Tick => tick(s, im, shapes),
-        Event::Input(t, c) => input(s, im, t, c),
-        Event::OutputDone(t) => output_done(s, im, t),
-        Event::Malformed => Reply::Refused(Refusal::MalformedEvent),
+    let at = EVENT_WORDS * k;
+    report(
+        s,
+        im,
+        event_of(s, events[at], events[at + 1], events[at + 2]),
+    )
+}
+
+// Takes the events of a list, one after another, up to the first refused one.
+pub fn take_events(s: Shape, im: &mut [u16], shapes: &[u16; 256], events: &[u16]) -> Took
+    requires { ⌜ Lawful s (now im) ⌝ }
+    requires { ⌜ Shapes (now shapes) ⌝ }
+    requires { ⌜ length (now events) % 3 ≡ 0 ⌝ }
+    ensures { λ r. ⌜ Ends s (now (im .entry)) (now (events .entry)) (r .taken) (r .last) (now (im .exit)) ⌝ }
+    ensures { λ _. ⌜ Lawful s (now (im .exit)) ⌝ }
+{
+    let count = events.len() / EVENT_WORDS;
+    let mut taken: usize = 0;
+    let mut last = Reply::Accepted(Answer::Idle);
+    while taken < count {
+        let end = ticks_ahead(events, taken, count);
+        if taken < end {
+            let passed = ticks(s, im, shapes, end - taken);
+            taken += passed.taken;
+            last = passed.last;
+            if let Reply::Refused(_) = last {
+                return Took {
+                    taken: taken,
+                    last: last,
+                };
+            }
+        }
+        if taken < count {
+            last = report_at(s, im, events, taken);
+            if let Reply::Refused(_) = last {
+                return Took {
+                    taken: taken,
+                    last: last,
+                };
+            }
+            taken += 1;
+        }
+    }
+    Took {
+        taken: taken,
+        last: last,
     }
 }
 
@@ -44,5 +156,7 @@ pub fn step(
     ensures { λ _. ⌜ now (im .exit) ≡ happening s (now (im .entry)) (event-by s kind device character) .image ⌝ }
     ensures { λ _. ⌜ Lawful s (now (im .exit)) ⌝ }
 {
-    happen(s, im, shapes, event_of(s, kind, device, character))
+    let list: [u16; EVENT_WORDS] = [kind, device, character];
+    let took = take_events(s, im, shapes, &list);
+    took.last
 }

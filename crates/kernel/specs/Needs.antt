@@ -1,18 +1,17 @@
 -- What the calls of this crate ask and make, as laws over values. Assumes nothing.
 use mathlib.Core.Logic.{_≢_}
 use mathlib.Core.Path.{_≡_, refl, sym, ap, _∙_}
-use mathlib.Core.List.{List}
+use mathlib.Core.List.{List, [], _∷_}
 use mathlib.Core.Bool.{Bool, true, false, not}
-use Prim.Native.Nat.{ℕ, _+_, _-_, _*_, _%_, _/_, _<_, _≤_}
-use native.Mathlib.Nat.{add-zero}
+use Prim.Native.Nat.{ℕ, _%_}
 use native.Mathlib.Omega.{arith}
 use borrow.Author.Tests.{eqb-true, eq-eqb, ne-eqb}
 use lib.Dec.{eqb}
-use lib.ListN.{length, getD}
+use lib.ListN.{length}
 use Rattle.paper.specs.Image.{shape-of}
 use Rattle.paper.specs.Events.{event-of, happening}
 use Rattle.paper.specs.Numbers.{verdict-number, reply-number, reply-values, and-then, refused-if, check}
-use Rattle.paper.specs.Calls.{stopped-at, run-from, check-run, event, run}
+use Rattle.paper.specs.Calls.{Ran, one-more, goes-on, run-from, check-run, event, run}
 use Rattle.paper.specs.Promises.{Happens, Runs}
 use Rattle.paper.specs.declared.Ended.{Ended}
 use Rattle.paper.specs.declared.Shape.{Shape}
@@ -22,9 +21,7 @@ use Rattle.paper.specs.declared.Reply.{Reply}
 use Rattle.paper.specs.declared.Verdict.{Verdict}
 use Rattle.laws.specs.Checked.{never-fine, then-fine}
 use Rattle.laws.specs.Stays.{Lawful, inspected-lawful}
-use Rattle.kernel.specs.Lists.{nth-event, onward, TakenFrom, taken-more, taken-refused, taken-all, ticks-taken}
-use Rattle.kernel.specs.Ahead.{Ahead, ahead-ticks}
-use Rattle.stretches.specs.Ticks.{Ticks}
+use Rattle.happening.specs.Lists.{Toll, goes-on as tells-on, told-from, stop-of, Ends}
 
 -- one event
 module _ (im : List ℕ) (k d c : ℕ) where
@@ -48,17 +45,25 @@ turn-fine first later f = rw f
 pub turn-refused : (first later : Verdict) (r : Refusal) → first ≡ Verdict.Refused r → Verdict.Refused r ≡ and-then first later
 turn-refused first later r f = rw f
 
--- event k of a list, by its three words
-module _ (s : Shape) (m events : List ℕ) (k : ℕ) where
-  pub nth-reply : (r : Reply) → r ≡ happening s m (event-of s (getD events (3 * k) 0) (getD events (3 * k + 1) 0) (getD events (3 * k + 2) 0)) .reply
-      → r ≡ happening s m (nth-event s events k) .reply
-  unfolding nth-event
-  nth-reply r e = e
+-- a run over whole events, as they are told
+abbrev ran-as : Toll → Ran
+ran-as t = record { taken = t .taken; stop = stop-of (t .last); image = t .image }
 
-  pub nth-image : (out : List ℕ) → out ≡ happening s m (event-of s (getD events (3 * k) 0) (getD events (3 * k + 1) 0) (getD events (3 * k + 2) 0)) .image
-      → out ≡ happening s m (nth-event s events k) .image
-  unfolding nth-event
-  nth-image out e = e
+run-told : (s : Shape) (im events : List ℕ) → length events % 3 ≡ 0 → (a : Answer) → run-from s im events ≡ ran-as (told-from s im events (Reply.Accepted a))
+run-told s im [] h a = refl
+run-told s im (k ∷ []) h a = absurd (omega arith)
+run-told s im (k ∷ d ∷ []) h a = absurd (omega arith)
+run-told s im (k ∷ d ∷ c ∷ events) h a =
+    go (λ out b. run-told s out events (omega arith) b) (happening s im (event-of s k d c) .reply) (happening s im (event-of s k d c) .image)
+  where
+    go : ((out : List ℕ) (b : Answer) → run-from s out events ≡ ran-as (told-from s out events (Reply.Accepted b))) → (r : Reply) (out : List ℕ)
+        → goes-on r out (λ next. run-from s next events) ≡ ran-as (tells-on r out (λ next. told-from s next events r))
+    go later (Reply.Accepted b) out = ap one-more (later out b)
+    go later (Reply.Refused f) out = refl
+
+-- the verdict by the reply of the last event
+pub stops-refused : (last : Reply) (r : Refusal) → last ≡ Reply.Refused r → Verdict.Refused r ≡ stop-of last
+stops-refused last r f = rw f
 
 -- a verdict on a run
 module _ (im events : List ℕ) (image list verdict : Verdict) (ei : image ≡ check im)
@@ -92,69 +97,13 @@ module _ (im events : List ℕ) (image list verdict : Verdict) (ei : image ≡ c
         go true e h = eqb-true (length events % 3) 0 e
         go false e h = absurd (never-fine Refusal.MalformedEvent h)
 
-    pub run-fine : (s : Shape) (answer : Ended) (out : List ℕ) → s ≡ shape-of im → answer .taken ≡ run-from s im events .taken
-        → answer .stop ≡ run-from s im events .stop → out ≡ run-from s im events .image → Runs im events answer out
-    unfolding run
-    run-fine s answer out es et ep eo =
+    pub run-fine : (s : Shape) (last : Reply) (answer : Ended) (out : List ℕ) → s ≡ shape-of im → Ends s im events (answer .taken) last out
+        → answer .stop ≡ stop-of last → Runs im events answer out
+    unfolding run Ends
+    run-fine s last answer out es e ep =
         let at : check-run im events ≡ Verdict.Fine = sym verdict-is ∙ f in
-        ran answer out (rw (at, ← es) et) (rw (at, ← es) ep) (rw (at, ← es) eo)
-
--- events of a list taken one by one
-pub event-there : (events : List ℕ) (k count : ℕ) → count ≡ length events / 3 → k < count → 3 * k + 2 < length events
-event-there events k count e h = omega arith
-
-module _ (s : Shape) (im events : List ℕ) (k : ℕ) (m out : List ℕ) (reply : Reply) (whole : 3 * k + 2 < length events)
-    (h : TakenFrom s im events k m) (er : reply ≡ happening s m (nth-event s events k) .reply) (eo : out ≡ happening s m (nth-event s events k) .image) where
-  one-taken : (a : Answer) → reply ≡ Reply.Accepted a → TakenFrom s im events (k + 1) out
-  one-taken a f = taken-more s im events k m out whole h eo a (sym f ∙ er)
-
-  module _ (r : Refusal) (f : reply ≡ Reply.Refused r) where
-    stops : run-from s im events ≡ onward k (stopped-at (Verdict.Refused r) out)
-    stops = taken-refused s im events k m out whole h eo r (sym f ∙ er)
-
-    stopped-count : k ≡ run-from s im events .taken
-    stopped-count = rw stops (sym (add-zero k))
-
-    stopped-stop : Verdict.Refused r ≡ run-from s im events .stop
-    stopped-stop = rw stops
-
-    stopped-image : out ≡ run-from s im events .image
-    stopped-image = rw stops
-
--- ticks that follow, and the event after them
-module _ (s : Shape) (im events : List ℕ) (k n to count : ℕ) (m₁ m : List ℕ) (h : TakenFrom s im events k m₁) (t : Ticks s m₁ n m) (ahead : Ahead events k to)
-    (low : n ≤ to - k) (from : k ≤ to) (ends : to ≤ count) (ec : count ≡ length events / 3) where
-  pub ticks-follow : TakenFrom s im events (k + n) m
-  ticks-follow = ticks-taken s im events k m₁ h n m t (λ j hj. ahead-ticks s events k to ahead j (omega arith)) (omega arith)
-
-  module _ (out : List ℕ) (reply : Reply) (few : k + n < count) (er : reply ≡ happening s m (nth-event s events (k + n)) .reply)
-      (eo : out ≡ happening s m (nth-event s events (k + n)) .image) where
-    pub next-taken : (a : Answer) → reply ≡ Reply.Accepted a → TakenFrom s im events (k + n + 1) out
-    next-taken = one-taken s im events (k + n) m out reply (event-there events (k + n) count ec few) ticks-follow er eo
-
-    module _ (r : Refusal) (f : reply ≡ Reply.Refused r) where
-      pub next-count : k + n ≡ run-from s im events .taken
-      next-count = stopped-count s im events (k + n) m out reply (event-there events (k + n) count ec few) ticks-follow er eo r f
-
-      pub next-stop : Verdict.Refused r ≡ run-from s im events .stop
-      next-stop = stopped-stop s im events (k + n) m out reply (event-there events (k + n) count ec few) ticks-follow er eo r f
-
-      pub next-image : out ≡ run-from s im events .image
-      next-image = stopped-image s im events (k + n) m out reply (event-there events (k + n) count ec few) ticks-follow er eo r f
-
-module _ (s : Shape) (im events : List ℕ) (k count : ℕ) (m : List ℕ) (whole : length events % 3 ≡ 0) (ec : count ≡ length events / 3)
-    (low : k ≤ count) (done : count ≤ k) (h : TakenFrom s im events k m) where
-  ends : run-from s im events ≡ onward k (stopped-at Verdict.Fine m)
-  ends = taken-all s im events k m whole (omega arith) h
-
-  pub ended-count : count ≡ run-from s im events .taken
-  ended-count = rw ends (omega arith)
-
-  pub ended-stop : Verdict.Fine ≡ run-from s im events .stop
-  ended-stop = rw ends
-
-  pub ended-image : m ≡ run-from s im events .image
-  ended-image = rw ends
+        let t = run-told s im events run-whole Answer.Idle ∙ ap ran-as e in
+        ran answer out (rw (at, ← es, t)) (rw (at, ← es, t) ep) (rw (at, ← es, t))
 
 -- a list's verdict
 module _ (words : ℕ) where

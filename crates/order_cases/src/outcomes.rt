@@ -1,18 +1,32 @@
-// The outcome of one order of an image's first ready task.
+// The outcome of one order of an image's first ready task: a tick of it, with time on the clock and nothing else to do.
 ghost use Prim.Native.Nat.{_<_};
-ghost use Rattle.laws.specs.Sound.{Sound};
+ghost use lib.ListN.{length};
 ghost use Rattle.shapes.specs.Entries.{Shapes};
+use happening::step;
 use inspect::inspect;
-use orders::order;
 use paper::Answer;
-use paper::Queue;
-use paper::Shape;
-use paper::Task;
+use paper::Reply;
 use paper::Verdict;
-use words::Spot;
-use words::empty;
-use words::first;
-use words::get;
+
+// The kind of a tick.
+const TICK: u16 = 0;
+
+// The places of the task table's offset, the ready queue's offset and the clock.
+const TASKS_AT: usize = 7;
+
+const READY_AT: usize = 8;
+
+const CLOCK_AT: usize = 17;
+
+// A clock by which a tick is an order.
+const SOME_TIME: u16 = 1;
+
+// The words of a queue before those that it holds, the words of a task, and where its flags stand in them.
+const LEAD: usize = 4;
+
+const TASK_WORDS: usize = 9;
+
+const FLAGS_AT: usize = 8;
 
 // The outcome of an order that is done.
 const DONE: u16 = 0;
@@ -20,10 +34,12 @@ const DONE: u16 = 0;
 // The outcome of any answer that no order gives.
 const OTHER: u16 = 65535;
 
-// The error stands in the flags from this on, and is less than the end.
+// The error stands in the flags from this on, and is less than the end; the pending service stands above it.
 const ERROR: u16 = 4;
 
 const ERROR_END: u16 = 8;
+
+const PENDING: u16 = 32;
 
 // The number that an order comes to, or that the image allows none.
 pub enum Outcome {
@@ -36,44 +52,90 @@ fn error_of(flags: u16) -> u16 {
     flags / ERROR % ERROR_END
 }
 
-// Carries out one order of a task, and answers its outcome.
-fn carried_out(s: Shape, im: &mut [u16], shapes: &[u16; 256], t: Task) -> u16
-    requires { ⌜ Sound s (now im) ⌝ }
-    requires { ⌜ t .0 < s .n ⌝ }
-    requires { ⌜ Shapes (now shapes) ⌝ }
-{
-    let answer = order(s, im, shapes, t);
+// The outcome of a tick that left a task with these flags.
+fn number_of(reply: Reply, flags: u16) -> u16 {
+    let Reply::Accepted(answer) = reply else {
+        return OTHER;
+    };
     match answer {
         Answer::OrderDone(_) => DONE,
-        Answer::OrderFaulted(_) => error_of(get(s, im, Spot::Flags(t))),
+        Answer::OrderFaulted(_) => error_of(flags),
         _ => OTHER,
     }
 }
 
-// Carries out one order of the first ready task of a sound image, and answers its outcome.
-fn first_outcome(s: Shape, im: &mut [u16], shapes: &[u16; 256]) -> Outcome
-    requires { ⌜ Sound s (now im) ⌝ }
-    requires { ⌜ Shapes (now shapes) ⌝ }
-{
-    if empty(s, im, Queue::Ready) {
-        return Outcome::Bad;
+// The word at a place of an image, or 0 past its end.
+fn word_at(im: &[u16], at: usize) -> u16 {
+    if at < im.len() {
+        return im[at];
     }
-    let task = first(s, im, Queue::Ready);
-    if task as usize >= s.n {
-        return Outcome::Bad;
-    }
-    Outcome::Number(carried_out(s, im, shapes, Task(task)))
+    0
 }
 
-// Carries out one order of the first ready task of an image, and answers its outcome.
-pub fn outcome_of(im: &mut [u16], shapes: &[u16; 256]) -> Outcome
+// The place of the first ready task's flags, by what the words of an image say.
+fn flags_place(im: &[u16]) -> usize {
+    let ready = word_at(im, READY_AT) as usize;
+    let first = ready + LEAD + word_at(im, ready) as usize;
+    let task = word_at(im, first) as usize;
+    word_at(im, TASKS_AT) as usize + TASK_WORDS * task + FLAGS_AT
+}
+
+// The flags after an order, with the error and the pending service that it left as they were.
+fn with_kept(before: u16, after: u16) -> u16 {
+    if after / ERROR % ERROR_END != 0 {
+        return after % PENDING + before / PENDING * PENDING;
+    }
+    if after / PENDING != 0 {
+        return after + before / ERROR % ERROR_END * ERROR;
+    }
+    after + before / ERROR * ERROR
+}
+
+// Puts the clock, and the error and the pending service in the flags at a place, aside: a tick is then an order.
+fn put_aside(im: &mut [u16], at: usize)
+    requires { ⌜ (17 < at) × (at < length (now im)) ⌝ }
+{
+    im[CLOCK_AT] = SOME_TIME;
+    im[at] = im[at] % ERROR;
+}
+
+// Puts them back, where the order set none.
+fn put_back(im: &mut [u16], at: usize, clock: u16, flags: u16)
+    requires { ⌜ (17 < at) × (at < length (now im)) ⌝ }
+{
+    im[CLOCK_AT] = clock;
+    im[at] = with_kept(flags, im[at]);
+}
+
+// The outcome of a tick of an image, whose first ready task's flags stand at a place.
+fn ticked(im: &mut [u16], shapes: &[u16; 256], at: usize) -> Outcome
     requires { ⌜ Shapes (now shapes) ⌝ }
+    requires { ⌜ at < length (now im) ⌝ }
 {
     let found = inspect(im);
     let verdict = found.verdict;
     let Verdict::Fine = verdict else {
         return Outcome::Bad;
     };
-    let s = found.shape;
-    first_outcome(s, im, shapes)
+    let reply = step(found.shape, im, shapes, TICK, 0, 0);
+    Outcome::Number(number_of(reply, im[at]))
+}
+
+// Carries out one order of the first ready task of an image, and answers its outcome. No order looks at what is put aside.
+pub fn outcome_of(im: &mut [u16], shapes: &[u16; 256]) -> Outcome
+    requires { ⌜ Shapes (now shapes) ⌝ }
+{
+    let at = flags_place(im);
+    if at <= CLOCK_AT {
+        return Outcome::Bad;
+    }
+    if at >= im.len() {
+        return Outcome::Bad;
+    }
+    let clock = im[CLOCK_AT];
+    let flags = im[at];
+    put_aside(im, at);
+    let outcome = ticked(im, shapes, at);
+    put_back(im, at, clock, flags);
+    outcome
 }

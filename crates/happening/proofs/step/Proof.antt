@@ -1,20 +1,17 @@
 -- Assumes nothing.
-use Rattle.happening.specs.Needs.{made-formed, step-reply, step-image}
+use Rattle.happening.specs.Needs.{one-reply, one-image}
 use borrow.Author.Needs.{needs}
 use Rattle.happening.proofs.step.Statement.{statement}
 use Rattle.happening.proofs.step.Tie as tie
 
-happen-requires : tie.Need-happen-requires
-happen-requires c κs = search made-formed
-
 returns : tie.Need-returns
-returns c = search (step-reply, step-image)
+returns c = (search one-reply, (search one-image, search needs))
 
 pub step-spec : {M : Type 1} → statement M
 step-spec =
     tie.close
     (tie.spec
+    (λ c. search needs)
     (λ c κs. search needs)
-    happen-requires
     (λ c. search needs)
     returns)

@@ -23,6 +23,7 @@ run-spec =
     (λ c. search needs)
     (λ c κs. search needs)
     take-events-requires
+    (λ c κs. search needs)
     (λ c. search needs)
     (λ c. search needs)
     returns

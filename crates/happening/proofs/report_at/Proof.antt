@@ -1,0 +1,30 @@
+-- Assumes nothing.
+use Rattle.happening.specs.Ahead.{words-no-tick}
+use Rattle.happening.specs.Needs.{lawful-sound, made-formed, nth-reply, nth-image, nth-lawful}
+use borrow.Author.Needs.{needs}
+use Rattle.happening.proofs.report_at.Statement.{statement}
+use Rattle.happening.proofs.report_at.Tie as tie
+
+report-requires : tie.Need-report-requires
+report-requires c κs = (search lawful-sound, (search made-formed, search words-no-tick))
+
+returns : tie.Need-returns
+returns c = (search nth-reply, (search nth-image, search nth-lawful))
+
+pub report-at-spec : {M : Type 1} → statement M
+report-at-spec =
+    tie.close
+    (tie.spec
+    (λ c. search needs)
+    (λ c. search needs)
+    (λ c. search needs)
+    (λ c. search needs)
+    (λ c. search needs)
+    (λ c. search needs)
+    (λ c. search needs)
+    (λ c. search needs)
+    (λ c. search needs)
+    (λ c κs. search needs)
+    report-requires
+    (λ c. search needs)
+    returns)

@@ -1,4 +1,0 @@
-pub mod Clock
-pub mod Row
-pub mod Ticks
-pub mod Needs

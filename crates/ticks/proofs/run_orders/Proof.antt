@@ -1,0 +1,51 @@
+-- Assumes nothing.
+use native.Mathlib.Omega.{arith}
+use Rattle.ticks.specs.Lent.{row-within, row-small, part-lent, part-calm, back-sound, orders-first, orders-told}
+use Rattle.ticks.specs.Needs.{lawful-sound, sound-long, least-some, least-first, least-second}
+use borrow.Author.Needs.{needs}
+use Rattle.ticks.proofs.run_orders.Statement.{statement}
+use Rattle.ticks.proofs.run_orders.Tie as tie
+
+mul-orders : tie.Need-mul-orders
+mul-orders c = let p = c .before .before .pre in omega (arith, row-small _ _ _ (lawful-sound _ _ (p .0)) (p .1 .1 .0))
+
+sub-orders : tie.Need-sub-orders
+sub-orders c = search (row-within, lawful-sound)
+
+part-orders-start : tie.Need-part-orders-start
+part-orders-start c = search (row-within, lawful-sound)
+
+orders-requires : tie.Need-orders-requires
+orders-requires c κs = (search (part-lent, lawful-sound), (search needs, (search (part-calm, lawful-sound), search least-some)))
+
+sub-put : tie.Need-sub-put
+sub-put c = search least-second
+
+put-requires : tie.Need-put-requires
+put-requires c κs = (search (back-sound, lawful-sound), search needs)
+
+same-length : tie.Need-same-length
+same-length c = search (sound-long, lawful-sound)
+
+returns : tie.Need-returns
+returns c = let o = c .before .before .before .before .before .before in
+    let p = o .before .before .before .before .pre in
+    let h = lawful-sound _ _ (p .0) in
+    let e = o .orders .ensures in
+    (search least-first, (orders-told _ _ _ h (p .1 .1 .0) _ _ (e .1 .0) (e .1 .1) _ (p .1 .1 .1 .1 .0) (e .0 .0) (search least-second) _ (c .before .before .put .ensures .0), search (orders-first, lawful-sound)))
+
+pub run-orders-spec : {M : Type 1} → statement M
+run-orders-spec =
+    tie.close
+    (tie.spec
+    (λ c κs. search needs)
+    mul-orders
+    sub-orders
+    part-orders-start
+    (λ c. search needs)
+    orders-requires
+    sub-put
+    put-requires
+    (λ c. search needs)
+    same-length
+    returns)

@@ -1,0 +1,259 @@
+// Ticks: the rules of the first task, one after another, for as long as ticks follow.
+ghost use mathlib.Core.Path.{_≡_};
+ghost use mathlib.Core.Bool.{false};
+ghost use Prim.Native.Nat.{_<_, _≤_, min};
+ghost use Rattle.paper.specs.Image.{at as word-at, clock as clock-cell, flags as flags-cell};
+ghost use Rattle.paper.specs.Queues.{empty as empty-of};
+ghost use Rattle.paper.specs.declared.Answer.{Answer};
+ghost use Rattle.paper.specs.declared.Reply.{Reply};
+ghost use Rattle.paper.specs.declared.Queue.the-variants.{Ready};
+ghost use Rattle.laws.specs.Stays.{Lawful};
+ghost use Rattle.bound.specs.Ticks.{stays-first};
+ghost use Rattle.shapes.specs.Entries.{Shapes};
+ghost use Rattle.ticks.specs.Seated.{First, FirstIf};
+ghost use Rattle.ticks.specs.Told.{by-flags, Told, AtMost, Passes};
+use events::before_order;
+use events::turn;
+use machine::Segment;
+use machine::orders;
+use paper::Answer;
+use paper::Cell;
+use paper::Part;
+use paper::Place;
+use paper::Queue;
+use paper::Reply;
+use paper::Shape;
+use paper::Task;
+use places::place_of;
+use results::error_of;
+use words::Spot;
+use words::empty;
+use words::entry;
+use words::first;
+use words::get;
+use words::put;
+
+// Flags from this on have an error or a service pending.
+const ERROR: u16 = 4;
+
+// The words of an entry of the segment table.
+const BASE: usize = 0;
+
+const LENGTH: usize = 1;
+
+// A task, the place of its row, and where its segment lies from there.
+pub struct Seat {
+    pub task: Task,
+    pub row: Place,
+    pub segment: Segment,
+}
+
+// What one tick, or orders in a row, came to: how many ticks were taken, the reply of the last, and whether the first task is first still.
+pub struct Gone {
+    pub taken: usize,
+    pub last: Reply,
+    pub stays: bool,
+}
+
+// How many ticks were taken, and the reply of the last, or of the one that was refused.
+pub struct Passed {
+    pub taken: usize,
+    pub last: Reply,
+}
+
+// The seat of the first task, which there is.
+fn first_seat(s: Shape, im: &[u16]) -> Seat
+    requires { ⌜ Lawful s (now im) ⌝ }
+    requires { ⌜ empty-of s (now im) Ready ≡ false ⌝ }
+    ensures { λ r. ⌜ First s (now (im .entry)) r ⌝ }
+{
+    let t = Task(first(s, im, Queue::Ready));
+    let row = place_of(
+        s,
+        Cell {
+            part: Part::TaskTable,
+            row: t.0 as usize,
+            column: 0,
+        },
+    );
+    let from = entry(s, im, t, BASE) as usize - row.0;
+    Seat {
+        task: t,
+        row: row,
+        segment: Segment {
+            from: from,
+            to: from + entry(s, im, t, LENGTH) as usize,
+        },
+    }
+}
+
+// The lesser of two numbers.
+fn least(a: usize, b: u16) -> u16
+    ensures { λ r. ⌜ r ≡ min a b ⌝ }
+{
+    if a < b as usize {
+        return a as u16;
+    }
+    b
+}
+
+// At most so many orders of a task, for as long as the clock runs, which is not 0: how many there were. The clock is written once.
+fn run_orders(
+    s: Shape,
+    im: &mut [u16],
+    shapes: &[u16; 256],
+    x: Seat,
+    clock: u16,
+    most: usize,
+) -> usize
+    requires { ⌜ Lawful s (now im) ⌝ }
+    requires { ⌜ Shapes (now shapes) ⌝ }
+    requires { ⌜ First s (now im) x ⌝ }
+    requires { ⌜ word-at s (now im) (flags-cell (x .task)) < 4 ⌝ }
+    requires { ⌜ clock ≡ word-at s (now im) clock-cell ⌝ }
+    requires { ⌜ (0 < clock) × (0 < most) ⌝ }
+    ensures { λ r. ⌜ r ≤ most ⌝ }
+    ensures { λ r. ⌜ Told s (now (im .entry)) r (by-flags (word-at s (now (im .exit)) (flags-cell (x .task))) (x .task)) (now (im .exit)) ⌝ }
+    ensures { λ _. ⌜ First s (now (im .exit)) x ⌝ }
+{
+    let ticks = least(most, clock);
+    let row = x.row.0;
+    let taken = orders(&mut im[row..], shapes, x.segment, ticks);
+    put(s, im, Spot::Clock, clock - taken);
+    taken as usize
+}
+
+// The reply of an order after which the flags are f.
+fn by_flags(f: u16, t: Task) -> Reply
+    ensures { λ r. ⌜ r ≡ by-flags f t ⌝ }
+{
+    if error_of(f) == 0 {
+        return Reply::Accepted(Answer::OrderDone(t));
+    }
+    Reply::Accepted(Answer::OrderFaulted(t))
+}
+
+// Whether the first task is first still after a tick with a reply.
+fn stays(r: Reply) -> bool
+    ensures { λ b. ⌜ b ≡ stays-first r ⌝ }
+{
+    match r {
+        Reply::Accepted(a) => match a {
+            Answer::ServiceDone(_) => true,
+            Answer::ServiceFaulted(_) => true,
+            _ => false,
+        },
+        Reply::Refused(_) => false,
+    }
+}
+
+// A tick by a rule that comes before an order: the flags have an error or a service pending.
+fn rule(s: Shape, im: &mut [u16], x: Seat, flags: u16, clock: u16) -> Gone
+    requires { ⌜ Lawful s (now im) ⌝ }
+    requires { ⌜ First s (now im) x ⌝ }
+    requires { ⌜ flags ≡ word-at s (now im) (flags-cell (x .task)) ⌝ }
+    requires { ⌜ clock ≡ word-at s (now im) clock-cell ⌝ }
+    requires { ⌜ 4 ≤ flags ⌝ }
+    ensures { λ r. ⌜ AtMost 1 (r .taken) (r .last) ⌝ }
+    ensures { λ r. ⌜ Told s (now (im .entry)) (r .taken) (r .last) (now (im .exit)) ⌝ }
+    ensures { λ r. ⌜ FirstIf (r .stays) s (now (im .exit)) x ⌝ }
+{
+    let last = before_order(s, im, x.task, flags, clock);
+    if let Reply::Refused(_) = last {
+        return Gone {
+            taken: 0,
+            last: last,
+            stays: false,
+        };
+    }
+    Gone {
+        taken: 1,
+        last: last,
+        stays: stays(last),
+    }
+}
+
+// One tick by the rules of the first task, or orders of it in a row.
+fn go_on(s: Shape, im: &mut [u16], shapes: &[u16; 256], x: Seat, most: usize) -> Gone
+    requires { ⌜ Lawful s (now im) ⌝ }
+    requires { ⌜ Shapes (now shapes) ⌝ }
+    requires { ⌜ First s (now im) x ⌝ }
+    requires { ⌜ 0 < most ⌝ }
+    ensures { λ r. ⌜ AtMost most (r .taken) (r .last) ⌝ }
+    ensures { λ r. ⌜ Told s (now (im .entry)) (r .taken) (r .last) (now (im .exit)) ⌝ }
+    ensures { λ r. ⌜ FirstIf (r .stays) s (now (im .exit)) x ⌝ }
+{
+    let t = x.task;
+    let flags = get(s, im, Spot::Flags(t));
+    let clock = get(s, im, Spot::Clock);
+    if ERROR <= flags {
+        return rule(s, im, x, flags, clock);
+    }
+    if clock == 0 {
+        turn(s, im, t);
+        return Gone {
+            taken: 1,
+            last: Reply::Accepted(Answer::TurnPassed(t)),
+            stays: false,
+        };
+    }
+    let taken = run_orders(s, im, shapes, x, clock, most);
+    Gone {
+        taken: taken,
+        last: by_flags(get(s, im, Spot::Flags(t)), t),
+        stays: true,
+    }
+}
+
+// So many ticks with nobody ready.
+fn idled(most: usize) -> Passed
+    ensures { λ r. ⌜ (r .taken ≡ most) × (r .last ≡ Reply.Accepted Answer.Idle) ⌝ }
+{
+    Passed {
+        taken: most,
+        last: Reply::Accepted(Answer::Idle),
+    }
+}
+
+// At most so many ticks, up to one that is refused.
+pub fn ticks(s: Shape, im: &mut [u16], shapes: &[u16; 256], most: usize) -> Passed
+    requires { ⌜ Lawful s (now im) ⌝ }
+    requires { ⌜ Shapes (now shapes) ⌝ }
+    requires { ⌜ 0 < most ⌝ }
+    ensures { λ r. ⌜ Passes s (now (im .entry)) most (r .taken) (r .last) (now (im .exit)) ⌝ }
+    ensures { λ _. ⌜ Lawful s (now (im .exit)) ⌝ }
+{
+    if empty(s, im, Queue::Ready) {
+        return idled(most);
+    }
+    let mut x = first_seat(s, im);
+    let mut taken: usize = 0;
+    let mut last = Reply::Accepted(Answer::Idle);
+    while taken < most {
+        let gone = go_on(s, im, shapes, x, most - taken);
+        taken += gone.taken;
+        last = gone.last;
+        if let Reply::Refused(_) = last {
+            return Passed {
+                taken: taken,
+                last: last,
+            };
+        }
+        if !gone.stays {
+            if empty(s, im, Queue::Ready) {
+                if taken < most {
+                    return idled(most);
+                }
+                return Passed {
+                    taken: taken,
+                    last: last,
+                };
+            }
+            x = first_seat(s, im);
+        }
+    }
+    Passed {
+        taken: taken,
+        last: last,
+    }
+}
