@@ -579,8 +579,15 @@ static always_inline struct told report(const struct layout *l, word *im, word k
         a = order >> 4 & 7;                                                                                            \
         b = order & 7;                                                                                                 \
         next = pc + 1;                                                                                                 \
-        goto *SHAPES[order >> 8];                                                                                      \
+        DISPATCH();                                                                                                    \
     } while (0)
+
+/* Goes to the code of an order: from each order by itself, or in the switch form from one place for all. */
+#ifdef SWITCH_FORM
+#define DISPATCH() goto dispatch
+#else
+#define DISPATCH() goto *SHAPES[order >> 8]
+#endif
 
 /* Refuses an order in which any of these bits of the low byte is set. */
 #define UNUSED(bits)                                                                                                   \
@@ -618,15 +625,41 @@ static always_inline struct told report(const struct layout *l, word *im, word k
  * It must have no error and nothing pending. Gives how many ticks were taken.
  */
 static size_t orders(word *restrict row, word *restrict segment, uint32_t length, size_t most) {
+#ifndef SWITCH_FORM
     static const void *const SHAPES[256] = {
         &&bad_order, &&load,     &&copy,      &&fetch,   &&store,
         &&add,       &&subtract, &&multiply,  &&divide,  &&remainder,
         &&and_,      &&or_,      &&xor_,      &&compare, &&jump,
         &&jump_if,   &&call,     &&give_back, &&service, [19 ... 255] = &&bad_order,
     };
+#endif
     uint32_t pc = row[NEXT], cc = row[FLAGS], error, order, a, b, next, address, n;
     size_t taken = 0;
     GO_ON();
+#ifdef SWITCH_FORM
+dispatch:
+    switch (order >> 8) {
+    case 1: goto load;
+    case 2: goto copy;
+    case 3: goto fetch;
+    case 4: goto store;
+    case 5: goto add;
+    case 6: goto subtract;
+    case 7: goto multiply;
+    case 8: goto divide;
+    case 9: goto remainder;
+    case 10: goto and_;
+    case 11: goto or_;
+    case 12: goto xor_;
+    case 13: goto compare;
+    case 14: goto jump;
+    case 15: goto jump_if;
+    case 16: goto call;
+    case 17: goto give_back;
+    case 18: goto service;
+    default: goto bad_order;
+    }
+#endif
 load:
     UNUSED(0x8F);
     INSIDE(next);

@@ -24,19 +24,30 @@ fn compiler() -> String {
     env::var("BENCH_CC").unwrap_or_else(|_| "clang".into())
 }
 
+/// The baseline in C twice: with labels as values, and with one switch, whose calls have names of their own.
 fn compile_c(folder: &Path) {
-    let object = folder.join("kernel_baseline.o");
+    let labels = object(folder, "kernel_baseline.o", &[]);
+    let renamed: Vec<String> =
+        ["check", "size", "build", "event", "run"].iter().map(|call| format!("-Dc_{call}=switch_{call}")).collect();
+    let mut form = vec!["-DSWITCH_FORM"];
+    form.extend(renamed.iter().map(String::as_str));
+    let switch = object(folder, "kernel_baseline_switch.o", &form);
+    run(Command::new("ar").arg("crs").arg(folder.join("libkernel_baseline.a")).arg(labels).arg(switch));
+    println!("cargo:rustc-link-search=native={}", folder.display());
+    println!("cargo:rustc-link-lib=static=kernel_baseline");
+}
+
+fn object(folder: &Path, name: &str, more: &[&str]) -> PathBuf {
+    let object = folder.join(name);
     let mut compile = Command::new(compiler());
-    compile.args(FLAGS);
+    compile.args(FLAGS).args(more);
     if env::var("BENCH_SANITIZE").is_ok() {
         compile.args(SANITIZE);
         println!("cargo:rustc-link-arg={}", SANITIZE[0]);
     }
     compile.args(["-c", "../c/kernel_baseline.c", "-o"]).arg(&object);
     run(&mut compile);
-    run(Command::new("ar").arg("crs").arg(folder.join("libkernel_baseline.a")).arg(&object));
-    println!("cargo:rustc-link-search=native={}", folder.display());
-    println!("cargo:rustc-link-lib=static=kernel_baseline");
+    object
 }
 
 fn link_product(archive: &Path) {

@@ -57,6 +57,7 @@ macro_rules! archive_calls {
 }
 
 archive_calls!(c, c_check, c_size, c_build, c_event, c_run);
+archive_calls!(switch, switch_check, switch_size, switch_build, switch_event, switch_run);
 #[cfg(product)]
 archive_calls!(product, kernel_check, kernel_size, kernel_build, kernel_event, kernel_run);
 
@@ -105,7 +106,7 @@ pub const RUST: Kernel = Kernel {
     translate: Some(baseline::translate),
 };
 
-/// The kernel in C.
+/// The kernel in C, from order to order by labels as values.
 const C: Kernel = Kernel {
     name: "C",
     check: c::check,
@@ -116,9 +117,20 @@ const C: Kernel = Kernel {
     translate: None,
 };
 
-/// The product where it is linked, then the two baselines.
+/// The same, from order to order by one switch: what labels alone bring.
+const SWITCH: Kernel = Kernel {
+    name: "C switch",
+    check: switch::check,
+    size: switch::size,
+    build: switch::build,
+    event: switch::event,
+    run: switch::run,
+    translate: None,
+};
+
+/// The product where it is linked, then the two baselines, then the switch form of one of them.
 pub fn all() -> Vec<Kernel> {
-    PRODUCT.into_iter().chain([RUST, C]).collect()
+    PRODUCT.into_iter().chain([RUST, C, SWITCH]).collect()
 }
 
 /// Those of them that translate: the last is the baseline in Rust.

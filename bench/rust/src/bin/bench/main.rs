@@ -54,11 +54,12 @@ fn kernel_names() -> Vec<&'static str> {
 fn measure_all(svg: &str) -> Result<(), String> {
     let kernels = kernels::all();
     let names = kernel_names();
+    let baselines = kernels.len() - 3..kernels.len() - 1;
     println!("Nanoseconds an event or call, the least of {} rounds.", measure::ROUNDS);
     println!("{}", report::heading(&names, "faster"));
     let mut rows = Vec::new();
     for workload in workloads::all() {
-        let row = Row::new(&workload.name, measure::measure(&kernels, &workload)?, 2);
+        let row = Row::new(&workload.name, measure::measure(&kernels, &workload)?, baselines.clone());
         println!("{}", row.line(names.len()));
         rows.push(row);
     }
@@ -73,7 +74,11 @@ fn measure_texts(names: &[&str]) -> Result<(), String> {
     println!("Texts: nanoseconds a line, the least of {} rounds.", measure::ROUNDS);
     println!("{}", report::heading(names, "Rust"));
     for workload in workloads::texts() {
-        let row = Row::new(&workload.name, measure::measure(&translators, &workload)?, 1);
+        let row = Row::new(
+            &workload.name,
+            measure::measure(&translators, &workload)?,
+            translators.len() - 1..translators.len(),
+        );
         println!("{}", row.line(names.len()));
     }
     Ok(())

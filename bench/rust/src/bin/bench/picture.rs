@@ -9,7 +9,8 @@ const RIGHT: f64 = 90.0;
 const TOP: f64 = 70.0;
 const BAR: f64 = 11.0;
 const GAP: f64 = 14.0;
-const COLOURS: [(&str, &str); 3] = [("product", "#1b6ca8"), ("Rust", "#d9822b"), ("C", "#8a8f98")];
+const COLOURS: [(&str, &str); 4] =
+    [("product", "#1b6ca8"), ("Rust", "#d9822b"), ("C", "#8a8f98"), ("C switch", "#c3c7cd")];
 
 /// The picture of all rows, as SVG.
 pub fn picture(names: &[&str], rows: &[Row]) -> String {
