@@ -18,11 +18,14 @@ pub record Outcome : Type 0 where
   pub reply : Reply
   pub image : List ℕ
 
+abbrev pub outcome : Reply → List ℕ → Outcome
+outcome r im = record { reply = r; image = im }
+
 abbrev pub accepted : Answer → List ℕ → Outcome
-accepted a im = record { reply = Reply.Accepted a; image = im }
+accepted a im = outcome (Reply.Accepted a) im
 
 abbrev pub refused : Refusal → List ℕ → Outcome
-refused r im = record { reply = Reply.Refused r; image = im }
+refused r im = outcome (Reply.Refused r) im
 
 -- dispatch: clock becomes S, or 0 if the ready queue is empty
 unfoldable pub dispatched : Shape → List ℕ → List ℕ
