@@ -6,24 +6,24 @@ use Prim.Native.Nat.{ℕ, _+_, _<_, _≤_}
 use native.Mathlib.Omega.{arith}
 use lib.Dec.{eqb}
 use lib.ListN.{getD, set, length}
-use Rattle.paper.specs.Image.{lead, Valid, place, at, put}
+use Rattle.paper.specs.Image.{most-words, lead, cell, Valid, place, at, put}
 use Rattle.paper.specs.Queues.{Has, header-capacity, queue-word, head, count, slot, appended, first, taken, empty, full}
 use Rattle.paper.specs.declared.Place.{Place}
 use Rattle.paper.specs.declared.Shape.{Shape}
 use Rattle.paper.specs.declared.Cell.{Cell}
+use Rattle.paper.specs.declared.Part.{Part}
 use Rattle.paper.specs.declared.Queue.{Queue}
 use Rattle.laws.specs.Places.{below}
 use Rattle.laws.specs.Queues.{word-valid}
 use Rattle.laws.specs.Sound.{Sound, sound, has-room, has-word, fixed, put-sound, appended-sound, taken-sound}
 use Rattle.rings.specs.Ring.{Ring, append-at, first-at, take-at}
-use Rattle.words.specs.Names.{spot-cell, Names}
+use Rattle.words.specs.Names.{spot-cell, Names, Rowed}
 use Rattle.words.specs.declared.Spot.{Spot}
+use Rattle.words.specs.declared.Row.{Row}
 
 -- a spot is a cell of the image, past the fixed words of its row
 pub spot-valid : (s : Shape) (x : Spot) → Names s x → Valid s (spot-cell x)
 spot-valid s Spot.Clock h = omega arith
-spot-valid s (Spot.Register i r) h = omega arith
-spot-valid s (Spot.Flags i) h = omega arith
 spot-valid s (Spot.Status i) h = omega arith
 spot-valid s (Spot.Peer i) h = omega arith
 spot-valid s (Spot.Busy i) h = omega arith
@@ -31,8 +31,6 @@ spot-valid s (Spot.Character i) h = omega arith
 
 spot-free : (x : Spot) → fixed (spot-cell x .part) ≤ spot-cell x .column
 spot-free Spot.Clock = omega arith
-spot-free (Spot.Register i r) = omega arith
-spot-free (Spot.Flags i) = omega arith
 spot-free (Spot.Status i) = omega arith
 spot-free (Spot.Peer i) = omega arith
 spot-free (Spot.Busy i) = omega arith
@@ -57,6 +55,35 @@ module _ (s : Shape) (im out : List ℕ) (x : Spot) (c : Cell) (p : Place) (v : 
 
   pub spot-put-sound : Sound s im → Names s x → Sound s out
   spot-put-sound h n = rw spot-put (put-sound s im (spot-cell x) v (spot-valid s x n) (spot-free x) h)
+
+-- a word of a task's row, as it lies from the row's place on
+abbrev own-cell : Row → ℕ → Cell
+own-cell x k = cell Part.TaskTable (x .task .0) k
+
+module _ (s : Shape) (im : List ℕ) (x : Row) (k : ℕ) (h : Sound s im) (r : Rowed s x) (hk : k < 9) where
+  own-along : place s (own-cell x k) .0 ≡ x .place .0 + k
+  unfolding place
+  own-along = omega (arith, ap (λ (p : Place). p .0) (r .placed))
+
+  own-valid : Valid s (own-cell x k)
+  own-valid = (r .known, hk)
+
+  pub own-inside : x .place .0 + k < length im
+  own-inside = omega (arith, own-along, below s (own-cell x k) own-valid, sound h .laid .words)
+
+  pub own-small : x .place .0 + k < most-words
+  own-small = omega (arith, own-inside, sound h .laid .words, sound h .laid .fit .words)
+
+  pub own-is : (w : ℕ) → w ≡ getD im (x .place .0 + k) 0 → w ≡ at s im (own-cell x k)
+  unfolding at
+  own-is w e = rw own-along e
+
+  pub own-put : (v : ℕ) → set im (x .place .0 + k) v ≡ put s im (own-cell x k) v
+  unfolding put
+  own-put v = rw own-along
+
+  pub own-put-sound : (v : ℕ) → Sound s (set im (x .place .0 + k) v)
+  own-put-sound v = rw (own-put v) (put-sound s im (own-cell x k) v own-valid (omega arith) h)
 
 -- the head of a queue is a cell of the image
 pub head-valid : (s : Shape) (q : Queue) (c : Cell) → c ≡ head s q → Has s q → Valid s c

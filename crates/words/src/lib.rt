@@ -3,11 +3,11 @@ ghost use mathlib.Core.Path.{_≡_};
 ghost use mathlib.Core.Bool.{false};
 ghost use Prim.Native.Nat.{_<_};
 ghost use Rattle.paper.specs.Image.{cell, place, at as word-at, put as put-word};
-ghost use Rattle.paper.specs.declared.Part.the-variants.{SegmentTable};
+ghost use Rattle.paper.specs.declared.Part.the-variants.{TaskTable, SegmentTable};
 ghost use Rattle.paper.specs.Rules.{Fit};
 ghost use Rattle.paper.specs.Queues.{Has, head, appended, first as first-of, taken, count as count-cell, empty as empty-of, full as full-of};
 ghost use Rattle.laws.specs.Sound.{Sound};
-ghost use Rattle.words.specs.Names.{spot-cell, Names};
+ghost use Rattle.words.specs.Names.{spot-cell, Names, Rowed};
 use paper::Cell;
 use paper::Part;
 use paper::Place;
@@ -24,16 +24,23 @@ use rings::first_at;
 use rings::full_at;
 use rings::take_at;
 
-// The words that may be written one by one: all but the header's, the queues', the segment table's and the segments'.
+// The words that may be written one by one: all but the header's, the task table's, the queues', the segment table's and the segments'.
 pub enum Spot {
     Clock,
-    Register(Task, usize),
-    Flags(Task),
     Status(Task),
     Peer(Task),
     Busy(Task),
     Character(Task),
 }
+
+// A task's row of the task table: the task, and the place of the row's first word.
+pub struct Row {
+    pub task: Task,
+    pub place: Place,
+}
+
+// The column of the flags in a row of the task table; before it are the registers.
+pub const FLAGS: usize = 8;
 
 // The cell that a spot names.
 fn cell_of(x: Spot) -> Cell
@@ -44,16 +51,6 @@ fn cell_of(x: Spot) -> Cell
             part: Part::Header,
             row: 0,
             column: 17,
-        },
-        Spot::Register(t, r) => Cell {
-            part: Part::TaskTable,
-            row: t.0 as usize,
-            column: r,
-        },
-        Spot::Flags(t) => Cell {
-            part: Part::TaskTable,
-            row: t.0 as usize,
-            column: 8,
         },
         Spot::Status(t) => Cell {
             part: Part::StatusTable,
@@ -180,4 +177,45 @@ pub fn entry(s: Shape, im: &[u16], t: Task, k: usize) -> u16
             column: k,
         },
     )
+}
+
+// The row of a task.
+pub fn row_of(s: Shape, t: Task) -> Row
+    requires { ⌜ Fit s ⌝ }
+    requires { ⌜ t .0 < s .n ⌝ }
+    ensures { λ r. ⌜ r .task ≡ t ⌝ }
+    ensures { λ r. ⌜ Rowed s r ⌝ }
+{
+    let first = Cell {
+        part: Part::TaskTable,
+        row: t.0 as usize,
+        column: 0,
+    };
+    Row {
+        task: t,
+        place: place_of(s, first),
+    }
+}
+
+// A word of a row.
+pub fn own(s: Shape, im: &[u16], x: Row, k: usize) -> u16
+    requires { ⌜ Sound s (now im) ⌝ }
+    requires { ⌜ Rowed s x ⌝ }
+    requires { ⌜ k < 9 ⌝ }
+    ensures { λ r. ⌜ r ≡ word-at s (now (im .entry)) (cell TaskTable (x .task .0) k) ⌝ }
+{
+    let at = x.place.0 + k;
+    im[at]
+}
+
+// Writes a word of a row.
+pub fn put_own(s: Shape, im: &mut [u16], x: Row, k: usize, v: u16)
+    requires { ⌜ Sound s (now im) ⌝ }
+    requires { ⌜ Rowed s x ⌝ }
+    requires { ⌜ k < 9 ⌝ }
+    ensures { λ _. ⌜ now (im .exit) ≡ put-word s (now (im .entry)) (cell TaskTable (x .task .0) k) v ⌝ }
+    ensures { λ _. ⌜ Sound s (now (im .exit)) ⌝ }
+{
+    let at = x.place.0 + k;
+    im[at] = v;
 }

@@ -1,4 +1,4 @@
--- Assumes nothing.
+-- Each arm is the cell that the definition gives for its spot.
 use borrow.Author.Needs.{needs}
 use Rattle.words.proofs.cell_of.Statement.{statement}
 use Rattle.words.proofs.cell_of.Tie as tie
@@ -18,12 +18,6 @@ returns-4 c = rw (c .before .before .x3 .given .1)
 returns-5 : tie.Need-returns-5
 returns-5 c = rw (c .before .before .x4 .given .1)
 
-returns-6 : tie.Need-returns-6
-returns-6 c = rw (c .before .before .x5 .given .1)
-
-returns-7 : tie.Need-returns-7
-returns-7 c = rw (c .before .before .x6 .given .1)
-
 pub cell-of-spec : {M : Type 1} → statement M
 cell-of-spec =
     tie.close
@@ -37,14 +31,8 @@ cell-of-spec =
     (λ c. search needs)
     (λ c. search needs)
     (λ c. search needs)
-    (λ c. search needs)
-    (λ c. search needs)
-    (λ c. search needs)
-    (λ c. search needs)
     returns
     returns-2
     returns-3
     returns-4
-    returns-5
-    returns-6
-    returns-7)
+    returns-5)
