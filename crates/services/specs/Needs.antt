@@ -1,5 +1,5 @@
 -- What the calls of this crate ask and make, as laws over values. Assumes nothing.
-use mathlib.Core.Path.{_≡_, refl, sym, _∙_}
+use mathlib.Core.Path.{_≡_, refl, sym, ap, _∙_}
 use mathlib.Core.List.{List}
 use mathlib.Core.Bool.{Bool, true, false, _&&_}
 use mathlib.Core.Logic.{_≢_}
@@ -8,10 +8,10 @@ use native.Mathlib.Omega.{arith}
 use borrow.Author.Tests.{lt-ltb, le-ltb, le-leb, lt-leb, eq-eqb, ne-eqb, not-true, not-false}
 use lib.Dec.{eqb, leb, ltb}
 use Rattle.paper.specs.Image.{task, most-character, at, put, reg, flags, status, peer, busy, character}
-use Rattle.paper.specs.Queues.{count, appended, first, taken, empty, full}
+use Rattle.paper.specs.Queues.{part-of, Has, count, appended, first, taken, empty, full}
 use Rattle.paper.specs.Flags.{flags-of, cc-of, cc as cc-in, error, waits}
-use Rattle.paper.specs.Waking.{Outcome, refused, with-status, left, woken, one-if, with-woken, unless-full}
-use Rattle.paper.specs.Services.{other, given, error-if, service-faulted, no-such-task, no-character, fault-of, blocked, awaited, waiting, delivered, printing, printing-if-idle, moved, served, waits-for, wakes, finished, service}
+use Rattle.paper.specs.Waking.{Outcome, outcome, accepted, refused, with-status, left, woken, one-if, with-woken, unless-full}
+use Rattle.paper.specs.Services.{other, given, error-if, service-faulted, no-such-task, no-character, fault-of, buffer, blocks, blocked, awaited, waiting, delivered, printing, printing-if-idle, moves, moved, served, waits-for, wakes, finished, service}
 use Rattle.paper.specs.declared.Task.{Task}
 use Rattle.paper.specs.declared.Shape.{Shape}
 use Rattle.paper.specs.declared.Queue.{Queue}
@@ -28,16 +28,20 @@ use Rattle.laws.specs.Moved.{moved-parts, apart-full, sent-apart, delivered-apa
 use Rattle.waking.specs.Room.{Room, has-room}
 use Rattle.services.specs.Done.{done}
 
+-- an outcome is its reply and its image
+pub outcomes : {r q : Reply} {m l : List ℕ} → r ≡ q → m ≡ l → outcome r m ≡ outcome q l
+outcomes er em = rw (er, em)
+
 -- whether a task waits for another
 pub tested : (s : Shape) (im : List ℕ) (j i : Task) (w k p : ℕ) (r : Bool) → k ≡ at s im (status j) → p ≡ at s im (peer j) → r ≡ (eqb k w && eqb p (i .0))
     → r ≡ (eqb (at s im (status j)) w && eqb (at s im (peer j)) (i .0))
 tested s im j i w k p r ek ep er = rw (← ek, ← ep) er
 
 -- a service faults
-pub faulted : (s : Shape) (im out : List ℕ) (i : Task) (f w e : ℕ) → f ≡ at s im (flags i) → w ≡ flags-of (cc-of f) e 0 → out ≡ put s im (flags i) w
-    → out ≡ service-faulted s im i e
+pub faulted : (s : Shape) (im out : List ℕ) (i : Task) (r : Reply) (f w e : ℕ) → r ≡ Reply.Accepted (Answer.ServiceFaulted i) → f ≡ at s im (flags i)
+    → w ≡ flags-of (cc-of f) e 0 → out ≡ put s im (flags i) w → outcome r out ≡ accepted (Answer.ServiceFaulted i) (service-faulted s im i e)
 unfolding service-faulted
-faulted s im out i f w e ef ew eo = rw (← ef, ← ew) eo
+faulted s im out i r f w e er ef ew eo = outcomes er (rw (← ef, ← ew) eo)
 
 -- the first task waits
 module _ (s : Shape) (im m : List ℕ) (i : Task) (k p : ℕ) (em : m ≡ with-status s im i k p) where
@@ -47,18 +51,22 @@ module _ (s : Shape) (im m : List ℕ) (i : Task) (k p : ℕ) (em : m ≡ with-s
       let c : at s m (count s Queue.Ready) ≡ at s im (count s Queue.Ready) = rw em (search cells) in
       rw c h
 
-  pub gone : (out : List ℕ) → out ≡ left s m → out ≡ left s (with-status s im i k p)
-  gone out eo = rw (← em) eo
+  pub gone : (r : Reply) (out : List ℕ) → r ≡ Reply.Accepted (Answer.ServiceWaits i) → out ≡ left s m
+      → outcome r out ≡ accepted (Answer.ServiceWaits i) (left s (with-status s im i k p))
+  gone r out er eo = outcomes er (rw (← em) eo)
 
 -- a word moves, and nothing is pending
-module _ (s : Shape) (im m out : List ℕ) (i : Task) (q : Queue) (f w : ℕ) (ef : f ≡ flags-of (cc-in s im i) (error s im i) 0) where
-  pub passes : w ≡ given s im i → m ≡ appended s im q w → out ≡ put s m (flags i) f → out ≡ done s im i (appended s im q (given s im i))
+module _ (s : Shape) (im m out : List ℕ) (i : Task) (q : Queue) (f w : ℕ) (ef : f ≡ flags-of (cc-in s im i) (error s im i) 0) (r : Reply)
+    (er : r ≡ Reply.Accepted (Answer.ServiceDone i)) where
+  pub passes : w ≡ given s im i → m ≡ appended s im q w → out ≡ put s m (flags i) f
+      → outcome r out ≡ accepted (Answer.ServiceDone i) (done s im i (appended s im q (given s im i)))
   unfolding done
-  passes ew em eo = rw (← ew, ← em, ← ef) eo
+  passes ew em eo = outcomes er (rw (← ew, ← em, ← ef) eo)
 
-  pub delivers : (l : List ℕ) → w ≡ first s im q → m ≡ taken s im q → l ≡ put s m (reg i 3) w → out ≡ put s l (flags i) f → out ≡ done s im i (delivered s im i q)
+  pub delivers : (l : List ℕ) → w ≡ first s im q → m ≡ taken s im q → l ≡ put s m (reg i 3) w → out ≡ put s l (flags i) f
+      → outcome r out ≡ accepted (Answer.ServiceDone i) (done s im i (delivered s im i q))
   unfolding done delivered
-  delivers l ew em el eo = rw (← ew, ← em, ← el, ← ef) eo
+  delivers l ew em el eo = outcomes er (rw (← ew, ← em, ← el, ← ef) eo)
 
 -- words printed
 pub prints : (s : Shape) (im m l out : List ℕ) (i : Task) (w : ℕ) → w ≡ first s im (Queue.Output i) → m ≡ taken s im (Queue.Output i)
@@ -82,118 +90,129 @@ module _ (s : Shape) (im m : List ℕ) (i : Task) (w : ℕ) (h : Sound s im) (hi
 
 -- what a service comes to whose number is not wrong: the buffer first
 module _ (s : Shape) (im : List ℕ) (i : Task) (v : Service) (right : fault-of s im i v ≡ Fault.Nothing) (b : Bool) (eb : b ≡ blocked s im i v) where
-  pub waits-reply : (r : Reply) → b ≡ true → r ≡ Reply.Accepted (Answer.ServiceWaits i) → r ≡ service s im i v .reply
-  unfolding service
-  waits-reply r t er = rw (right, ← eb, t) er
-
-  pub waits-image : (out : List ℕ) (p : ℕ) → b ≡ true → p ≡ awaited s im i v → out ≡ left s (with-status s im i (waits v) p) → out ≡ service s im i v .image
+  pub comes-to-wait : (o : Outcome) (p : ℕ) → b ≡ true → p ≡ awaited s im i v → o ≡ accepted (Answer.ServiceWaits i) (left s (with-status s im i (waits v) p))
+      → o ≡ service s im i v
   unfolding service waiting
-  waits-image out p t ep eo = rw (right, ← eb, t, ← ep) eo
+  comes-to-wait o p t ep eo = rw (right, ← eb, t, ← ep) eo
 
   -- then the word moves, and nobody is woken
-  module _ (t : b ≡ false) (nobody : wakes s im i v ≡ Woken.Nobody) where
-    pub done-reply : (r : Reply) → r ≡ Reply.Accepted (Answer.ServiceDone i) → r ≡ service s im i v .reply
-    unfolding service finished unless-full
-    done-reply r er = rw (right, ← eb, t, nobody) er
+  pub comes-to-pass : (o : Outcome) → b ≡ false → wakes s im i v ≡ Woken.Nobody → o ≡ accepted (Answer.ServiceDone i) (done s im i (moved s im i v)) → o ≡ service s im i v
+  unfolding service finished unless-full with-woken served done
+  comes-to-pass o t nobody eo = rw (right, ← eb, t, nobody) eo
 
-    pub done-image : (out : List ℕ) → out ≡ done s im i (moved s im i v) → out ≡ service s im i v .image
+  -- or a task is, unless the ready queue is full
+  module _ (t : b ≡ false) (j : Task) (one : wakes s im i v ≡ Woken.One j) where
+    pub comes-to-nothing : full s im Queue.Ready ≡ true → refused Refusal.ReadyFull im ≡ service s im i v
+    unfolding service finished unless-full
+    comes-to-nothing z = rw (right, ← eb, t, one, z)
+
+    pub comes-to-wake : (o : Outcome) → full s im Queue.Ready ≡ false → o ≡ accepted (Answer.ServiceDone i) (woken s (done s im i (moved s im i v)) j) → o ≡ service s im i v
     unfolding service finished unless-full with-woken served done
-    done-image out eo = rw (right, ← eb, t, nobody) eo
+    comes-to-wake o z eo = rw (right, ← eb, t, one, z) eo
 
-  -- or the task that R2 names, unless the ready queue is full
-  module _ (t : b ≡ false) (k : ℕ) (ek : k ≡ at s im (reg i 2)) (one : wakes s im i v ≡ Woken.One (task k)) (u : Bool) (eu : u ≡ full s im Queue.Ready) where
-    pub refused-reply : u ≡ true → Reply.Refused Refusal.ReadyFull ≡ service s im i v .reply
-    unfolding service finished unless-full
-    refused-reply z = rw (right, ← eb, t, one, ← eu, z)
+-- send and receive: what service v comes to between task i and the one that R2 names, k, which may wait with the counterpart
+abbrev counterpart : Service → Service
+counterpart Service.Send = Service.Receive
+counterpart Service.Receive = Service.Send
+counterpart Service.Input = Service.Input
+counterpart Service.Output = Service.Output
 
-    pub refused-image : (out : List ℕ) → out ≡ im → u ≡ true → out ≡ service s im i v .image
-    unfolding service finished unless-full
-    refused-image out eo z = rw (right, ← eb, t, one, ← eu, z) eo
+pub record Between (s : Shape) (im : List ℕ) (i : Task) (v : Service) : Type 0 where
+  pub names : fault-of s im i v ≡ error-if (leb (s .n) (other s im i .0)) no-such-task
+  pub awaits : awaited s im i v ≡ other s im i .0
+  pub wakes-other : wakes s im i v ≡ one-if (waits-for s im (other s im i) (counterpart v) i) (other s im i)
 
-    pub woken-reply : (r : Reply) → u ≡ false → r ≡ Reply.Accepted (Answer.ServiceDone i) → r ≡ service s im i v .reply
-    unfolding service finished unless-full
-    woken-reply r z er = rw (right, ← eb, t, one, ← eu, z) er
+pub sends : (s : Shape) (im : List ℕ) (i : Task) → Between s im i Service.Send
+sends s im i = record { names = refl; awaits = refl; wakes-other = refl }
 
-    pub woken-image : (m out : List ℕ) → u ≡ false → m ≡ done s im i (moved s im i v) → out ≡ woken s m (task k) → out ≡ service s im i v .image
-    unfolding service finished unless-full with-woken served done
-    woken-image m out z em eo = rw (right, ← eb, t, one, ← eu, z, ← em) eo
+pub receives : (s : Shape) (im : List ℕ) (i : Task) → Between s im i Service.Receive
+receives s im i = record { names = refl; awaits = refl; wakes-other = refl }
 
--- send and receive: R2 names no task, or one
 module _ (s : Shape) (im : List ℕ) (i : Task) (k : ℕ) (ek : k ≡ at s im (reg i 2)) where
-  module _ (v : Service) (names : fault-of s im i v ≡ error-if (leb (s .n) (other s im i .0)) no-such-task) (h : s .n ≤ k) where
-    pub unnamed-reply : (r : Reply) → r ≡ Reply.Accepted (Answer.ServiceFaulted i) → r ≡ service s im i v .reply
+  pub sends-to : Queue.Message i (task k) ≡ buffer s im i Service.Send
+  sends-to = rw (← ek)
+
+  pub gets-from : Queue.Message (task k) i ≡ buffer s im i Service.Receive
+  gets-from = rw (← ek)
+
+  module _ (v : Service) (between : Between s im i v) where
+    pub unnamed : (o : Outcome) → s .n ≤ k → o ≡ accepted (Answer.ServiceFaulted i) (service-faulted s im i no-such-task) → o ≡ service s im i v
     unfolding service
-    unnamed-reply r er = rw (names, ← ek, le-leb (s .n) k h) er
+    unnamed o h eo = rw (between .names, ← ek, le-leb (s .n) k h) eo
 
-    pub unnamed-image : (out : List ℕ) → out ≡ service-faulted s im i no-such-task → out ≡ service s im i v .image
-    unfolding service
-    unnamed-image out eo = rw (names, ← ek, le-leb (s .n) k h) eo
+    module _ (h : k < s .n) (b : Bool) (q : Queue) (eb : b ≡ blocks v s im q) (eq : q ≡ buffer s im i v) where
+      right : fault-of s im i v ≡ Fault.Nothing
+      right = rw (between .names, ← ek, lt-leb (s .n) k h)
 
-  pub named : k < s .n → error-if (leb (s .n) (other s im i .0)) no-such-task ≡ Fault.Nothing
-  named h = rw (← ek, lt-leb (s .n) k h)
+      buffered : b ≡ blocked s im i v
+      buffered = rw (← eq) eb
 
-  -- it names the buffer
-  pub full-to : (b : Bool) → b ≡ full s im (Queue.Message i (task k)) → b ≡ full s im (Queue.Message i (other s im i))
-  full-to b eb = rw (← ek) eb
+      pub other-waits : (o : Outcome) → b ≡ true → o ≡ accepted (Answer.ServiceWaits i) (left s (with-status s im i (waits v) k)) → o ≡ service s im i v
+      other-waits o t eo = comes-to-wait s im i v right b buffered o k t (rw (between .awaits, ← ek)) eo
 
-  pub empty-from : (b : Bool) → b ≡ empty s im (Queue.Message (task k) i) → b ≡ empty s im (Queue.Message (other s im i) i)
-  empty-from b eb = rw (← ek) eb
+      module _ (t : b ≡ false) (a : Bool) (ea : a ≡ (eqb (at s im (status (task k))) (waits (counterpart v)) && eqb (at s im (peer (task k))) (i .0))) where
+        test : wakes s im i v ≡ one-if a (task k)
+        unfolding waits-for
+        test = rw (between .wakes-other, ← ek, ← ea)
 
-  pub sent-to : (m : List ℕ) → m ≡ done s im i (appended s im (Queue.Message i (task k)) (given s im i))
-      → m ≡ done s im i (appended s im (Queue.Message i (other s im i)) (given s im i))
-  sent-to m em = rw (← ek) em
+        pub moved-alone : (o : Outcome) → a ≡ false → o ≡ accepted (Answer.ServiceDone i) (done s im i (moves v s im i q)) → o ≡ service s im i v
+        moved-alone o ta eo =
+            let nobody : wakes s im i v ≡ Woken.Nobody = test ∙ rw ta in
+            comes-to-pass s im i v right b buffered o t nobody (rw (← eq) eo)
 
-  pub got-from : (m : List ℕ) → m ≡ done s im i (delivered s im i (Queue.Message (task k) i)) → m ≡ done s im i (delivered s im i (Queue.Message (other s im i) i))
-  got-from m em = rw (← ek) em
+        module _ (ta : a ≡ true) (u : Bool) (eu : u ≡ full s im Queue.Ready) where
+          one : wakes s im i v ≡ Woken.One (task k)
+          one = test ∙ rw ta
 
-  -- and who is woken, if it waits with service w for task i
-  module _ (w : Service) (b : Bool) (eb : b ≡ (eqb (at s im (status (task k))) (waits w) && eqb (at s im (peer (task k))) (i .0))) where
-    pub wakes-other : b ≡ true → one-if (waits-for s im (other s im i) w i) (other s im i) ≡ Woken.One (task k)
-    unfolding waits-for
-    wakes-other t = rw (← ek, ← eb, t)
+          pub no-room-left : (r : Reply) (out : List ℕ) → u ≡ true → r ≡ Reply.Refused Refusal.ReadyFull → out ≡ im → outcome r out ≡ service s im i v
+          no-room-left r out tu er eo = outcomes er eo ∙ comes-to-nothing s im i v right b buffered t (task k) one (sym eu ∙ tu)
 
-    pub wakes-none : b ≡ false → one-if (waits-for s im (other s im i) w i) (other s im i) ≡ Woken.Nobody
-    unfolding waits-for
-    wakes-none t = rw (← ek, ← eb, t)
+          module _ (tu : u ≡ false) (r : Reply) (m : List ℕ) (em : outcome r m ≡ accepted (Answer.ServiceDone i) (done s im i (moves v s im i q))) where
+            passed : m ≡ served s im i v
+            unfolding served done
+            passed = rw (← eq) (ap (λ (o : Outcome). o .image) em)
+
+            pub moved-waking : (out : List ℕ) → out ≡ woken s m (task k) → outcome r out ≡ service s im i v
+            unfolding served done
+            moved-waking out eo =
+                comes-to-wake s im i v right b buffered t (task k) one (outcome r out) (sym eu ∙ tu)
+                (outcomes (ap (λ (o : Outcome). o .reply) em) (eo ∙ ap (λ (l : List ℕ). woken s l (task k)) passed))
 
 -- a word that moves leaves the ready queue's room as it was
-module _ (s : Shape) (im m : List ℕ) (h : Sound s im) (i : Task) (hi : i .0 < s .n) (k : ℕ) (hk : k < s .n) (u : Bool) (eu : u ≡ full s im Queue.Ready) (z : u ≡ false) where
-  room-done : (l : List ℕ) → Apart s moved-parts im l → m ≡ done s im i l → full s m Queue.Ready ≡ false
+module _ (s : Shape) (im m : List ℕ) (i : Task) (r : Reply) where
+  room-done : (l : List ℕ) → i .0 < s .n → Apart s moved-parts im l → outcome r m ≡ accepted (Answer.ServiceDone i) (done s im i l)
+      → full s im Queue.Ready ≡ false → full s m Queue.Ready ≡ false
   unfolding done
-  room-done l a em = rw em (apart-full s im _ (apart-put s moved-parts im l a (flags i) _ (hi, omega arith) refl)) ∙ sym eu ∙ z
+  room-done l hi a em z =
+      rw (ap (λ (o : Outcome). o .image) em) (apart-full s im _ (apart-put s moved-parts im l a (flags i) _ (hi, omega arith) refl)) ∙ z
 
-  pub room-sent : m ≡ done s im i (appended s im (Queue.Message i (task k)) (given s im i)) → full s m Queue.Ready ≡ false
-  room-sent em = room-done _ (sent-apart s im h i hi (Queue.Message i (task k)) (hi, hk) refl _) em
+  module _ (q : Queue) where
+    pub room-sent : outcome r m ≡ accepted (Answer.ServiceDone i) (done s im i (appended s im q (given s im i))) → Sound s im → i .0 < s .n → Has s q
+        → moved-parts (part-of q) ≡ true → (u : Bool) → u ≡ full s im Queue.Ready → u ≡ false → full s m Queue.Ready ≡ false
+    room-sent em h hi hq p u eu z = room-done _ hi (sent-apart s im h i hi q hq p _) em (sym eu ∙ z)
 
-  pub room-got : m ≡ done s im i (delivered s im i (Queue.Message (task k) i)) → full s m Queue.Ready ≡ false
-  room-got em = room-done _ (delivered-apart s im h i hi (Queue.Message (task k) i) (hk, hi) refl) em
+    pub room-got : outcome r m ≡ accepted (Answer.ServiceDone i) (done s im i (delivered s im i q)) → Sound s im → i .0 < s .n → Has s q
+        → moved-parts (part-of q) ≡ true → (u : Bool) → u ≡ full s im Queue.Ready → u ≡ false → full s m Queue.Ready ≡ false
+    room-got em h hi hq p u eu z = room-done _ hi (delivered-apart s im h i hi q hq p) em (sym eu ∙ z)
 
 -- output: R3 holds more than a character, or one
 module _ (s : Shape) (im : List ℕ) (i : Task) (w : ℕ) (ew : w ≡ given s im i) where
-  module _ (h : most-character < w) where
-    pub large-reply : (r : Reply) → r ≡ Reply.Accepted (Answer.ServiceFaulted i) → r ≡ service s im i Service.Output .reply
-    unfolding service
-    large-reply r er = rw (← ew, lt-ltb most-character w h) er
-
-    pub large-image : (out : List ℕ) → out ≡ service-faulted s im i no-character → out ≡ service s im i Service.Output .image
-    unfolding service
-    large-image out eo = rw (← ew, lt-ltb most-character w h) eo
+  pub too-large : (o : Outcome) → most-character < w → o ≡ accepted (Answer.ServiceFaulted i) (service-faulted s im i no-character) → o ≡ service s im i Service.Output
+  unfolding service
+  too-large o h eo = rw (← ew, lt-ltb most-character w h) eo
 
   pub small-enough : w ≤ most-character → error-if (ltb most-character (given s im i)) no-character ≡ Fault.Nothing
   small-enough h = rw (← ew, le-ltb most-character w h)
 
-  pub put-out : (m l out : List ℕ) (f : ℕ) → f ≡ flags-of (cc-in s im i) (error s im i) 0 → m ≡ appended s im (Queue.Output i) w → l ≡ printing-if-idle s m i
-      → out ≡ put s l (flags i) f → out ≡ done s im i (printing-if-idle s (appended s im (Queue.Output i) (given s im i)) i)
+  pub put-out : (m l out : List ℕ) (r : Reply) (f : ℕ) → r ≡ Reply.Accepted (Answer.ServiceDone i) → f ≡ flags-of (cc-in s im i) (error s im i) 0
+      → m ≡ appended s im (Queue.Output i) w → l ≡ printing-if-idle s m i → out ≡ put s l (flags i) f
+      → outcome r out ≡ accepted (Answer.ServiceDone i) (done s im i (printing-if-idle s (appended s im (Queue.Output i) (given s im i)) i))
   unfolding done
-  put-out m l out f ef em el eo = rw (← ew, ← em, ← el, ← ef) eo
+  put-out m l out r f er ef em el eo = outcomes er (rw (← ew, ← em, ← el, ← ef) eo)
 
 -- the service that is asked for
-module _ (s : Shape) (im : List ℕ) (i : Task) (v w : Service) (e : v ≡ w) where
-  pub reply-as : (r : Reply) → r ≡ service s im i w .reply → r ≡ service s im i v .reply
-  reply-as r er = rw e er
-
-  pub image-as : (out : List ℕ) → out ≡ service s im i w .image → out ≡ service s im i v .image
-  image-as out eo = rw e eo
+pub asked-for : (s : Shape) (im : List ℕ) (i : Task) (v w : Service) (o : Outcome) → v ≡ w → o ≡ service s im i w → o ≡ service s im i v
+asked-for s im i v w o e eo = rw e eo
 
 -- what a test of a buffer tells
 module _ (s : Shape) (im : List ℕ) (q : Queue) (b : Bool) (t : b ≡ false) where

@@ -6,13 +6,13 @@ ghost use lib.Dec.{eqb};
 ghost use Rattle.paper.specs.Image.{at, status as status-of, peer as peer-of};
 ghost use Rattle.paper.specs.Flags.{flags-of, cc, error};
 ghost use Rattle.paper.specs.Queues.{Has, appended, empty as empty-of, full as full-of};
-ghost use Rattle.paper.specs.Waking.{with-status as statused, left};
+ghost use Rattle.paper.specs.Waking.{outcome, accepted, with-status as statused, left};
 ghost use Rattle.paper.specs.Services.{given, service-faulted, delivered, printing, printing-if-idle, service as service-of};
 ghost use Rattle.paper.specs.declared.Answer.the-variants.{ServiceDone, ServiceFaulted, ServiceWaits};
 ghost use Rattle.paper.specs.declared.Queue.the-variants.{Ready, Output};
-ghost use Rattle.paper.specs.declared.Reply.the-variants.{Accepted};
 ghost use Rattle.paper.specs.declared.Service.the-variants.{Send, Receive, Input, Output as Print};
 ghost use Rattle.laws.specs.Sound.{Sound};
+ghost use Rattle.words.specs.Names.{Rowed};
 ghost use Rattle.services.specs.Done.{done};
 use paper::Answer;
 use paper::Queue;
@@ -27,12 +27,16 @@ use truths::both;
 use waking::leave;
 use waking::wake;
 use waking::with_status;
+use words::FLAGS;
+use words::Row;
 use words::Spot;
 use words::append;
 use words::empty;
 use words::full;
 use words::get;
+use words::own;
 use words::put;
+use words::put_own;
 use words::take;
 
 // The registers of services: R2 names the other task, R3 holds the word.
@@ -81,73 +85,73 @@ fn waits_for(s: Shape, im: &[u16], j: Task, status: u16, t: Task) -> bool
 }
 
 // A service faults: its error is set, and nothing is pending.
-fn fault(s: Shape, im: &mut [u16], t: Task, e: u16) -> Reply
+fn fault(s: Shape, im: &mut [u16], x: Row, e: u16) -> Reply
     requires { ⌜ Sound s (now im) ⌝ }
-    requires { ⌜ t .0 < s .n ⌝ }
+    requires { ⌜ Rowed s x ⌝ }
     requires { ⌜ e < 8 ⌝ }
-    ensures { λ r. ⌜ r ≡ Accepted (ServiceFaulted t) ⌝ }
-    ensures { λ _. ⌜ now (im .exit) ≡ service-faulted s (now (im .entry)) t e ⌝ }
+    ensures { λ r. ⌜ outcome r (now (im .exit)) ≡ accepted (ServiceFaulted (x .task)) (service-faulted s (now (im .entry)) (x .task) e) ⌝ }
     ensures { λ _. ⌜ Sound s (now (im .exit)) ⌝ }
 {
-    let f = with_fault(get(s, im, Spot::Flags(t)), e);
-    put(s, im, Spot::Flags(t), f);
+    let t = x.task;
+    let f = with_fault(own(s, im, x, FLAGS), e);
+    put_own(s, im, x, FLAGS, f);
     Reply::Accepted(Answer::ServiceFaulted(t))
 }
 
 // The first task waits: it takes a status, leaves the queue, and another is dispatched.
-fn wait(s: Shape, im: &mut [u16], t: Task, status: u16, peer: u16) -> Reply
+fn wait(s: Shape, im: &mut [u16], x: Row, status: u16, peer: u16) -> Reply
     requires { ⌜ Sound s (now im) ⌝ }
-    requires { ⌜ t .0 < s .n ⌝ }
+    requires { ⌜ Rowed s x ⌝ }
     requires { ⌜ empty-of s (now im) Ready ≡ false ⌝ }
-    ensures { λ r. ⌜ r ≡ Accepted (ServiceWaits t) ⌝ }
-    ensures { λ _. ⌜ now (im .exit) ≡ left s (statused s (now (im .entry)) t status peer) ⌝ }
+    ensures { λ r. ⌜ outcome r (now (im .exit)) ≡ accepted (ServiceWaits (x .task)) (left s (statused s (now (im .entry)) (x .task) status peer)) ⌝ }
     ensures { λ _. ⌜ Sound s (now (im .exit)) ⌝ }
 {
+    let t = x.task;
     with_status(s, im, t, status, peer);
     leave(s, im);
     Reply::Accepted(Answer::ServiceWaits(t))
 }
 
 // The flags of a task, with nothing pending.
-fn cleared(s: Shape, im: &[u16], t: Task) -> u16
+fn cleared(s: Shape, im: &[u16], x: Row) -> u16
     requires { ⌜ Sound s (now im) ⌝ }
-    requires { ⌜ t .0 < s .n ⌝ }
-    ensures { λ r. ⌜ r ≡ flags-of (cc s (now (im .entry)) t) (error s (now (im .entry)) t) 0 ⌝ }
+    requires { ⌜ Rowed s x ⌝ }
+    ensures { λ r. ⌜ r ≡ flags-of (cc s (now (im .entry)) (x .task)) (error s (now (im .entry)) (x .task)) 0 ⌝ }
 {
-    with_pending(get(s, im, Spot::Flags(t)), SERVED)
+    with_pending(own(s, im, x, FLAGS), SERVED)
 }
 
 // The word in R3 goes to a buffer that has room, and nothing is pending.
-fn pass(s: Shape, im: &mut [u16], t: Task, q: Queue) -> Reply
+fn pass(s: Shape, im: &mut [u16], x: Row, q: Queue) -> Reply
     requires { ⌜ Sound s (now im) ⌝ }
-    requires { ⌜ t .0 < s .n ⌝ }
+    requires { ⌜ Rowed s x ⌝ }
     requires { ⌜ Has s q ⌝ }
     requires { ⌜ full-of s (now im) q ≡ false ⌝ }
-    ensures { λ r. ⌜ r ≡ Accepted (ServiceDone t) ⌝ }
-    ensures { λ _. ⌜ now (im .exit) ≡ done s (now (im .entry)) t (appended s (now (im .entry)) q (given s (now (im .entry)) t)) ⌝ }
+    ensures { λ r. ⌜ outcome r (now (im .exit)) ≡ accepted (ServiceDone (x .task)) (done s (now (im .entry)) (x .task) (appended s (now (im .entry)) q (given s (now (im .entry)) (x .task)))) ⌝ }
     ensures { λ _. ⌜ Sound s (now (im .exit)) ⌝ }
 {
-    let f = cleared(s, im, t);
-    let w = get(s, im, Spot::Register(t, WORD));
+    let t = x.task;
+    let f = cleared(s, im, x);
+    let w = own(s, im, x, WORD);
     append(s, im, q, w);
-    put(s, im, Spot::Flags(t), f);
+    put_own(s, im, x, FLAGS, f);
     Reply::Accepted(Answer::ServiceDone(t))
 }
 
 // The first word of a buffer goes to R3, and nothing is pending.
-fn deliver(s: Shape, im: &mut [u16], t: Task, q: Queue) -> Reply
+fn deliver(s: Shape, im: &mut [u16], x: Row, q: Queue) -> Reply
     requires { ⌜ Sound s (now im) ⌝ }
-    requires { ⌜ t .0 < s .n ⌝ }
+    requires { ⌜ Rowed s x ⌝ }
     requires { ⌜ Has s q ⌝ }
     requires { ⌜ empty-of s (now im) q ≡ false ⌝ }
-    ensures { λ r. ⌜ r ≡ Accepted (ServiceDone t) ⌝ }
-    ensures { λ _. ⌜ now (im .exit) ≡ done s (now (im .entry)) t (delivered s (now (im .entry)) t q) ⌝ }
+    ensures { λ r. ⌜ outcome r (now (im .exit)) ≡ accepted (ServiceDone (x .task)) (done s (now (im .entry)) (x .task) (delivered s (now (im .entry)) (x .task) q)) ⌝ }
     ensures { λ _. ⌜ Sound s (now (im .exit)) ⌝ }
 {
-    let f = cleared(s, im, t);
+    let t = x.task;
+    let f = cleared(s, im, x);
     let w = take(s, im, q);
-    put(s, im, Spot::Register(t, WORD), w);
-    put(s, im, Spot::Flags(t), f);
+    put_own(s, im, x, WORD, w);
+    put_own(s, im, x, FLAGS, f);
     Reply::Accepted(Answer::ServiceDone(t))
 }
 
@@ -178,110 +182,109 @@ fn print_if_idle(s: Shape, im: &mut [u16], t: Task)
 }
 
 // Send: the word in R3 for the task that R2 names, which is woken if it waits for it.
-fn send(s: Shape, im: &mut [u16], t: Task) -> Reply
+fn send(s: Shape, im: &mut [u16], x: Row) -> Reply
     requires { ⌜ Sound s (now im) ⌝ }
-    requires { ⌜ t .0 < s .n ⌝ }
+    requires { ⌜ Rowed s x ⌝ }
     requires { ⌜ empty-of s (now im) Ready ≡ false ⌝ }
-    ensures { λ r. ⌜ r ≡ service-of s (now (im .entry)) t Send .reply ⌝ }
-    ensures { λ _. ⌜ now (im .exit) ≡ service-of s (now (im .entry)) t Send .image ⌝ }
+    ensures { λ r. ⌜ outcome r (now (im .exit)) ≡ service-of s (now (im .entry)) (x .task) Send ⌝ }
     ensures { λ _. ⌜ Sound s (now (im .exit)) ⌝ }
 {
-    let j = Task(get(s, im, Spot::Register(t, OTHER)));
+    let t = x.task;
+    let j = Task(own(s, im, x, OTHER));
     if s.n <= j.0 as usize {
-        return fault(s, im, t, NO_SUCH_TASK);
+        return fault(s, im, x, NO_SUCH_TASK);
     }
     if full(s, im, Queue::Message(t, j)) {
-        return wait(s, im, t, WAITS_TO_SEND, j.0);
+        return wait(s, im, x, WAITS_TO_SEND, j.0);
     }
     if waits_for(s, im, j, WAITS_TO_RECEIVE, t) {
         if full(s, im, Queue::Ready) {
             return Reply::Refused(Refusal::ReadyFull);
         }
-        let r = pass(s, im, t, Queue::Message(t, j));
+        let r = pass(s, im, x, Queue::Message(t, j));
         wake(s, im, j);
         return r;
     }
-    pass(s, im, t, Queue::Message(t, j))
+    pass(s, im, x, Queue::Message(t, j))
 }
 
 // Receive: the first word from the task that R2 names, which is woken if it waits to send.
-fn receive(s: Shape, im: &mut [u16], t: Task) -> Reply
+fn receive(s: Shape, im: &mut [u16], x: Row) -> Reply
     requires { ⌜ Sound s (now im) ⌝ }
-    requires { ⌜ t .0 < s .n ⌝ }
+    requires { ⌜ Rowed s x ⌝ }
     requires { ⌜ empty-of s (now im) Ready ≡ false ⌝ }
-    ensures { λ r. ⌜ r ≡ service-of s (now (im .entry)) t Receive .reply ⌝ }
-    ensures { λ _. ⌜ now (im .exit) ≡ service-of s (now (im .entry)) t Receive .image ⌝ }
+    ensures { λ r. ⌜ outcome r (now (im .exit)) ≡ service-of s (now (im .entry)) (x .task) Receive ⌝ }
     ensures { λ _. ⌜ Sound s (now (im .exit)) ⌝ }
 {
-    let j = Task(get(s, im, Spot::Register(t, OTHER)));
+    let t = x.task;
+    let j = Task(own(s, im, x, OTHER));
     if s.n <= j.0 as usize {
-        return fault(s, im, t, NO_SUCH_TASK);
+        return fault(s, im, x, NO_SUCH_TASK);
     }
     if empty(s, im, Queue::Message(j, t)) {
-        return wait(s, im, t, WAITS_TO_RECEIVE, j.0);
+        return wait(s, im, x, WAITS_TO_RECEIVE, j.0);
     }
     if waits_for(s, im, j, WAITS_TO_SEND, t) {
         if full(s, im, Queue::Ready) {
             return Reply::Refused(Refusal::ReadyFull);
         }
-        let r = deliver(s, im, t, Queue::Message(j, t));
+        let r = deliver(s, im, x, Queue::Message(j, t));
         wake(s, im, j);
         return r;
     }
-    deliver(s, im, t, Queue::Message(j, t))
+    deliver(s, im, x, Queue::Message(j, t))
 }
 
 // Input: the first word of the input buffer.
-fn input(s: Shape, im: &mut [u16], t: Task) -> Reply
+fn input(s: Shape, im: &mut [u16], x: Row) -> Reply
     requires { ⌜ Sound s (now im) ⌝ }
-    requires { ⌜ t .0 < s .n ⌝ }
+    requires { ⌜ Rowed s x ⌝ }
     requires { ⌜ empty-of s (now im) Ready ≡ false ⌝ }
-    ensures { λ r. ⌜ r ≡ service-of s (now (im .entry)) t Input .reply ⌝ }
-    ensures { λ _. ⌜ now (im .exit) ≡ service-of s (now (im .entry)) t Input .image ⌝ }
+    ensures { λ r. ⌜ outcome r (now (im .exit)) ≡ service-of s (now (im .entry)) (x .task) Input ⌝ }
     ensures { λ _. ⌜ Sound s (now (im .exit)) ⌝ }
 {
+    let t = x.task;
     if empty(s, im, Queue::Input(t)) {
-        return wait(s, im, t, WAITS_FOR_INPUT, NO_PEER);
+        return wait(s, im, x, WAITS_FOR_INPUT, NO_PEER);
     }
-    deliver(s, im, t, Queue::Input(t))
+    deliver(s, im, x, Queue::Input(t))
 }
 
 // Output: the word in R3, printed where the port is idle.
-fn output(s: Shape, im: &mut [u16], t: Task) -> Reply
+fn output(s: Shape, im: &mut [u16], x: Row) -> Reply
     requires { ⌜ Sound s (now im) ⌝ }
-    requires { ⌜ t .0 < s .n ⌝ }
+    requires { ⌜ Rowed s x ⌝ }
     requires { ⌜ empty-of s (now im) Ready ≡ false ⌝ }
-    ensures { λ r. ⌜ r ≡ service-of s (now (im .entry)) t Print .reply ⌝ }
-    ensures { λ _. ⌜ now (im .exit) ≡ service-of s (now (im .entry)) t Print .image ⌝ }
+    ensures { λ r. ⌜ outcome r (now (im .exit)) ≡ service-of s (now (im .entry)) (x .task) Print ⌝ }
     ensures { λ _. ⌜ Sound s (now (im .exit)) ⌝ }
 {
-    let w = get(s, im, Spot::Register(t, WORD));
+    let t = x.task;
+    let w = own(s, im, x, WORD);
     if MOST_CHARACTER < w {
-        return fault(s, im, t, NO_CHARACTER);
+        return fault(s, im, x, NO_CHARACTER);
     }
     if full(s, im, Queue::Output(t)) {
-        return wait(s, im, t, WAITS_FOR_OUTPUT, NO_PEER);
+        return wait(s, im, x, WAITS_FOR_OUTPUT, NO_PEER);
     }
-    let f = cleared(s, im, t);
+    let f = cleared(s, im, x);
     append(s, im, Queue::Output(t), w);
     print_if_idle(s, im, t);
-    put(s, im, Spot::Flags(t), f);
+    put_own(s, im, x, FLAGS, f);
     Reply::Accepted(Answer::ServiceDone(t))
 }
 
 // The service that the first task has pending.
-pub fn service(s: Shape, im: &mut [u16], t: Task, v: Service) -> Reply
+pub fn service(s: Shape, im: &mut [u16], x: Row, v: Service) -> Reply
     requires { ⌜ Sound s (now im) ⌝ }
-    requires { ⌜ t .0 < s .n ⌝ }
+    requires { ⌜ Rowed s x ⌝ }
     requires { ⌜ empty-of s (now im) Ready ≡ false ⌝ }
-    ensures { λ r. ⌜ r ≡ service-of s (now (im .entry)) t v .reply ⌝ }
-    ensures { λ _. ⌜ now (im .exit) ≡ service-of s (now (im .entry)) t v .image ⌝ }
+    ensures { λ r. ⌜ outcome r (now (im .exit)) ≡ service-of s (now (im .entry)) (x .task) v ⌝ }
     ensures { λ _. ⌜ Sound s (now (im .exit)) ⌝ }
 {
     match v {
-        Service::Send => send(s, im, t),
-        Service::Receive => receive(s, im, t),
-        Service::Input => input(s, im, t),
-        Service::Output => output(s, im, t),
+        Service::Send => send(s, im, x),
+        Service::Receive => receive(s, im, x),
+        Service::Input => input(s, im, x),
+        Service::Output => output(s, im, x),
     }
 }

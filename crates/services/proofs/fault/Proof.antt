@@ -1,4 +1,4 @@
--- Assumes nothing.
+-- The flags written are those of the definition of a fault.
 use Rattle.services.specs.Needs.{faulted}
 use borrow.Author.Needs.{needs}
 use Rattle.services.proofs.fault.Statement.{statement}

@@ -1,17 +1,17 @@
--- Assumes nothing.
-use Rattle.services.specs.Needs.{not-empty, waits-reply, waits-image, done-reply, done-image}
+-- The buffer tells whether the task waits or the word is delivered, and nobody is woken.
+use Rattle.services.specs.Needs.{not-empty, comes-to-wait, comes-to-pass}
 use borrow.Author.Needs.{needs}
 use Rattle.services.proofs.input.Statement.{statement}
 use Rattle.services.proofs.input.Tie as tie
 
 returns : tie.Need-returns
-returns c = (search waits-reply, (search waits-image, search needs))
+returns c = (search comes-to-wait, search needs)
 
 deliver-requires : tie.Need-deliver-requires
 deliver-requires c κs = search not-empty
 
 returns-2 : tie.Need-returns-2
-returns-2 c = (search done-reply, (search done-image, search needs))
+returns-2 c = (search comes-to-pass, search needs)
 
 pub input-spec : {M : Type 1} → statement M
 input-spec =

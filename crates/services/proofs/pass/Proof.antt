@@ -1,11 +1,11 @@
--- Assumes nothing.
+-- The word read is the one in R3, and the flags are those with nothing pending.
 use Rattle.services.specs.Needs.{passes}
 use borrow.Author.Needs.{needs}
 use Rattle.services.proofs.pass.Statement.{statement}
 use Rattle.services.proofs.pass.Tie as tie
 
 returns : tie.Need-returns
-returns c = (search needs, (search passes, search needs))
+returns c = (search passes, search needs)
 
 pub pass-spec : {M : Type 1} → statement M
 pass-spec =

@@ -1,4 +1,4 @@
--- Assumes nothing.
+-- The three changes are those of the definition, in its order.
 use Rattle.services.specs.Needs.{prints}
 use borrow.Author.Needs.{needs}
 use Rattle.services.proofs.print.Statement.{statement}

@@ -1,4 +1,4 @@
--- Assumes nothing.
+-- The port's first word decides, as in the definition.
 use Rattle.services.specs.Needs.{printed, not-printed}
 use borrow.Author.Needs.{needs}
 use Rattle.services.proofs.print_if_idle.Statement.{statement}

@@ -1,4 +1,4 @@
--- Assumes nothing.
+-- A status written leaves the ready queue as it was, so the first task is there to leave.
 use Rattle.services.specs.Needs.{still-some, gone}
 use borrow.Author.Needs.{needs}
 use Rattle.services.proofs.wait.Statement.{statement}

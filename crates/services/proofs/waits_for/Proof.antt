@@ -1,4 +1,4 @@
--- Assumes nothing.
+-- Both words are read where the definition reads them.
 use Rattle.services.specs.Needs.{tested}
 use borrow.Author.Needs.{needs}
 use Rattle.services.proofs.waits_for.Statement.{statement}
