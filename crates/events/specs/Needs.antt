@@ -1,7 +1,7 @@
 -- What the calls of this crate ask and make, as laws over values. Assumes nothing.
 use mathlib.Core.Path.{_≡_, refl, sym, _∙_}
 use mathlib.Core.List.{List}
-use mathlib.Core.Bool.{Bool, true, false, not, _&&_}
+use mathlib.Core.Bool.{Bool, true, false, not, cond, _&&_}
 use mathlib.Core.Logic.{_≢_}
 use Prim.Native.Nat.{ℕ, zero, suc, _-_, _/_, _<_, _≤_}
 use native.Mathlib.Omega.{arith}
@@ -10,7 +10,7 @@ use lib.Dec.{eqb, leb, ltb}
 use Rattle.paper.specs.Image.{task, at, put, clock, flags, status, busy, character}
 use Rattle.paper.specs.Queues.{count, capacity, appended, taken, empty, full}
 use Rattle.paper.specs.Flags.{error-of, pending-of}
-use Rattle.paper.specs.Waking.{left, one-if, with-woken}
+use Rattle.paper.specs.Waking.{Outcome, outcome, accepted, refused, left, one-if, with-woken, unless-full}
 use Rattle.paper.specs.Services.{asked, printing, service}
 use Rattle.paper.specs.Rules.{Flagged}
 use Rattle.paper.specs.Events.{is-tick, is-input, is-output-done, event-of, stopped, turned, acting, turn-of, input, port-next, output-done, happening}
@@ -30,7 +30,7 @@ use Rattle.laws.specs.Sound.{Sound, sound}
 use Rattle.laws.specs.Stays.{Formed}
 use Rattle.waking.specs.Room.{Room, has-room}
 use Rattle.laws.specs.Moved.{apart-full, sent-apart, next-apart}
-use Rattle.services.specs.Needs.{no-room, some-room, room-stays, the-one}
+use Rattle.services.specs.Needs.{outcomes, no-room, some-room, room-stays, the-one}
 
 -- three tests, as the code joins them
 three : (a b c p t : Bool) → p ≡ (b && c) → t ≡ (a && p) → (a && b && c) ≡ t
@@ -96,12 +96,9 @@ unfolding turned
 turns s im m l out i em el eo = rw (← em, ← el) eo
 
 -- the service of a number
-module _ (s : Shape) (im : List ℕ) (i : Task) (v : Service) (k p : ℕ) (e : p ≡ k) (a : asked k ≡ Asked.For v) where
-  pub serve-reply : (r : Reply) → r ≡ service s im i v .reply → r ≡ acting s im i (asked p) .reply
-  serve-reply r er = rw (e, a) er
-
-  pub serve-image : (out : List ℕ) → out ≡ service s im i v .image → out ≡ acting s im i (asked p) .image
-  serve-image out eo = rw (e, a) eo
+pub serves : (s : Shape) (im : List ℕ) (i : Task) (v : Service) (k p : ℕ) (o : Outcome) → p ≡ k → asked k ≡ Asked.For v → o ≡ service s im i v
+    → o ≡ acting s im i (asked p)
+serves s im i v k p o e a eo = rw (e, a) eo
 
 -- a number that is none of the first three is the last
 pub last-number : (p : ℕ) → (1 ≤ p) × (p ≤ 4) → ((Unit {0} × (p ≢ 1)) × (p ≢ 2)) × (p ≢ 3) → p ≡ 4
@@ -120,13 +117,9 @@ module _ (s : Shape) (im : List ℕ) (i : Task) (f : ℕ) (ef : f ≡ at s im (f
     wrong : eqb (error-of f) 0 ≡ false
     wrong = ne-eqb (error-of f) 0 (λ z. omega arith)
 
-    pub stop-reply : Reply.Accepted (Answer.ErrorStop i) ≡ turn-of s im i .reply
+    pub comes-to-stop : (r : Reply) (out : List ℕ) → r ≡ Reply.Accepted (Answer.ErrorStop i) → out ≡ stopped s im i → outcome r out ≡ turn-of s im i
     unfolding turn-of
-    stop-reply = rw (← ef, wrong)
-
-    pub stop-image : (out : List ℕ) → out ≡ stopped s im i → out ≡ turn-of s im i .image
-    unfolding turn-of
-    stop-image out eo = rw (← ef, wrong) eo
+    comes-to-stop r out er eo = rw (← ef, wrong) (outcomes er eo)
 
   module _ (fl : Flagged s im i) where
     pub service-known : f / 32 ≤ 4
@@ -137,23 +130,13 @@ module _ (s : Shape) (im : List ℕ) (i : Task) (f : ℕ) (ef : f ≡ at s im (f
     right = eq-eqb (error-of f) 0 (no-error (error-of f) (pending-of f) (omega arith) (λ n. rw ef (fl .never-both (rw (← ef) n))))
 
     module _ (k : ℕ) (ek : k ≡ at s im clock) where
-      module _ (kz : k ≡ 0) where
-        pub turn-reply : Reply.Accepted (Answer.TurnPassed i) ≡ turn-of s im i .reply
-        unfolding turn-of
-        turn-reply = rw (← ef, right, ← ek, eq-eqb k 0 kz)
+      pub comes-to-turn : (r : Reply) (out : List ℕ) → k ≡ 0 → r ≡ Reply.Accepted (Answer.TurnPassed i) → out ≡ turned s im i → outcome r out ≡ turn-of s im i
+      unfolding turn-of
+      comes-to-turn r out kz er eo = rw (← ef, right, ← ek, eq-eqb k 0 kz) (outcomes er eo)
 
-        pub turn-image : (out : List ℕ) → out ≡ turned s im i → out ≡ turn-of s im i .image
-        unfolding turn-of
-        turn-image out eo = rw (← ef, right, ← ek, eq-eqb k 0 kz) eo
-
-      module _ (kn : k ≢ 0) where
-        pub service-reply : (r : Reply) → r ≡ acting s im i (asked (f / 32)) .reply → r ≡ turn-of s im i .reply
-        unfolding turn-of
-        service-reply r er = rw (← ef, right, ← ek, ne-eqb k 0 kn) er
-
-        pub service-image : (out : List ℕ) → out ≡ acting s im i (asked (f / 32)) .image → out ≡ turn-of s im i .image
-        unfolding turn-of
-        service-image out eo = rw (← ef, right, ← ek, ne-eqb k 0 kn) eo
+      pub comes-to-serve : (o : Outcome) → k ≢ 0 → o ≡ acting s im i (asked (f / 32)) → o ≡ turn-of s im i
+      unfolding turn-of
+      comes-to-serve o kn eo = rw (← ef, right, ← ek, ne-eqb k 0 kn) eo
 
 -- whom an event wakes
 module _ (s : Shape) (im : List ℕ) (i : Task) (x k : ℕ) (ek : k ≡ at s im (status i)) where
@@ -166,42 +149,58 @@ module _ (s : Shape) (im : List ℕ) (i : Task) (x k : ℕ) (ek : k ≡ at s im 
 owner-in : (s : Shape) (b : Bool) (i j : Task) (w : Woken) → i .0 < s .n → w ≡ one-if b i → w ≡ Woken.One j → j .0 < s .n
 owner-in s b i j w hi ew e = rw (← the-one b i j (sym ew ∙ e)) hi
 
--- input
-module _ (s : Shape) (im : List ℕ) (i : Task) (c : ℕ) (b : Bool) (eb : b ≡ full s im (Queue.Input i)) where
-  pub full-reply : b ≡ true → Reply.Refused Refusal.InputFull ≡ input s im i c .reply
-  unfolding input
-  full-reply t = rw (← eb, t)
+-- a port's test, by its word
+module _ (s : Shape) (im : List ℕ) (i : Task) (b : ℕ) (eb : b ≡ at s im (busy i)) where
+  pub port-idle : b ≡ 0 → eqb (at s im (busy i)) 0 ≡ true
+  port-idle e = rw (← eb) (eq-eqb b 0 e)
 
-  pub full-image : b ≡ true → im ≡ input s im i c .image
-  unfolding input
-  full-image t = rw (← eb, t)
+  pub port-busy : b ≢ 0 → eqb (at s im (busy i)) 0 ≡ false
+  port-busy e = rw (← eb) (ne-eqb b 0 e)
 
-  module _ (t : b ≡ false) (w : Woken) (ew : w ≡ one-if (eqb (at s im (status i)) 3) i) (r : Bool) (er : r ≡ has-room s im w) where
-    pub input-refused-reply : not r ≡ true → Reply.Refused Refusal.ReadyFull ≡ input s im i c .reply
-    unfolding input
-    input-refused-reply g = rw (← eb, t, ← ew, no-room s im w _ (sym er ∙ not-true r g))
+-- an event of a device: refused by a test of its own, or else a word moves, which makes im into m, and the owner is woken if its status is x
+unfoldable pub moved-or-refused : Shape → List ℕ → Task → Bool → Refusal → ℕ → Answer → List ℕ → Outcome
+moved-or-refused s im i b f x a m =
+    let w = one-if (eqb (at s im (status i)) x) i in
+    cond b (refused f im) (unless-full s im w (accepted a (with-woken s m w)))
 
-    pub input-refused-image : not r ≡ true → im ≡ input s im i c .image
-    unfolding input
-    input-refused-image g = rw (← eb, t, ← ew, no-room s im w _ (sym er ∙ not-true r g))
+pub input-is : (s : Shape) (im : List ℕ) (i : Task) (c : ℕ)
+    → input s im i c ≡ moved-or-refused s im i (full s im (Queue.Input i)) Refusal.InputFull 3 (Answer.Input i) (appended s im (Queue.Input i) c)
+unfolding input moved-or-refused
+input-is s im i c = refl
 
-    module _ (g : not r ≡ false) where
-      pub input-reply : Reply.Accepted (Answer.Input i) ≡ input s im i c .reply
-      unfolding input
-      input-reply = rw (← eb, t, ← ew, some-room s im w _ (sym er ∙ not-false r g))
+pub output-done-is : (s : Shape) (im : List ℕ) (i : Task)
+    → output-done s im i ≡ moved-or-refused s im i (eqb (at s im (busy i)) 0) Refusal.PortIdle 4 (Answer.OutputDone i) (port-next s im i)
+unfolding output-done moved-or-refused
+output-done-is s im i = refl
 
-      pub input-image : (m out : List ℕ) → m ≡ appended s im (Queue.Input i) c → out ≡ with-woken s m w → out ≡ input s im i c .image
-      unfolding input
-      input-image m out em eo = rw (← eb, t, ← ew, some-room s im w _ (sym er ∙ not-false r g), ← em) eo
+module _ (s : Shape) (im : List ℕ) (i : Task) (b : Bool) (f : Refusal) (x : ℕ) (a : Answer) (m : List ℕ) (o : Outcome) (eo : o ≡ moved-or-refused s im i b f x a m) where
+  pub refused-by-test : b ≡ true → refused f im ≡ o
+  unfolding moved-or-refused
+  refused-by-test t = sym (eo ∙ rw t)
 
-module _ (s : Shape) (im : List ℕ) (i : Task) (h : Sound s im) (hi : i .0 < s .n) (w : Woken) (r : Bool) (er : r ≡ has-room s im w) (g : not r ≡ false)
-    (m : List ℕ) where
-  pub input-room : (c : ℕ) → w ≡ one-if (eqb (at s im (status i)) 3) i → m ≡ appended s im (Queue.Input i) c → Room s m w
-  input-room c ew em =
+  module _ (t : b ≡ false) (w : Woken) (ew : w ≡ one-if (eqb (at s im (status i)) x) i) (r : Bool) (er : r ≡ has-room s im w) where
+    pub refused-by-room : not r ≡ true → refused Refusal.ReadyFull im ≡ o
+    unfolding moved-or-refused
+    refused-by-room g = sym (eo ∙ rw (t, ← ew, no-room s im w _ (sym er ∙ not-true r g)))
+
+    pub moved-and-woken : not r ≡ false → (l out : List ℕ) → l ≡ m → out ≡ with-woken s l w → outcome (Reply.Accepted a) out ≡ o
+    unfolding moved-or-refused
+    moved-and-woken g l out el ei = rw (ei, el) (sym (eo ∙ rw (t, ← ew, some-room s im w _ (sym er ∙ not-false r g))))
+
+-- what moves leaves the ready queue's room as it was, so room for the owner
+module _ (s : Shape) (im m : List ℕ) (i : Task) (h : Sound s im) (hi : i .0 < s .n) where
+  pub input-room : (c : ℕ) → m ≡ appended s im (Queue.Input i) c → full s m Queue.Ready ≡ full s im Queue.Ready
+  input-room c em =
       let q = Queue.Input i in
-      room-stays s im m w
-      (rw em (apart-full s im (appended s im q c) (sent-apart s im h i hi q hi refl c)))
-      (λ j e. owner-in s (eqb (at s im (status i)) 3) i j w hi ew e) (sym er ∙ not-false r g)
+      rw em (apart-full s im (appended s im q c) (sent-apart s im h i hi q hi refl c))
+
+  pub port-room : m ≡ port-next s im i → full s m Queue.Ready ≡ full s im Queue.Ready
+  port-room em = rw em (apart-full s im (port-next s im i) (next-apart s im h i hi))
+
+  pub owner-room : (x : ℕ) (w : Woken) (r : Bool) → w ≡ one-if (eqb (at s im (status i)) x) i → r ≡ has-room s im w → not r ≡ false
+      → full s m Queue.Ready ≡ full s im Queue.Ready → Room s m w
+  owner-room x w r ew er g e =
+      room-stays s im m w e (λ j ej. owner-in s (eqb (at s im (status i)) x) i j w hi ew ej) (sym er ∙ not-false r g)
 
 -- the port goes on
 module _ (s : Shape) (im : List ℕ) (i : Task) (b : Bool) (eb : b ≡ empty s im (Queue.Output i)) where
@@ -216,41 +215,6 @@ module _ (s : Shape) (im : List ℕ) (i : Task) (b : Bool) (eb : b ≡ empty s i
   unfolding port-next
   port-prints out t eo = rw (← eb, t) eo
 
--- output done
-module _ (s : Shape) (im : List ℕ) (i : Task) (b : ℕ) (eb : b ≡ at s im (busy i)) where
-  pub port-reply : b ≡ 0 → Reply.Refused Refusal.PortIdle ≡ output-done s im i .reply
-  unfolding output-done
-  port-reply t = rw (← eb, eq-eqb b 0 t)
-
-  pub port-image : b ≡ 0 → im ≡ output-done s im i .image
-  unfolding output-done
-  port-image t = rw (← eb, eq-eqb b 0 t)
-
-  module _ (t : b ≢ 0) (w : Woken) (ew : w ≡ one-if (eqb (at s im (status i)) 4) i) (r : Bool) (er : r ≡ has-room s im w) where
-    pub done-refused-reply : not r ≡ true → Reply.Refused Refusal.ReadyFull ≡ output-done s im i .reply
-    unfolding output-done
-    done-refused-reply g = rw (← eb, ne-eqb b 0 t, ← ew, no-room s im w _ (sym er ∙ not-true r g))
-
-    pub done-refused-image : not r ≡ true → im ≡ output-done s im i .image
-    unfolding output-done
-    done-refused-image g = rw (← eb, ne-eqb b 0 t, ← ew, no-room s im w _ (sym er ∙ not-true r g))
-
-    module _ (g : not r ≡ false) where
-      pub done-reply : Reply.Accepted (Answer.OutputDone i) ≡ output-done s im i .reply
-      unfolding output-done
-      done-reply = rw (← eb, ne-eqb b 0 t, ← ew, some-room s im w _ (sym er ∙ not-false r g))
-
-      pub done-image : (m out : List ℕ) → m ≡ port-next s im i → out ≡ with-woken s m w → out ≡ output-done s im i .image
-      unfolding output-done
-      done-image m out em eo = rw (← eb, ne-eqb b 0 t, ← ew, some-room s im w _ (sym er ∙ not-false r g), ← em) eo
-
-module _ (s : Shape) (im : List ℕ) (i : Task) (h : Sound s im) (hi : i .0 < s .n) (w : Woken) (r : Bool) (er : r ≡ has-room s im w) (g : not r ≡ false)
-    (m : List ℕ) where
-  pub done-room : w ≡ one-if (eqb (at s im (status i)) 4) i → m ≡ port-next s im i → Room s m w
-  done-room ew em =
-      room-stays s im m w (rw em (apart-full s im (port-next s im i) (next-apart s im h i hi)))
-      (λ j e. owner-in s (eqb (at s im (status i)) 4) i j w hi ew e) (sym er ∙ not-false r g)
-
 -- an event that is no tick, by what it is
 module _ (s : Shape) (im : List ℕ) (e : Event) where
   pub input-task : (i : Task) (c : ℕ) → e ≡ Event.Input i c → Formed s e → i .0 < s .n
@@ -261,27 +225,14 @@ module _ (s : Shape) (im : List ℕ) (e : Event) where
   unfolding Formed
   done-task i f h = rw f at h
 
-  pub reported-input : (i : Task) (c : ℕ) (r : Reply) → e ≡ Event.Input i c → r ≡ input s im i c .reply → r ≡ happening s im e .reply
+  pub input-happens : (i : Task) (c : ℕ) (o : Outcome) → e ≡ Event.Input i c → o ≡ input s im i c → o ≡ happening s im e
   unfolding happening
-  reported-input i c r f er = rw f er
+  input-happens i c o f eo = rw f eo
 
-  pub input-happens : (i : Task) (c : ℕ) (out : List ℕ) → e ≡ Event.Input i c → out ≡ input s im i c .image → out ≡ happening s im e .image
+  pub done-happens : (i : Task) (o : Outcome) → e ≡ Event.OutputDone i → o ≡ output-done s im i → o ≡ happening s im e
   unfolding happening
-  input-happens i c out f eo = rw f eo
+  done-happens i o f eo = rw f eo
 
-  pub reported-done : (i : Task) (r : Reply) → e ≡ Event.OutputDone i → r ≡ output-done s im i .reply → r ≡ happening s im e .reply
+  pub malformed-happens : e ≡ Event.Malformed → refused Refusal.MalformedEvent im ≡ happening s im e
   unfolding happening
-  reported-done i r f er = rw f er
-
-  pub done-happens : (i : Task) (out : List ℕ) → e ≡ Event.OutputDone i → out ≡ output-done s im i .image → out ≡ happening s im e .image
-  unfolding happening
-  done-happens i out f eo = rw f eo
-
-  module _ (f : e ≡ Event.Malformed) where
-    pub refused-reply : Reply.Refused Refusal.MalformedEvent ≡ happening s im e .reply
-    unfolding happening
-    refused-reply = rw f
-
-    pub refused-image : im ≡ happening s im e .image
-    unfolding happening
-    refused-image = rw f
+  malformed-happens f = rw f

@@ -6,7 +6,7 @@ ghost use Prim.Native.Nat.{_<_, _≤_};
 ghost use lib.Dec.{eqb};
 ghost use Rattle.paper.specs.Image.{at as word-at, clock as clock-cell, flags as flags-cell, status as status-cell};
 ghost use Rattle.paper.specs.Rules.{Flagged};
-ghost use Rattle.paper.specs.Waking.{one-if};
+ghost use Rattle.paper.specs.Waking.{outcome, one-if};
 ghost use Rattle.paper.specs.Queues.{empty as empty-of};
 ghost use Rattle.paper.specs.Services.{asked as asked-by};
 ghost use Rattle.paper.specs.Events.{event-of as event-by, stopped, turned, acting, turn-of as turn-by, input as input-by, port-next, output-done as output-done-by, happening};
@@ -14,6 +14,7 @@ ghost use Rattle.paper.specs.declared.Event.the-variants.{Tick};
 ghost use Rattle.paper.specs.declared.Queue.the-variants.{Ready};
 ghost use Rattle.laws.specs.Sound.{Sound};
 ghost use Rattle.laws.specs.Stays.{Formed};
+ghost use Rattle.words.specs.Names.{Rowed};
 use paper::Answer;
 use paper::Event;
 use paper::Queue;
@@ -29,6 +30,7 @@ use truths::both;
 use waking::fits;
 use waking::leave;
 use waking::with_woken;
+use words::Row;
 use words::Spot;
 use words::append;
 use words::empty;
@@ -109,36 +111,35 @@ pub fn turn(s: Shape, im: &mut [u16], t: Task)
 }
 
 // The service with a number.
-fn serve(s: Shape, im: &mut [u16], t: Task, pending: u16) -> Reply
+fn serve(s: Shape, im: &mut [u16], x: Row, pending: u16) -> Reply
     requires { ⌜ Sound s (now im) ⌝ }
-    requires { ⌜ t .0 < s .n ⌝ }
+    requires { ⌜ Rowed s x ⌝ }
     requires { ⌜ empty-of s (now im) Ready ≡ false ⌝ }
     requires { ⌜ (1 ≤ pending) × (pending ≤ 4) ⌝ }
-    ensures { λ r. ⌜ r ≡ acting s (now (im .entry)) t (asked-by pending) .reply ⌝ }
-    ensures { λ _. ⌜ now (im .exit) ≡ acting s (now (im .entry)) t (asked-by pending) .image ⌝ }
+    ensures { λ r. ⌜ outcome r (now (im .exit)) ≡ acting s (now (im .entry)) (x .task) (asked-by pending) ⌝ }
     ensures { λ _. ⌜ Sound s (now (im .exit)) ⌝ }
 {
     match pending {
-        SEND => service(s, im, t, Service::Send),
-        RECEIVE => service(s, im, t, Service::Receive),
-        ASK_INPUT => service(s, im, t, Service::Input),
-        _ => service(s, im, t, Service::Output),
+        SEND => service(s, im, x, Service::Send),
+        RECEIVE => service(s, im, x, Service::Receive),
+        ASK_INPUT => service(s, im, x, Service::Input),
+        _ => service(s, im, x, Service::Output),
     }
 }
 
 // Rules 2 to 4, of the first task, whose flags have an error or a service pending.
-pub fn before_order(s: Shape, im: &mut [u16], t: Task, flags: u16, clock: u16) -> Reply
+pub fn before_order(s: Shape, im: &mut [u16], x: Row, flags: u16, clock: u16) -> Reply
     requires { ⌜ Sound s (now im) ⌝ }
-    requires { ⌜ t .0 < s .n ⌝ }
+    requires { ⌜ Rowed s x ⌝ }
     requires { ⌜ empty-of s (now im) Ready ≡ false ⌝ }
-    requires { ⌜ Flagged s (now im) t ⌝ }
-    requires { ⌜ flags ≡ word-at s (now im) (flags-cell t) ⌝ }
+    requires { ⌜ Flagged s (now im) (x .task) ⌝ }
+    requires { ⌜ flags ≡ word-at s (now im) (flags-cell (x .task)) ⌝ }
     requires { ⌜ clock ≡ word-at s (now im) clock-cell ⌝ }
     requires { ⌜ 4 ≤ flags ⌝ }
-    ensures { λ r. ⌜ r ≡ turn-by s (now (im .entry)) t .reply ⌝ }
-    ensures { λ _. ⌜ now (im .exit) ≡ turn-by s (now (im .entry)) t .image ⌝ }
+    ensures { λ r. ⌜ outcome r (now (im .exit)) ≡ turn-by s (now (im .entry)) (x .task) ⌝ }
     ensures { λ _. ⌜ Sound s (now (im .exit)) ⌝ }
 {
+    let t = x.task;
     if flags < PENDING {
         stop(s, im, t);
         return Reply::Accepted(Answer::ErrorStop(t));
@@ -147,7 +148,7 @@ pub fn before_order(s: Shape, im: &mut [u16], t: Task, flags: u16, clock: u16) -
         turn(s, im, t);
         return Reply::Accepted(Answer::TurnPassed(t));
     }
-    serve(s, im, t, flags / PENDING)
+    serve(s, im, x, flags / PENDING)
 }
 
 // Whom an event wakes: a task, where its status is the one given.
@@ -167,8 +168,7 @@ fn woken_if(s: Shape, im: &[u16], t: Task, status: u16) -> Woken
 pub fn input(s: Shape, im: &mut [u16], t: Task, c: u16) -> Reply
     requires { ⌜ Sound s (now im) ⌝ }
     requires { ⌜ t .0 < s .n ⌝ }
-    ensures { λ r. ⌜ r ≡ input-by s (now (im .entry)) t c .reply ⌝ }
-    ensures { λ _. ⌜ now (im .exit) ≡ input-by s (now (im .entry)) t c .image ⌝ }
+    ensures { λ r. ⌜ outcome r (now (im .exit)) ≡ input-by s (now (im .entry)) t c ⌝ }
     ensures { λ _. ⌜ Sound s (now (im .exit)) ⌝ }
 {
     if full(s, im, Queue::Input(t)) {
@@ -202,8 +202,7 @@ fn next_output(s: Shape, im: &mut [u16], t: Task)
 pub fn output_done(s: Shape, im: &mut [u16], t: Task) -> Reply
     requires { ⌜ Sound s (now im) ⌝ }
     requires { ⌜ t .0 < s .n ⌝ }
-    ensures { λ r. ⌜ r ≡ output-done-by s (now (im .entry)) t .reply ⌝ }
-    ensures { λ _. ⌜ now (im .exit) ≡ output-done-by s (now (im .entry)) t .image ⌝ }
+    ensures { λ r. ⌜ outcome r (now (im .exit)) ≡ output-done-by s (now (im .entry)) t ⌝ }
     ensures { λ _. ⌜ Sound s (now (im .exit)) ⌝ }
 {
     if get(s, im, Spot::Busy(t)) == IDLE {
@@ -223,8 +222,7 @@ pub fn report(s: Shape, im: &mut [u16], e: Event) -> Reply
     requires { ⌜ Sound s (now im) ⌝ }
     requires { ⌜ Formed s e ⌝ }
     requires { ⌜ e ≢ Tick ⌝ }
-    ensures { λ r. ⌜ r ≡ happening s (now (im .entry)) e .reply ⌝ }
-    ensures { λ _. ⌜ now (im .exit) ≡ happening s (now (im .entry)) e .image ⌝ }
+    ensures { λ r. ⌜ outcome r (now (im .exit)) ≡ happening s (now (im .entry)) e ⌝ }
 {
     match e {
         Event::Input(t, c) => input(s, im, t, c),

@@ -1,32 +1,39 @@
--- Assumes nothing.
+-- The buffer, then the room for the owner decide, as in the definition, before anything is written.
 use mathlib.Core.Path.{sym, _∙_}
-use Rattle.events.specs.Needs.{full-reply, full-image, input-refused-reply, input-refused-image, input-reply, input-image, input-room}
+use Rattle.services.specs.Needs.{not-full}
+use Rattle.events.specs.Needs.{input-is, refused-by-test, refused-by-room, moved-and-woken, input-room, owner-room}
 use borrow.Author.Needs.{needs}
 use Rattle.events.proofs.input.Statement.{statement}
 use Rattle.events.proofs.input.Tie as tie
 
 returns : tie.Need-returns
-returns c = search (full-reply, full-image)
+returns c = (refused-by-test _ _ _ _ _ _ _ _ _ (input-is _ _ _ _) (sym (c .before .full .ensures) ∙ c .if1 .taken), search needs)
 
 returns-2 : tie.Need-returns-2
-returns-2 c = let d = c .before .before .before .before .before in
-    (search input-refused-reply, (input-refused-image _ _ _ _ _ (d .before .full .ensures) (d .if1 .left) _ (c .before .before .before .woken-if .ensures) _ (c .before .fits2 .ensures) (c .if2 .taken), search needs))
+returns-2 c =
+    let test = c .before .before .before .before .before in
+    (refused-by-room _ _ _ _ _ _ _ _ _ (input-is _ _ _ _) (sym (test .before .full .ensures) ∙ test .if1 .left) _ (c .before .before .before .woken-if .ensures) _ (c .before .fits2 .ensures) (c .if2 .taken), search needs)
 
 append-requires : tie.Need-append-requires
-append-requires c κs = let b = c .before .before .before .before .before .before in
-    (search needs, (search needs, sym (b .before .full .ensures) ∙ b .if1 .left))
+append-requires c κs = (search needs, (search needs, search not-full))
 
 with-woken-requires : tie.Need-with-woken-requires
-with-woken-requires c κs = let a = c .before .before .before in
-    let d = a .before .before .before in
-    let p = d .before .before .before .before .before .before .before .before .pre in
-    (search needs, input-room _ _ _ (p .0) (p .1) _ _ (d .fits2 .ensures) (a .before .before .if2 .left) _ _ (d .before .before .woken-if .ensures) (a .append .ensures .0))
+with-woken-requires c κs =
+    let moved = c .before .before .before in
+    let room = moved .before .before in
+    let owner = room .before .before .before in
+    let test = owner .before .before in
+    let given = test .before .before .before .before .pre in
+    (search needs, owner-room _ _ _ _ (given .0) (given .1) _ _ _ (owner .woken-if .ensures) (room .before .fits2 .ensures) (room .if2 .left) (input-room _ _ _ _ (given .0) (given .1) _ (moved .append .ensures .0)))
 
 returns-3 : tie.Need-returns-3
-returns-3 c = let a = c .before .before .before .before .before .before in
-    let d = a .before .before .before in
-    let e = d .before .before .before .before in
-    (input-reply _ _ _ _ _ (e .before .full .ensures) (e .if1 .left) _ (d .before .before .woken-if .ensures) _ (d .fits2 .ensures) (a .before .before .if2 .left), (input-image _ _ _ _ _ (e .before .full .ensures) (e .if1 .left) _ (d .before .before .woken-if .ensures) _ (d .fits2 .ensures) (a .before .before .if2 .left) _ _ (a .append .ensures .0) (c .before .before .with-woken .ensures .0), search needs))
+returns-3 c =
+    let woke = c .before .before in
+    let moved = woke .before .before .before .before in
+    let room = moved .before .before in
+    let owner = room .before .before .before in
+    let test = owner .before .before in
+    (moved-and-woken _ _ _ _ _ _ _ _ _ (input-is _ _ _ _) (sym (test .before .full .ensures) ∙ test .if1 .left) _ (owner .woken-if .ensures) _ (room .before .fits2 .ensures) (room .if2 .left) _ _ (moved .append .ensures .0) (woke .with-woken .ensures .0), search needs)
 
 pub input-spec : {M : Type 1} → statement M
 input-spec =

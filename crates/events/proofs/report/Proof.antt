@@ -1,4 +1,4 @@
--- Assumes nothing.
+-- Each arm is what the definition gives for its event; the last is left with the malformed ones.
 use mathlib.Core.Path.{_≡_, refl}
 use mathlib.Core.List.{[], _∷_}
 use mathlib.Core.Logic.{_≢_}
@@ -6,7 +6,7 @@ use types.Run.{OneOf, miss}
 use denote.Enum.Declared.{tagOf}
 use Rattle.paper.specs.declared.Event.{Event}
 use Rattle.paper.proofs.Event as event
-use Rattle.events.specs.Needs.{input-task, done-task, reported-input, input-happens, reported-done, done-happens, refused-reply, refused-image}
+use Rattle.events.specs.Needs.{input-task, done-task, input-happens, done-happens, malformed-happens}
 use borrow.Author.Needs.{needs}
 use Rattle.events.proofs.report.Statement.{statement}
 use Rattle.events.proofs.report.Tie as tie
@@ -25,14 +25,13 @@ output-done-requires : tie.Need-output-done-requires
 output-done-requires c κs = search (done-task, needs)
 
 returns : tie.Need-returns
-returns c = search (reported-input, input-happens)
+returns c = search input-happens
 
 returns-2 : tie.Need-returns-2
-returns-2 c = search (reported-done, done-happens)
+returns-2 c = search done-happens
 
 returns-3 : tie.Need-returns-3
-returns-3 c = let e = none-else _ (c .match .keys3) (c .before .before .pre .1 .1) in
-    (refused-reply _ _ _ e, refused-image _ _ _ e)
+returns-3 c = malformed-happens _ _ _ (none-else _ (c .match .keys3) (c .before .before .pre .1 .1))
 
 pub report-spec : {M : Type 1} → statement M
 report-spec =

@@ -1,7 +1,7 @@
--- Assumes nothing.
+-- Each number is that of the service called; the last is 4, since the number is none of the others and at most 4.
 use mathlib.Core.Path.{refl}
 use Rattle.paper.specs.declared.Service.{Service}
-use Rattle.events.specs.Needs.{serve-reply, serve-image, last-number}
+use Rattle.events.specs.Needs.{serves, last-number}
 use borrow.Author.Needs.{needs}
 use Rattle.events.proofs.serve.Statement.{statement}
 use Rattle.events.proofs.serve.Tie as tie
@@ -9,22 +9,22 @@ use Rattle.events.proofs.serve.Tie as tie
 returns : tie.Need-returns
 returns c = let b = c .before .before in
     let e = b .before .before .match .keys1 in
-    (serve-reply _ _ _ Service.Send 1 _ e refl _ (b .service .ensures .0), (serve-image _ _ _ Service.Send 1 _ e refl _ (b .service .ensures .1 .0), search needs))
+    (serves _ _ _ Service.Send 1 _ _ e refl (b .service .ensures .0), search needs)
 
 returns-2 : tie.Need-returns-2
 returns-2 c = let b = c .before .before in
     let e = b .before .before .match .keys2 in
-    (serve-reply _ _ _ Service.Receive 2 _ e refl _ (b .service2 .ensures .0), (serve-image _ _ _ Service.Receive 2 _ e refl _ (b .service2 .ensures .1 .0), search needs))
+    (serves _ _ _ Service.Receive 2 _ _ e refl (b .service2 .ensures .0), search needs)
 
 returns-3 : tie.Need-returns-3
 returns-3 c = let b = c .before .before in
     let e = b .before .before .match .keys3 in
-    (serve-reply _ _ _ Service.Input 3 _ e refl _ (b .service3 .ensures .0), (serve-image _ _ _ Service.Input 3 _ e refl _ (b .service3 .ensures .1 .0), search needs))
+    (serves _ _ _ Service.Input 3 _ _ e refl (b .service3 .ensures .0), search needs)
 
 returns-4 : tie.Need-returns-4
 returns-4 c = let b = c .before .before in
     let e = last-number _ (b .before .before .before .before .pre .1 .1 .1) (b .before .before .match .rest) in
-    (serve-reply _ _ _ Service.Output 4 _ e refl _ (b .service4 .ensures .0), (serve-image _ _ _ Service.Output 4 _ e refl _ (b .service4 .ensures .1 .0), search needs))
+    (serves _ _ _ Service.Output 4 _ _ e refl (b .service4 .ensures .0), search needs)
 
 pub serve-spec : {M : Type 1} → statement M
 serve-spec =

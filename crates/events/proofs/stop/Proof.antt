@@ -1,4 +1,4 @@
--- Assumes nothing.
+-- A status written leaves the ready queue as it was, so the first task is there to leave.
 use Rattle.events.specs.Needs.{still-some, stops}
 use borrow.Author.Needs.{needs}
 use Rattle.events.proofs.stop.Statement.{statement}

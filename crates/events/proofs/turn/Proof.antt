@@ -1,4 +1,4 @@
--- Assumes nothing.
+-- A task taken leaves room for it at the end.
 use Rattle.events.specs.Needs.{room-again, turns}
 use borrow.Author.Needs.{needs}
 use Rattle.events.proofs.turn.Statement.{statement}

@@ -1,4 +1,4 @@
--- Assumes nothing.
+-- The status read decides, as in the definition.
 use Rattle.events.specs.Needs.{wakes-owner, wakes-none}
 use borrow.Author.Needs.{needs}
 use Rattle.events.proofs.woken_if.Statement.{statement}
