@@ -5,7 +5,11 @@ use Rattle.services.proofs.print.Statement.{statement}
 use Rattle.services.proofs.print.Tie as tie
 
 returns : tie.Need-returns
-returns c = search prints
+returns c =
+    let last = c .before .before in
+    let busy = last .before .before .before .before in
+    let word = busy .before .before .before .before in
+    (prints _ _ _ _ _ _ _ (word .take .ensures .0) (word .take .ensures .1 .0) (busy .put .ensures .0) (last .put2 .ensures .0), search needs)
 
 pub print-spec : {M : Type 1} → statement M
 print-spec =

@@ -5,7 +5,7 @@ use Rattle.services.proofs.waits_for.Statement.{statement}
 use Rattle.services.proofs.waits_for.Tie as tie
 
 returns : tie.Need-returns
-returns c = search tested
+returns c = tested _ _ _ _ _ _ _ _ (c .before .before .before .get .ensures) (c .before .before .get2 .ensures) (c .both .ensures)
 
 pub waits-for-spec : {M : Type 1} → statement M
 waits-for-spec =
