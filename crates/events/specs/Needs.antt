@@ -11,14 +11,12 @@ use Rattle.paper.specs.Image.{task, at, put, clock, flags, status, busy, charac
 use Rattle.paper.specs.Queues.{count, capacity, appended, taken, empty, full}
 use Rattle.paper.specs.Flags.{error-of, pending-of}
 use Rattle.paper.specs.Waking.{Outcome, outcome, accepted, refused, left, one-if, with-woken, unless-full}
-use Rattle.paper.specs.Services.{asked, printing, service}
+use Rattle.paper.specs.Services.{asked, printing}
 use Rattle.paper.specs.Rules.{Flagged}
 use Rattle.paper.specs.Events.{is-tick, is-input, is-output-done, event-of, stopped, turned, acting, turn-of, input, port-next, output-done, happening}
 use Rattle.paper.specs.declared.Task.{Task}
 use Rattle.paper.specs.declared.Shape.{Shape}
 use Rattle.paper.specs.declared.Queue.{Queue}
-use Rattle.paper.specs.declared.Service.{Service}
-use Rattle.paper.specs.declared.Asked.{Asked}
 use Rattle.paper.specs.declared.Event.{Event}
 use Rattle.paper.specs.declared.Woken.{Woken}
 use Rattle.paper.specs.declared.Answer.{Answer}
@@ -94,15 +92,6 @@ pub turns : (s : Shape) (im m l out : List ℕ) (i : Task) → m ≡ taken s im 
     → out ≡ turned s im i
 unfolding turned
 turns s im m l out i em el eo = rw (← em, ← el) eo
-
--- the service of a number
-pub serves : (s : Shape) (im : List ℕ) (i : Task) (v : Service) (k p : ℕ) (o : Outcome) → p ≡ k → asked k ≡ Asked.For v → o ≡ service s im i v
-    → o ≡ acting s im i (asked p)
-serves s im i v k p o e a eo = rw (e, a) eo
-
--- a number that is none of the first three is the last
-pub last-number : (p : ℕ) → (1 ≤ p) × (p ≤ 4) → ((Unit {0} × (p ≢ 1)) × (p ≢ 2)) × (p ≢ 3) → p ≡ 4
-last-number p (lo, hi) (((_, a), b), c) = omega arith
 
 -- where a service is pending there is no error
 no-error : (e p : ℕ) → 1 ≤ p → (e ≢ 0 → p ≡ 0) → e ≡ 0

@@ -8,8 +8,7 @@ ghost use Rattle.paper.specs.Image.{at as word-at, clock as clock-cell, flags a
 ghost use Rattle.paper.specs.Rules.{Flagged};
 ghost use Rattle.paper.specs.Waking.{outcome, one-if};
 ghost use Rattle.paper.specs.Queues.{empty as empty-of};
-ghost use Rattle.paper.specs.Services.{asked as asked-by};
-ghost use Rattle.paper.specs.Events.{event-of as event-by, stopped, turned, acting, turn-of as turn-by, input as input-by, port-next, output-done as output-done-by, happening};
+ghost use Rattle.paper.specs.Events.{event-of as event-by, stopped, turned, turn-of as turn-by, input as input-by, port-next, output-done as output-done-by, happening};
 ghost use Rattle.paper.specs.declared.Event.the-variants.{Tick};
 ghost use Rattle.paper.specs.declared.Queue.the-variants.{Ready};
 ghost use Rattle.laws.specs.Sound.{Sound};
@@ -20,7 +19,6 @@ use paper::Event;
 use paper::Queue;
 use paper::Refusal;
 use paper::Reply;
-use paper::Service;
 use paper::Shape;
 use paper::Task;
 use paper::Woken;
@@ -48,13 +46,6 @@ const OUTPUT_DONE: u16 = 2;
 
 // Flags from this on have a service pending, whose number is counted by this.
 const PENDING: u16 = 32;
-
-// The numbers of the services.
-const SEND: u16 = 1;
-
-const RECEIVE: u16 = 2;
-
-const ASK_INPUT: u16 = 3;
 
 // A character is at most this.
 const MOST_CHARACTER: u16 = 255;
@@ -110,23 +101,6 @@ pub fn turn(s: Shape, im: &mut [u16], t: Task)
     put(s, im, Spot::Clock, s.slice);
 }
 
-// The service with a number.
-fn serve(s: Shape, im: &mut [u16], x: Row, pending: u16) -> Reply
-    requires { ⌜ Sound s (now im) ⌝ }
-    requires { ⌜ Rowed s x ⌝ }
-    requires { ⌜ empty-of s (now im) Ready ≡ false ⌝ }
-    requires { ⌜ (1 ≤ pending) × (pending ≤ 4) ⌝ }
-    ensures { λ r. ⌜ outcome r (now (im .exit)) ≡ acting s (now (im .entry)) (x .task) (asked-by pending) ⌝ }
-    ensures { λ _. ⌜ Sound s (now (im .exit)) ⌝ }
-{
-    match pending {
-        SEND => service(s, im, x, Service::Send),
-        RECEIVE => service(s, im, x, Service::Receive),
-        ASK_INPUT => service(s, im, x, Service::Input),
-        _ => service(s, im, x, Service::Output),
-    }
-}
-
 // Rules 2 to 4, of the first task, whose flags have an error or a service pending.
 pub fn before_order(s: Shape, im: &mut [u16], x: Row, flags: u16, clock: u16) -> Reply
     requires { ⌜ Sound s (now im) ⌝ }
@@ -148,7 +122,7 @@ pub fn before_order(s: Shape, im: &mut [u16], x: Row, flags: u16, clock: u16) ->
         turn(s, im, t);
         return Reply::Accepted(Answer::TurnPassed(t));
     }
-    serve(s, im, x, flags / PENDING)
+    service(s, im, x, flags / PENDING)
 }
 
 // Whom an event wakes: a task, where its status is the one given.

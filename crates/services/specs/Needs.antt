@@ -11,11 +11,13 @@ use Rattle.paper.specs.Image.{task, most-character, at, put, reg, flags, status
 use Rattle.paper.specs.Queues.{part-of, Has, count, appended, first, taken, empty, full}
 use Rattle.paper.specs.Flags.{flags-of, cc-of, cc as cc-in, error, waits}
 use Rattle.paper.specs.Waking.{Outcome, outcome, accepted, refused, with-status, left, woken, one-if, with-woken, unless-full}
-use Rattle.paper.specs.Services.{other, given, error-if, service-faulted, no-such-task, no-character, fault-of, buffer, blocks, blocked, awaited, waiting, delivered, printing, printing-if-idle, moves, moved, served, waits-for, wakes, finished, service}
+use Rattle.paper.specs.Services.{asked, other, given, error-if, service-faulted, no-such-task, no-character, fault-of, buffer, blocks, blocked, awaited, waiting, delivered, printing, printing-if-idle, moves, moved, served, waits-for, wakes, finished, service}
+use Rattle.paper.specs.Events.{acting}
 use Rattle.paper.specs.declared.Task.{Task}
 use Rattle.paper.specs.declared.Shape.{Shape}
 use Rattle.paper.specs.declared.Queue.{Queue}
 use Rattle.paper.specs.declared.Service.{Service}
+use Rattle.paper.specs.declared.Asked.{Asked}
 use Rattle.paper.specs.declared.Fault.{Fault}
 use Rattle.paper.specs.declared.Woken.{Woken}
 use Rattle.paper.specs.declared.Answer.{Answer}
@@ -210,9 +212,14 @@ module _ (s : Shape) (im : List ℕ) (i : Task) (w : ℕ) (ew : w ≡ given s im
   unfolding done
   put-out m l out r f er ef em el eo = outcomes er (rw (← ew, ← em, ← el, ← ef) eo)
 
--- the service that is asked for
-pub asked-for : (s : Shape) (im : List ℕ) (i : Task) (v w : Service) (o : Outcome) → v ≡ w → o ≡ service s im i w → o ≡ service s im i v
-asked-for s im i v w o e eo = rw e eo
+-- the service of a number
+pub serves : (s : Shape) (im : List ℕ) (i : Task) (v : Service) (k p : ℕ) (o : Outcome) → p ≡ k → asked k ≡ Asked.For v → o ≡ service s im i v
+    → o ≡ acting s im i (asked p)
+serves s im i v k p o e a eo = rw (e, a) eo
+
+-- a number that is none of the first three is the last
+pub last-number : (p : ℕ) → (1 ≤ p) × (p ≤ 4) → ((Unit {0} × (p ≢ 1)) × (p ≢ 2)) × (p ≢ 3) → p ≡ 4
+last-number p (lo, hi) (((_, a), b), c) = omega arith
 
 -- what a test of a buffer tells
 module _ (s : Shape) (im : List ℕ) (q : Queue) (b : Bool) (t : b ≡ false) where

@@ -1,13 +1,14 @@
 // The services: what a pending one does for the first task, on a sound image. Each decides everything before it writes.
 ghost use mathlib.Core.Path.{_≡_};
 ghost use mathlib.Core.Bool.{false, _&&_};
-ghost use Prim.Native.Nat.{_<_};
+ghost use Prim.Native.Nat.{_<_, _≤_};
 ghost use lib.Dec.{eqb};
 ghost use Rattle.paper.specs.Image.{at, status as status-of, peer as peer-of};
 ghost use Rattle.paper.specs.Flags.{flags-of, cc, error};
 ghost use Rattle.paper.specs.Queues.{Has, appended, empty as empty-of, full as full-of};
 ghost use Rattle.paper.specs.Waking.{outcome, accepted, with-status as statused, left};
-ghost use Rattle.paper.specs.Services.{given, service-faulted, delivered, printing, printing-if-idle, service as service-of};
+ghost use Rattle.paper.specs.Services.{asked as asked-by, given, service-faulted, delivered, printing, printing-if-idle, service as service-of};
+ghost use Rattle.paper.specs.Events.{acting};
 ghost use Rattle.paper.specs.declared.Answer.the-variants.{ServiceDone, ServiceFaulted, ServiceWaits};
 ghost use Rattle.paper.specs.declared.Queue.the-variants.{Ready, Output};
 ghost use Rattle.paper.specs.declared.Service.the-variants.{Send, Receive, Input, Output as Print};
@@ -18,7 +19,6 @@ use paper::Answer;
 use paper::Queue;
 use paper::Refusal;
 use paper::Reply;
-use paper::Service;
 use paper::Shape;
 use paper::Task;
 use results::with_fault;
@@ -43,6 +43,13 @@ use words::take;
 const OTHER: usize = 2;
 
 const WORD: usize = 3;
+
+// The numbers of the services.
+const SEND: u16 = 1;
+
+const RECEIVE: u16 = 2;
+
+const ASK_INPUT: u16 = 3;
 
 // The errors of services.
 const NO_SUCH_TASK: u16 = 5;
@@ -273,18 +280,19 @@ fn output(s: Shape, im: &mut [u16], x: Row) -> Reply
     Reply::Accepted(Answer::ServiceDone(t))
 }
 
-// The service that the first task has pending.
-pub fn service(s: Shape, im: &mut [u16], x: Row, v: Service) -> Reply
+// The service that the first task has pending, by its number.
+pub fn service(s: Shape, im: &mut [u16], x: Row, pending: u16) -> Reply
     requires { ⌜ Sound s (now im) ⌝ }
     requires { ⌜ Rowed s x ⌝ }
     requires { ⌜ empty-of s (now im) Ready ≡ false ⌝ }
-    ensures { λ r. ⌜ outcome r (now (im .exit)) ≡ service-of s (now (im .entry)) (x .task) v ⌝ }
+    requires { ⌜ (1 ≤ pending) × (pending ≤ 4) ⌝ }
+    ensures { λ r. ⌜ outcome r (now (im .exit)) ≡ acting s (now (im .entry)) (x .task) (asked-by pending) ⌝ }
     ensures { λ _. ⌜ Sound s (now (im .exit)) ⌝ }
 {
-    match v {
-        Service::Send => send(s, im, x),
-        Service::Receive => receive(s, im, x),
-        Service::Input => input(s, im, x),
-        Service::Output => output(s, im, x),
+    match pending {
+        SEND => send(s, im, x),
+        RECEIVE => receive(s, im, x),
+        ASK_INPUT => input(s, im, x),
+        _ => output(s, im, x),
     }
 }

@@ -10,8 +10,8 @@ returns c = (search comes-to-stop, search needs)
 returns-2 : tie.Need-returns-2
 returns-2 c = (search comes-to-turn, search needs)
 
-serve-requires : tie.Need-serve-requires
-serve-requires c κs = (search needs, (search needs, (search needs, (search needs, search service-known))))
+service-requires : tie.Need-service-requires
+service-requires c κs = (search needs, (search needs, (search needs, (search needs, search service-known))))
 
 returns-3 : tie.Need-returns-3
 returns-3 c = (search comes-to-serve, search needs)
@@ -26,6 +26,6 @@ before-order-spec =
     (λ c κs. search needs)
     (λ c. search needs)
     returns-2
-    serve-requires
+    service-requires
     (λ c. search needs)
     returns-3)

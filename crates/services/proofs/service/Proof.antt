@@ -1,32 +1,38 @@
--- Each arm is the service that its variant names.
-use Rattle.services.specs.Needs.{asked-for}
+-- Each number is that of the service called; the last is 4, since the number is none of the others and at most 4.
+use mathlib.Core.Path.{refl}
+use Rattle.paper.specs.declared.Service.{Service}
+use Rattle.services.specs.Needs.{serves, last-number}
 use borrow.Author.Needs.{needs}
 use Rattle.services.proofs.service.Statement.{statement}
 use Rattle.services.proofs.service.Tie as tie
 
 returns : tie.Need-returns
-returns c = (search asked-for, search needs)
+returns c = let b = c .before .before in
+    let e = b .before .before .match .keys1 in
+    (serves _ _ _ Service.Send 1 _ _ e refl (b .send .ensures .0), search needs)
 
 returns-2 : tie.Need-returns-2
-returns-2 c = (search asked-for, search needs)
+returns-2 c = let b = c .before .before in
+    let e = b .before .before .match .keys2 in
+    (serves _ _ _ Service.Receive 2 _ _ e refl (b .receive .ensures .0), search needs)
 
 returns-3 : tie.Need-returns-3
-returns-3 c = (search asked-for, search needs)
+returns-3 c = let b = c .before .before in
+    let e = b .before .before .match .keys3 in
+    (serves _ _ _ Service.Input 3 _ _ e refl (b .input .ensures .0), search needs)
 
 returns-4 : tie.Need-returns-4
-returns-4 c = (search asked-for, search needs)
+returns-4 c = let b = c .before .before in
+    let e = last-number _ (b .before .before .before .before .pre .1 .1 .1) (b .before .before .match .rest) in
+    (serves _ _ _ Service.Output 4 _ _ e refl (b .output .ensures .0), search needs)
 
 pub service-spec : {M : Type 1} → statement M
 service-spec =
     tie.close
     (tie.spec
-    (λ c. search needs)
     (λ c κs. search needs)
-    (λ c. search needs)
     (λ c κs. search needs)
-    (λ c. search needs)
     (λ c κs. search needs)
-    (λ c. search needs)
     (λ c κs. search needs)
     (λ c. search needs)
     returns
