@@ -2,7 +2,7 @@
 use mathlib.Core.Path.{_≡_, refl, sym, ap, _∙_}
 use mathlib.Core.List.{List}
 use mathlib.Core.Bool.{Bool, true, false, cond}
-use mathlib.Core.Logic.{_≢_}
+use mathlib.Core.Logic.{_≢_, inl, inr}
 use Prim.Native.Nat.{ℕ, _+_, _*_, _<_, _≤_}
 use native.Mathlib.Nat.{zero-add}
 use native.Mathlib.Omega.{arith}
@@ -19,14 +19,14 @@ use Rattle.paper.specs.declared.Change.{Change}
 use Rattle.paper.specs.declared.Effect.{Effect}
 use Rattle.own.specs.Machines.{Apart, Fits, machine-fits, put-machine, register-fits, word-fits, put-with-register, put-with-flags, put-with-word}
 use Rattle.machine.specs.Parts.{Lent, in-part, address-of, held, machine-of, ordered}
-use Rattle.machine.specs.After.{InHand, Carried, Done}
+use Rattle.machine.specs.After.{InHand, Carried, Fell, Done, Worked}
 use Rattle.machine.specs.Holding.{flags-held, is-lent, is-quiet, is-from}
-use Rattle.machine.specs.declared.PartPlace.{PartPlace}
+use Rattle.machine.specs.declared.Aim.{Aim}
 use Rattle.machine.specs.declared.Segment.{Segment}
 use Rattle.machine.specs.declared.Went.{Went}
 
 -- the part after each change
-module _ (g : Segment) (p : List ℕ) (at : PartPlace) (lent : Lent g p) where
+module _ (g : Segment) (p : List ℕ) (at : Aim) (lent : Lent g p) where
   apart : Apart (in-part g) (held g p at)
   unfolding Lent
   apart = (omega (arith, lent), omega (arith, lent, length-set p 0 (address-of g at)))
@@ -111,12 +111,12 @@ module _ (g : Segment) (p : List ℕ) (at : PartPlace) (lent : Lent g p) where
       ap (λ (l : List ℕ). set l 8 (flags-of (cc m) e (pending m))) (put-machine (in-part g) (held g p at))
 
 -- what became of the order, by what was written
-module _ (g : Segment) (p : List ℕ) (at : PartPlace) (hand : InHand g p at) where
+module _ (g : Segment) (p : List ℕ) (at : Aim) (hand : InHand g p at) where
   lent : Lent g p
   lent = is-lent g p at hand
 
   -- another follows at a place that an address leads to, of a part as long, with no error and nothing pending
-  goes-on : (y : PartPlace) (v : ℕ) (out : List ℕ) → y .0 ≡ g .from + v → v < 65536 → length out ≡ length p → getD out 8 0 < 4
+  goes-on : (y : Aim) (v : ℕ) (out : List ℕ) → y .0 ≡ g .from + v → v < 65536 → length out ≡ length p → getD out 8 0 < 4
       → set out 0 v ≡ ordered g (held g p at) → Done g p at (Went.On y) out
   unfolding Done Carried InHand Lent
   goes-on y v out ey low long quiet e =
@@ -139,34 +139,41 @@ module _ (g : Segment) (p : List ℕ) (at : PartPlace) (hand : InHand g p at) wh
   quiet-set k v ne = omega (arith, getD-set-other p k 8 v 0 (λ e. ne (sym e)), is-quiet g p at hand)
 
   -- a fault, and a service asked for
-  pub fault-went : (e : ℕ) (m out : List ℕ) → decided (machine-of g p at) ≡ Effect.Faults e → m ≡ held g p at → out ≡ set m 8 (getD m 8 0 + 4 * e)
-      → Done g p at Went.Off out
-  unfolding Done Carried
-  fault-went e m out ed em eo =
+  pub fault-went : (e : ℕ) (m out : List ℕ) → 0 < e → decided (machine-of g p at) ≡ Effect.Faults e → m ≡ held g p at → out ≡ set m 8 (getD m 8 0 + 4 * e)
+      → Fell g p at Went.Off out
+  unfolding Fell Carried Lent
+  fault-went e m out some ed em eo =
+      let row : 8 < length m = rw em (omega (arith, lent, length-set p 0 (address-of g at))) in
       let kept : getD (held g p at) 8 0 ≡ getD p 8 0 = getD-set-other p 0 8 (address-of g at) 0 (λ z. omega arith) in
-      let f : getD (held g p at) 8 0 + 4 * e ≡ flags-of (cc (machine-of g p at)) e (pending (machine-of g p at)) = omega (arith, kept, bare, none-pending) in
-      eo ∙ ap (λ (l : List ℕ). set l 8 (getD l 8 0 + 4 * e)) em ∙ ap (λ (v : ℕ). set (held g p at) 8 v) f ∙ sym (ordered-faults g p at lent e ed)
+      let f : getD (held g p at) 8 0 + 4 * e ≡ flags-of (cc (machine-of g p at)) e (pending (machine-of g p at)) = omega (arith, kept, bare, none-pending) in (
+        refl,
+        eo ∙ ap (λ (l : List ℕ). set l 8 (getD l 8 0 + 4 * e)) em ∙ ap (λ (v : ℕ). set (held g p at) 8 v) f ∙ sym (ordered-faults g p at lent e ed),
+        rw eo (omega (arith, getD-set-same m 8 (getD m 8 0 + 4 * e) 0 row)),
+      )
 
-  pub ask-went : (a : ℕ) (next : PartPlace) (m out : List ℕ) → next .0 ≡ at .0 + 1
+  pub ask-went : (a : ℕ) (next : Aim) (m out : List ℕ) → 0 < a → next .0 ≡ at .0 + 1
       → decided (machine-of g p at) ≡ flags-become (address-of g at + 1) (flags-of (cc (machine-of g p at)) (error (machine-of g p at)) a)
       → m ≡ held g p next → out ≡ set m 8 (getD m 8 0 + 32 * a) → Done g p at Went.Off out
-  unfolding Done Carried
-  ask-went a next m out en ed em eo =
+  unfolding Done Carried Lent
+  ask-went a next m out some en ed em eo =
+      let row : 8 < length m = rw em (omega (arith, lent, length-set p 0 (address-of g next))) in
       let n : address-of g next ≡ address-of g at + 1 = omega (arith, is-from g p at hand) in
       let kept : getD (held g p next) 8 0 ≡ getD p 8 0 = getD-set-other p 0 8 (address-of g next) 0 (λ z. omega arith) in
-      let f : getD (held g p next) 8 0 + 32 * a ≡ flags-of (cc (machine-of g p at)) (error (machine-of g p at)) a = omega (arith, kept, bare, error-free) in
-      eo ∙ ap (λ (l : List ℕ). set l 8 (getD l 8 0 + 32 * a)) em ∙ ap (λ (v : ℕ). set (held g p next) 8 v) f ∙
-      ap (λ (k : ℕ). set (set p 0 k) 8 (flags-of (cc (machine-of g p at)) (error (machine-of g p at)) a)) n ∙
-      sym (ordered-flags g p at lent (address-of g at + 1) (flags-of (cc (machine-of g p at)) (error (machine-of g p at)) a) ed)
+      let f : getD (held g p next) 8 0 + 32 * a ≡ flags-of (cc (machine-of g p at)) (error (machine-of g p at)) a = omega (arith, kept, bare, error-free) in (
+        eo ∙ ap (λ (l : List ℕ). set l 8 (getD l 8 0 + 32 * a)) em ∙ ap (λ (v : ℕ). set (held g p next) 8 v) f ∙
+            ap (λ (k : ℕ). set (set p 0 k) 8 (flags-of (cc (machine-of g p at)) (error (machine-of g p at)) a)) n ∙
+            sym (ordered-flags g p at lent (address-of g at + 1) (flags-of (cc (machine-of g p at)) (error (machine-of g p at)) a) ed),
+        rw eo (omega (arith, getD-set-same m 8 (getD m 8 0 + 32 * a) 0 row)),
+      )
 
   -- a jump
-  pub jump-went : (n v : ℕ) (y : PartPlace) → decided (machine-of g p at) ≡ sets n 0 v → y .0 ≡ g .from + v → v < 65536 → Done g p at (Went.On y) p
+  pub jump-went : (n v : ℕ) (y : Aim) → decided (machine-of g p at) ≡ sets n 0 v → y .0 ≡ g .from + v → v < 65536 → Done g p at (Went.On y) p
   jump-went n v y ed ey low =
       goes-on y v p ey low refl (is-quiet g p at hand)
       (sym (set-set p 0 n v) ∙ sym (ordered-register g p at lent n 0 v (omega arith) ed))
 
   -- the next order so many words on
-  module _ (k : ℕ) (next : PartPlace) (inside : at .0 < g .to) (en : next .0 ≡ at .0 + k) (two : k ≤ 2) where
+  module _ (k : ℕ) (next : Aim) (inside : at .0 < g .to) (en : next .0 ≡ at .0 + k) (two : k ≤ 2) where
     next-is : next .0 ≡ g .from + (address-of g at + k)
     next-is = omega (arith, is-from g p at hand)
 
@@ -180,23 +187,26 @@ module _ (g : Segment) (p : List ℕ) (at : PartPlace) (hand : InHand g p at) wh
         goes-on next (address-of g at + k) (set p a v) next-is next-low (length-set p a v) (quiet-set a v (λ e. omega arith))
         (set-comm p a 0 v (address-of g at + k) ne ∙ sym (ordered-register g p at lent (address-of g at + k) a v h ed))
 
-    register-off : (a v : ℕ) → a ≡ 0 → decided (machine-of g p at) ≡ sets (address-of g at + k) a v → Done g p at Went.Off (set p a v)
-    unfolding Done Carried
-    register-off a v e ed =
-        ap (λ (j : ℕ). set p j v) e ∙ sym (set-set p 0 (address-of g at + k) v) ∙
-        ap (λ (j : ℕ). set (set p 0 (address-of g at + k)) j v) (sym e) ∙
-        sym (ordered-register g p at lent (address-of g at + k) a v (omega arith) ed)
+    register-off : (a v : ℕ) → a ≡ 0 → decided (machine-of g p at) ≡ sets (address-of g at + k) a v → Worked g p at a Went.Off (set p a v)
+    unfolding Worked Carried
+    register-off a v e ed = (
+      ap (λ (j : ℕ). set p j v) e ∙ sym (set-set p 0 (address-of g at + k) v) ∙
+          ap (λ (j : ℕ). set (set p 0 (address-of g at + k)) j v) (sym e) ∙
+          sym (ordered-register g p at lent (address-of g at + k) a v (omega arith) ed),
+      inr e,
+    )
 
     register-case : (a v : ℕ) (t : Bool) → eqb a 0 ≡ t → a < 8 → decided (machine-of g p at) ≡ sets (address-of g at + k) a v
-        → Done g p at (cond t Went.Off (Went.On next)) (set p a v)
+        → Worked g p at a (cond t Went.Off (Went.On next)) (set p a v)
+    unfolding Worked
     register-case a v true e h ed = register-off a v (eqb-true a 0 e) ed
     register-case a v false e h ed = register-on a v h (eqb-false a 0 e) ed
 
     pub set-went : (a v : ℕ) (r : Went) (out : List ℕ) → a < 8 → decided (machine-of g p at) ≡ sets (address-of g at + k) a v
-        → r ≡ cond (eqb a 0) Went.Off (Went.On next) → out ≡ set p a v → Done g p at r out
+        → r ≡ cond (eqb a 0) Went.Off (Went.On next) → out ≡ set p a v → Worked g p at a r out
     set-went a v r out h ed er eo = rw (er, eo) (register-case a v (eqb a 0) refl h ed)
 
-  module _ (next : PartPlace) (inside : at .0 < g .to) (en : next .0 ≡ at .0 + 1) where
+  module _ (next : Aim) (inside : at .0 < g .to) (en : next .0 ≡ at .0 + 1) where
     -- a word of the segment
     pub store-went : (a v j : ℕ) (out : List ℕ) → decided (machine-of g p at) ≡ Effect.Does (address-of g at + 1) (Change.Store (address a) v)
         → j ≡ g .from + a → j < g .to → out ≡ set p j v → Done g p at (Went.On next) out
@@ -225,7 +235,7 @@ module _ (g : Segment) (p : List ℕ) (at : PartPlace) (hand : InHand g p at) wh
         sym (ordered-flags g p at lent n (flags-of (compared x y) (error (machine-of g p at)) (pending (machine-of g p at))) ed))
 
   -- a call: the return address at a place of the segment, then R1
-  pub call-went : (n top v j : ℕ) (y : PartPlace) (out : List ℕ) → decided (machine-of g p at) ≡ Effect.Does n (Change.Call (address top) v)
+  pub call-went : (n top v j : ℕ) (y : Aim) (out : List ℕ) → decided (machine-of g p at) ≡ Effect.Does n (Change.Call (address top) v)
       → j ≡ g .from + top → j < g .to → out ≡ set (set p j n) 1 top → y .0 ≡ g .from + v → v < 65536 → Done g p at (Went.On y) out
   unfolding Lent
   call-went n top v j y out ed ej h e ey low =
@@ -240,7 +250,7 @@ module _ (g : Segment) (p : List ℕ) (at : PartPlace) (hand : InHand g p at) wh
       sym (ordered-call g p at lent n (address top) v (omega arith) ed))
 
   -- a return
-  pub return-went : (n top v : ℕ) (y : PartPlace) (out : List ℕ) → decided (machine-of g p at) ≡ Effect.Does n (Change.Return top v)
+  pub return-went : (n top v : ℕ) (y : Aim) (out : List ℕ) → decided (machine-of g p at) ≡ Effect.Does n (Change.Return top v)
       → out ≡ set p 1 top → y .0 ≡ g .from + v → v < 65536 → Done g p at (Went.On y) out
   return-went n top v y out ed eo ey low =
       let inner : set (set (set p 0 n) 1 top) 0 v ≡ set (set p 1 top) 0 v =

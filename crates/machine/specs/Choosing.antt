@@ -1,41 +1,129 @@
 -- What the functions that decide ask and answer, as laws over values. Assumes nothing.
 use mathlib.Core.Path.{_≡_, refl, sym, ap, _∙_}
 use mathlib.Core.List.{List}
-use mathlib.Core.Bool.{Bool, true, false, cond, not, _&&_, _||_}
-use mathlib.Core.Logic.{_≢_, dite}
+use mathlib.Core.Bool.{Bool, true, false, cond, not, _&&_, _||_, and-eq-true-iff}
+use mathlib.Core.Logic.{_≢_, _⊎_, inl, inr, dite}
 use Prim.Native.Nat.{ℕ, zero, suc, _+_, _*_, _/_, _%_, _<_, _≤_}
 use native.Mathlib.Decide.{decLt}
 use native.Mathlib.Omega.{arith}
-use lib.Dec.{T, eqb, leb, ltb}
+use borrow.Author.Tests.{eq-eqb, ne-eqb, eqb-false, le-leb, lt-leb, leb-true, not-false}
+use lib.Dec.{T, eqb, leb}
 use lib.ListN.{length, getD, set, length-set}
-use lib.Seq.{getD-set-other, set-set}
+use lib.Seq.{getD-set-same, getD-set-other, set-set}
 use Rattle.paper.specs.Orders.{op-of, a-of, order-of, two-registers, shape-of-order, mod-word, effect, decided}
 use Rattle.paper.specs.declared.Op.{Op}
 use Rattle.shapes.specs.Entries.{kind, encoded}
-use Rattle.shapes.specs.Reading.{kind-read, kind-few, only, two-kind, two-shape}
-use Rattle.machine.specs.Parts.{Lent, address-of, held, machine-of, ordered}
-use Rattle.machine.specs.After.{InHand, Fetched, Named, Carried, Done, After}
-use Rattle.machine.specs.Holding.{is-lent, is-quiet, is-from, is-row}
-use Rattle.machine.specs.Deciding.{is-inside, load-acts, return-acts, jump-taken, jump-passed, service-acts, two-named, moved-act}
+use Rattle.shapes.specs.Reading.{kind-read, kind-few, one-of, only, two-kind, two-shape}
+use Rattle.machine.specs.Parts.{Lent, reach-of, address-of, held, machine-of, ordered, names-next, ends-row}
+use Rattle.machine.specs.After.{InHand, Fetched, Carried, Loud, Fell, Done, Worked, After}
+use Rattle.machine.specs.Holding.{is-lent, is-quiet, is-from, is-some, is-row}
+use Rattle.machine.specs.Deciding.{is-inside, load-acts, return-acts, jump-taken, jump-passed, service-acts, a-is, b-is, loaded, moved-act}
 use Rattle.machine.specs.Carrying.{set-went, jump-went, return-went, ask-went}
+use Rattle.machine.specs.declared.Aim.{Aim}
 use Rattle.machine.specs.declared.PartPlace.{PartPlace}
+use Rattle.machine.specs.declared.Reach.{Reach}
 use Rattle.machine.specs.declared.Segment.{Segment}
 use Rattle.machine.specs.declared.Went.{Went}
 
--- what was carried out is not left
-pub done-after : (g : Segment) (p : List ℕ) (at : PartPlace) (r : Went) (out : List ℕ) → Done g p at r out → After g p at r out
-unfolding After Done
-done-after g p at (Went.On y) out h = h
-done-after g p at Went.Off out h = h
-done-after g p at Went.Left out h = absurd h
+either-true : (b : Bool) → (b || true) ≡ true
+either-true true = refl
+either-true false = refl
+
+or-false : (b : Bool) → (b || false) ≡ b
+or-false true = refl
+or-false false = refl
+
+-- an order ends its row where it left an error or a service pending, or names R0
+module _ (g : Segment) (p : List ℕ) (at : Aim) (hand : InHand g p at) where
+  own-word : getD (held g p at) (g .from + getD (held g p at) 0 0) 0 ≡ getD p (at .0) 0
+  unfolding Lent
+  own-word =
+      let r0 : g .from + getD (held g p at) 0 0 ≡ at .0 = omega (arith, getD-set-same p 0 (address-of g at) 0 (is-some g p at hand), is-from g p at hand) in
+      ap (λ (k : ℕ). getD (held g p at) k 0) r0 ∙ getD-set-other p 0 (at .0) (address-of g at) 0 (λ e. omega (arith, is-from g p at hand, is-lent g p at hand))
+
+  ends-is : ends-row g (held g p at) ≡ (leb 4 (getD (ordered g (held g p at)) 8 0) || names-next (shape-of-order (order-of (op-of (getD p (at .0) 0)))) (getD p (at .0) 0))
+  unfolding ends-row
+  ends-is = rw own-word
+
+  loud-ends : (out : List ℕ) → Carried g p at out → Loud out → ends-row g (held g p at) ≡ true
+  unfolding Carried
+  loud-ends out c loud = ends-is ∙ rw (← c, le-leb 4 (getD out 8 0) loud)
+
+  named-ends : (w : ℕ) → w ≡ getD p (at .0) 0 → names-next (shape-of-order (order-of (op-of w))) w ≡ true → ends-row g (held g p at) ≡ true
+  named-ends w ew n = ends-is ∙ rw (← ew, n) (either-true (leb 4 (getD (ordered g (held g p at)) 8 0)))
+
+  quiet-goes : (w : ℕ) (y : Aim) (out : List ℕ) → w ≡ getD p (at .0) 0 → names-next (shape-of-order (order-of (op-of w))) w ≡ false → Done g p at (Went.On y) out
+      → ends-row g (held g p at) ≡ false
+  unfolding Done Carried
+  quiet-goes w y out ew n d =
+      let calm : getD (held g out y) 8 0 < 4 = omega (arith, getD-set-other out 0 8 (address-of g y) 0 (λ e. omega arith), is-quiet g out y (d .1)) in
+      ends-is ∙ rw (← ew, n, ← d .0, lt-leb 4 (getD (held g out y) 8 0) calm)
+
+  -- so what became of an order tells whether it does
+  pub fell-after : (r : Went) (out : List ℕ) → Fell g p at r out → After g p at r out
+  unfolding Fell After
+  fell-after r out f = rw (f .0) (f .1, loud-ends out (f .1) (f .2))
+
+  module _ (w : ℕ) (fetched : Fetched g p at w) where
+    word-of : w ≡ getD p (at .0) 0
+    unfolding Fetched
+    word-of = fetched .1
+
+    pub done-after : names-next (shape-of-order (order-of (op-of w))) w ≡ false → (r : Went) (out : List ℕ) → Done g p at r out → After g p at r out
+    unfolding After Done
+    done-after n (Went.On y) out h = (h, quiet-goes w y out word-of n h)
+    done-after n Went.Off out h = (h .0, loud-ends out (h .0) (h .1))
+    done-after n (Went.Left v) out h = absurd h
+
+    -- an order that writes a register other than R0
+    worked-after : (a : ℕ) → a ≢ 0 → names-next (shape-of-order (order-of (op-of w))) w ≡ false → (r : Went) (out : List ℕ) → Worked g p at a r out → After g p at r out
+    unfolding After Worked
+    worked-after a ne n (Went.On y) out h = (h, quiet-goes w y out word-of n h)
+    worked-after a ne n Went.Off out h = (h .0, go (h .1))
+      where
+        go : Loud out ⊎ (a ≡ 0) → ends-row g (held g p at) ≡ true
+        go (inl loud) = loud-ends out (h .0) loud
+        go (inr z) = absurd (ne z)
+    worked-after a ne n (Went.Left v) out h = absurd h
+
+    -- load
+    module _ (e : order-of (op-of w) ≡ Op.Load) (a : ℕ) (ea : a ≡ w / 16 % 8) (next : Aim) where
+      load-names : names-next (shape-of-order (order-of (op-of w))) w ≡ eqb a 0
+      load-names = rw (e, loaded g p at w hand fetched e a ea) (or-false (eqb (a-of w) 0))
+
+      load-case : (t : Bool) → eqb a 0 ≡ t → (out : List ℕ) → Worked g p at a (cond t Went.Off (Went.On next)) out → After g p at (cond t Went.Off (Went.On next)) out
+      unfolding After Worked
+      load-case true z out h = (h .0, named-ends w word-of (load-names ∙ z))
+      load-case false z out h = worked-after a (eqb-false a 0 z) (load-names ∙ z) (Went.On next) out h
+
+      pub load-after : (r : Went) (out : List ℕ) → r ≡ cond (eqb a 0) Went.Off (Went.On next) → Worked g p at a r out → After g p at r out
+      load-after r out er h = rw er (load-case (eqb a 0) refl out (rw er at h))
+
+    -- an order of two registers, of which one may be R0
+    module _ (sh : shape-of-order (order-of (op-of w)) ≡ two-registers) (a b : ℕ) (ea : a ≡ w / 16 % 8) (eb : b ≡ w % 8) where
+      two-names : names-next (shape-of-order (order-of (op-of w))) w ≡ (eqb a 0 || eqb b 0)
+      two-names = rw (sh, a-is g p at w hand fetched sh a b ea eb, b-is g p at w hand fetched sh a b ea eb)
+
+      pub two-after : a ≢ 0 → b ≢ 0 → (r : Went) (out : List ℕ) → Worked g p at a r out → After g p at r out
+      two-after na nb r out h = worked-after a na (two-names ∙ rw (ne-eqb a 0 na, ne-eqb b 0 nb)) r out h
+
+      left-as : (eqb a 0 || eqb b 0) ≡ true → After g p at (Went.Left w) p
+      unfolding After
+      left-as n = (refl, fetched, sh, named-ends w word-of (two-names ∙ n))
+
+      pub a-left : a ≡ 0 → After g p at (Went.Left w) p
+      a-left z = left-as (rw (eq-eqb a 0 z))
+
+      pub b-left : b ≡ 0 → After g p at (Went.Left w) p
+      b-left z = left-as (rw (eq-eqb b 0 z) (either-true (eqb a 0)))
 
 -- the place of the order itself
-pub first-fits : (g : Segment) (p : List ℕ) (at : PartPlace) → InHand g p at → at .0 < g .to → at .0 * 2 < 18446744073709551616
+pub first-fits : (g : Segment) (p : List ℕ) (at : Aim) → InHand g p at → at .0 < g .to → at .0 * 2 < 18446744073709551616
 unfolding Lent
 first-fits g p at hand h = omega (arith, is-lent g p at hand)
 
 -- the registers that the fields name
-module _ (g : Segment) (p : List ℕ) (at : PartPlace) (w : ℕ) (hand : InHand g p at) where
+module _ (g : Segment) (p : List ℕ) (at : Aim) (w : ℕ) (hand : InHand g p at) where
   pub a-in : (a : ℕ) → a ≡ w / 16 % 8 → a < length p
   a-in a e = omega (arith, is-row g p at hand)
 
@@ -75,39 +163,45 @@ module _ (w k : ℕ) (ek : kind (order-of (op-of w)) ≡ k) where
   is-jump none = omega (arith, ek, kind-few (op-of w), from-on 15 k none)
 
 -- what became of an order
-module _ (g : Segment) (p : List ℕ) (at : PartPlace) (w : ℕ) (hand : InHand g p at) (fetched : Fetched g p at w) where
-  pub left : shape-of-order (order-of (op-of w)) ≡ two-registers → After g p at Went.Left p
-  unfolding After
-  left sh = (refl, two-named g p at w hand fetched sh)
+module _ (g : Segment) (p : List ℕ) (at : Aim) (w : ℕ) (hand : InHand g p at) (fetched : Fetched g p at w) where
+  pub load-next : order-of (op-of w) ≡ Op.Load → (a n : ℕ) (x next : Aim) (r : Reach) (k : PartPlace) (z : Went) (out : List ℕ) → a ≡ w / 16 % 8
+      → x .0 ≡ at .0 + 1 → r ≡ reach-of g x → r ≡ Reach.At k → n ≡ getD p (k .0) 0 → next .0 ≡ at .0 + 2 → z ≡ cond (eqb a 0) Went.Off (Went.On next) → out ≡ set p a n
+      → After g p at z out
+  load-next e a n x next r k z out ea ex er ek en enext ez eo =
+      load-after g p at hand w fetched e a ea next z out ez
+      (set-went g p at hand 2 next (is-inside g p at w hand fetched) enext (omega arith) a n z out (omega arith) (load-acts g p at w hand fetched e a ea x r k n ex er ek en) ez eo)
 
-  pub load-next : order-of (op-of w) ≡ Op.Load → (a n : ℕ) (x next : PartPlace) (t : Bool) (r : Went) (out : List ℕ) → a ≡ w / 16 % 8 → x .0 ≡ at .0 + 1
-      → t ≡ ltb (x .0) (g .to) → not t ≡ false → n ≡ getD p (x .0) 0 → next .0 ≡ at .0 + 2 → r ≡ cond (eqb a 0) Went.Off (Went.On next) → out ≡ set p a n
-      → After g p at r out
-  load-next e a n x next t r out ea ex et h en enext er eo =
-      done-after g p at r out
-      (set-went g p at hand 2 next (is-inside g p at w hand fetched) enext (omega arith) a n r out (omega arith) (load-acts g p at w hand fetched e a ea x t n ex et h en) er eo)
+  pub call-after : order-of (op-of w) ≡ Op.Call → (r : Went) (out : List ℕ) → Done g p at r out → After g p at r out
+  call-after e r out h = done-after g p at hand w fetched (rw e) r out h
 
-  pub return-next : order-of (op-of w) ≡ Op.Return → (v n top : ℕ) (x y : PartPlace) (t : Bool) (out : List ℕ) → v ≡ getD p 1 0 → x .0 ≡ g .from + v
-      → t ≡ ltb (x .0) (g .to) → not t ≡ false → n ≡ getD p (x .0) 0 → top ≡ mod-word (v + 1) → out ≡ set p 1 top → y .0 ≡ g .from + n → n < 65536
+  pub return-next : order-of (op-of w) ≡ Op.Return → (v n top : ℕ) (x y : Aim) (r : Reach) (k : PartPlace) (out : List ℕ) → v ≡ getD p 1 0 → x .0 ≡ g .from + v
+      → r ≡ reach-of g x → r ≡ Reach.At k → n ≡ getD p (k .0) 0 → top ≡ mod-word (v + 1) → out ≡ set p 1 top → y .0 ≡ g .from + n → n < 65536
       → After g p at (Went.On y) out
-  return-next e v n top x y t out ev ex et h en etop eo ey low =
-      done-after g p at (Went.On y) out
-      (return-went g p at hand _ top n y out (return-acts g p at w hand fetched e v ev x ex t n top et h en etop) eo ey low)
+  return-next e v n top x y r k out ev ex er ek en etop eo ey low =
+      done-after g p at hand w fetched (rw e) (Went.On y) out
+      (return-went g p at hand _ top n y out (return-acts g p at w hand fetched e v ev x ex r er k n top ek en etop) eo ey low)
 
-  module _ (ek : kind (order-of (op-of w)) ≡ 15) (low : a-of w ≤ 2) (x : PartPlace) (t : Bool) (ex : x .0 ≡ at .0 + 1) (et : t ≡ ltb (x .0) (g .to))
-      (h : not t ≡ false) (b : Bool) (eb : b ≡ (eqb (op-of w) 14 || eqb (getD p 8 0) (a-of w))) where
-    pub jump-next : (n : ℕ) (y : PartPlace) → b ≡ true → n ≡ getD p (x .0) 0 → y .0 ≡ g .from + n → n < 65536 → After g p at (Went.On y) p
+  module _ (ek : kind (order-of (op-of w)) ≡ 15) (low : a-of w ≤ 2) (x : Aim) (r : Reach) (ex : x .0 ≡ at .0 + 1) (er : r ≡ reach-of g x)
+      (k : PartPlace) (ea : r ≡ Reach.At k) (b : Bool) (eb : b ≡ (eqb (op-of w) 14 || eqb (getD p 8 0) (a-of w))) where
+    no-names : names-next (shape-of-order (order-of (op-of w))) w ≡ false
+    no-names = go (one-of (order-of (op-of w)) 15 ek)
+      where
+        go : (order-of (op-of w) ≡ Op.Jump) ⊎ (order-of (op-of w) ≡ Op.JumpIf) → names-next (shape-of-order (order-of (op-of w))) w ≡ false
+        go (inl e) = rw e
+        go (inr e) = rw e
+
+    pub jump-next : (n : ℕ) (y : Aim) → b ≡ true → n ≡ getD p (k .0) 0 → y .0 ≡ g .from + n → n < 65536 → After g p at (Went.On y) p
     jump-next n y z en ey small =
-        done-after g p at (Went.On y) p (jump-went g p at hand _ n y (jump-taken g p at w hand fetched ek low x t ex et h b eb n z en) ey small)
+        done-after g p at hand w fetched no-names (Went.On y) p (jump-went g p at hand _ n y (jump-taken g p at w hand fetched ek low x r ex er k ea b eb n z en) ey small)
 
-    pub pass-next : (y : PartPlace) → b ≡ false → y .0 ≡ at .0 + 2 → After g p at (Went.On y) p
+    pub pass-next : (y : Aim) → b ≡ false → y .0 ≡ at .0 + 2 → After g p at (Went.On y) p
     unfolding Lent
     pass-next y z ey =
         let place : y .0 ≡ g .from + (address-of g at + 2) = omega (arith, is-from g p at hand) in
         let small : address-of g at + 2 < 65536 = omega (arith, is-inside g p at w hand fetched, is-lent g p at hand) in
-        done-after g p at (Went.On y) p (jump-went g p at hand _ _ y (jump-passed g p at w hand fetched ek low x t ex et h b eb z) place small)
+        done-after g p at hand w fetched no-names (Went.On y) p (jump-went g p at hand _ _ y (jump-passed g p at w hand fetched ek low x r ex er k ea b eb z) place small)
 
-  module _ (next : PartPlace) (en : next .0 ≡ at .0 + 1) (m : List ℕ) (em : m ≡ held g p next) where
+  module _ (next : Aim) (en : next .0 ≡ at .0 + 1) (m : List ℕ) (em : m ≡ held g p next) where
     pub asked-row : 8 < length m
     asked-row = rw em (omega (arith, is-row g p at hand, length-set p 0 (address-of g next)))
 
@@ -117,10 +211,12 @@ module _ (g : Segment) (p : List ℕ) (at : PartPlace) (w : ℕ) (hand : InHand 
     pub ask-next : (t : Bool) (out : List ℕ) → op-of w ≡ 18 → t ≡ (leb 1 (a-of w) && leb (a-of w) 4) → not t ≡ false
         → out ≡ set m 8 (getD m 8 0 + 32 * (a-of w)) → After g p at Went.Off out
     ask-next t out op et h eo =
-        done-after g p at Went.Off out (ask-went g p at hand (a-of w) next m out en (service-acts g p at w hand fetched op t et h) em eo)
+        let asked = and-eq-true-iff (leb 1 (a-of w)) (leb (a-of w) 4) .0 (sym et ∙ not-false t h) in
+        done-after g p at hand w fetched (rw op) Went.Off out
+        (ask-went g p at hand (a-of w) next m out (leb-true 1 (a-of w) (asked .0)) en (service-acts g p at w hand fetched op t et h) em eo)
 
 -- R0 moved past the order before operands are read
-module _ (g : Segment) (p : List ℕ) (at : PartPlace) (hand : InHand g p at) (next : PartPlace) (m : List ℕ) (em : m ≡ held g p next) where
+module _ (g : Segment) (p : List ℕ) (at : Aim) (hand : InHand g p at) (next : Aim) (m : List ℕ) (em : m ≡ held g p next) where
   moved-long : length m ≡ length p
   moved-long = rw em (length-set p 0 (address-of g next))
 
@@ -142,40 +238,20 @@ module _ (g : Segment) (p : List ℕ) (at : PartPlace) (hand : InHand g p at) (n
       h ∙ ap (ordered g) (ap (λ (l : List ℕ). held g l at) em ∙ set-set p 0 (address-of g next) (address-of g at))
 
   -- what became of it is carried out
-  module _ (r : Went) (l : List ℕ) (h : Done g m at r l) where
-    pub moved-on : (y : PartPlace) (out : List ℕ) → r ≡ Went.On y → out ≡ held g l y → Carried g p at out
-    unfolding Done
+  module _ (a : ℕ) (r : Went) (l : List ℕ) (h : Worked g m at a r l) where
+    pub moved-on : (y : Aim) (out : List ℕ) → r ≡ Went.On y → out ≡ held g l y → Carried g p at out
+    unfolding Worked Done
     moved-on y out e eo = carried-anew out (rw eo ((rw e at h) .0))
 
     pub moved-off : r ≡ Went.Off → Carried g p at l
-    unfolding Done
-    moved-off e = carried-anew l (rw e at h)
+    unfolding Worked
+    moved-off e = carried-anew l ((rw e at h) .0)
 
-    pub never-left : r ≡ Went.Left → Carried g p at l
-    unfolding Done
-    never-left e = absurd (rw e at h)
+    pub never-left : (w : ℕ) → r ≡ Went.Left w → Carried g p at l
+    unfolding Worked
+    never-left w e = absurd (rw e at h)
 
--- an order of two registers, of which one may be R0
-module _ (g : Segment) (p : List ℕ) (at : PartPlace) (hand : InHand g p at) (named : Named g p at) where
-  pub named-inside : at .0 < g .to
-  unfolding Named
-  named-inside = named .0
-
-  pub named-shape : shape-of-order (order-of (op-of (getD p (at .0) 0))) ≡ two-registers
-  unfolding Named
-  named-shape = named .1
-
-  named-fetched : Fetched g p at (getD p (at .0) 0)
-  unfolding Named Fetched
-  named-fetched = (named .0, refl, named .2)
-
-  pub named-act : (next : PartPlace) (m : List ℕ) (a b v y : ℕ) → m ≡ held g p next → a ≡ getD p (at .0) 0 / 16 % 8 → b ≡ getD p (at .0) 0 % 8
-      → next .0 ≡ at .0 + 1 → v ≡ getD m a 0 → y ≡ getD m b 0
-      → decided (machine-of g m at) ≡ effect (order-of (op-of (getD p (at .0) 0))) (machine-of g m at) (address-of g at + 1) a v y
-  named-act next m a b v y em ea eb en ev ey =
-      moved-act g p at (getD p (at .0) 0) hand named-fetched named-shape a b ea eb next en m em v y ev ey
-
--- where an order was carried out and another follows, R0 is in hand
-pub on-hand : (g : Segment) (p : List ℕ) (at : PartPlace) (r : Went) (out : List ℕ) (y : PartPlace) → Done g p at r out → r ≡ Went.On y → InHand g out y
-unfolding Done
-on-hand g p at r out y h e = (rw e at h) .1
+    -- where another follows, R0 is in hand
+    pub on-hand : (y : Aim) → r ≡ Went.On y → InHand g l y
+    unfolding Worked Done
+    on-hand y e = (rw e at h) .1

@@ -20,25 +20,31 @@ use Rattle.paper.specs.declared.Change.{Change}
 use Rattle.paper.specs.declared.Effect.{Effect}
 use Rattle.shapes.specs.Entries.{kind, encoded, Fits}
 use Rattle.shapes.specs.Reading.{told, fields-told, misfit, one-of, op-is}
-use Rattle.machine.specs.Parts.{Lent, in-part, address-of, held, machine-of}
-use Rattle.machine.specs.After.{InHand, Fetched, Named}
-use Rattle.machine.specs.Holding.{next-held, register-held, flags-held, operand-next, operand-held, word-held, outside-held, is-lent, is-quiet, is-from, is-some}
+use Rattle.machine.specs.Parts.{Lent, in-part, reach-of, address-of, held, machine-of}
+use Rattle.machine.specs.After.{InHand, Fetched}
+use Rattle.machine.specs.Holding.{past-end, place-is, within, next-held, register-held, flags-held, operand-next, operand-held, word-held, outside-held, is-lent, is-quiet, is-from, is-some}
+use Rattle.machine.specs.declared.Aim.{Aim}
 use Rattle.machine.specs.declared.PartPlace.{PartPlace}
+use Rattle.machine.specs.declared.Reach.{Reach}
 use Rattle.machine.specs.declared.Segment.{Segment}
 
 -- the first word's address before all
-module _ (g : Segment) (p : List ℕ) (at : PartPlace) (hand : InHand g p at) where
+module _ (g : Segment) (p : List ℕ) (at : Aim) (hand : InHand g p at) where
   own-place : at .0 ≡ g .from + address-of g at
   own-place = omega (arith, is-from g p at hand)
 
   next-is : next-order (machine-of g p at) ≡ address-of g at
   next-is = next-held g p at (is-lent g p at hand)
 
-  pub first-outside : (t : Bool) → t ≡ ltb (at .0) (g .to) → not t ≡ true → decided (machine-of g p at) ≡ Effect.Faults outside
+  pub first-outside : (r : Reach) → r ≡ reach-of g at → r ≡ Reach.Outside → decided (machine-of g p at) ≡ Effect.Faults outside
   unfolding decided
-  first-outside t et past-it =
-      let past = outside-held g p at (address-of g at) (at .0) own-place (ltb-false (at .0) (g .to) (sym et ∙ not-true t past-it)) in
+  first-outside r er eo =
+      let past = outside-held g p at (address-of g at) (at .0) own-place (past-end g at r er eo) in
       rw (next-is, past)
+
+  -- the first word
+  pub first-word : (r : Reach) (k : PartPlace) (w : ℕ) → r ≡ reach-of g at → r ≡ Reach.At k → w ≡ getD p (k .0) 0 → w ≡ getD p (at .0) 0
+  first-word r k w er ek ew = rw (← place-is g at r er k ek) ew
 
   decided-is : (w : ℕ) → at .0 < g .to → w ≡ getD p (at .0) 0
       → decided (machine-of g p at) ≡ checked (shape-of-order (order-of (op-of w))) (machine-of g p at) w
@@ -66,7 +72,7 @@ unfolding checked
 unknown-faults m w o e = rw e
 
 -- an order with fields as far as their bits tell
-module _ (g : Segment) (p : List ℕ) (at : PartPlace) (w : ℕ) (hand : InHand g p at) (fetched : Fetched g p at w) where
+module _ (g : Segment) (p : List ℕ) (at : Aim) (w : ℕ) (hand : InHand g p at) (fetched : Fetched g p at w) where
   pub is-inside : at .0 < g .to
   unfolding Fetched
   is-inside = fetched .0
@@ -112,10 +118,10 @@ module _ (g : Segment) (p : List ℕ) (at : PartPlace) (w : ℕ) (hand : InHand 
     two-acts = known-acts (order-of (op-of w)) 1 Field.Register Field.Register (omega arith) refl sh (registers .0) (registers .1) refl
 
     module _ (a b : ℕ) (ea : a ≡ w / 16 % 8) (eb : b ≡ w % 8) where
-      a-is : a-of w ≡ a
+      pub a-is : a-of w ≡ a
       a-is = omega (arith, ltb-true (a-of w) 8 (registers .0))
 
-      b-is : b-of w ≡ b
+      pub b-is : b-of w ≡ b
       b-is = omega (arith, ltb-true (b-of w) 8 (registers .1))
 
       fields-act : (v y : ℕ) → operand (machine-of g p at) (address-of g at + 1) a ≡ v → operand (machine-of g p at) (address-of g at + 1) b ≡ y
@@ -129,7 +135,7 @@ module _ (g : Segment) (p : List ℕ) (at : PartPlace) (w : ℕ) (hand : InHand 
           (operand-held g p at (address-of g at + 1) b (pos b nb) (omega arith) ∙ sym ey)
 
       -- R0 among them: R0 is moved past the order first
-      module _ (next : PartPlace) (en : next .0 ≡ at .0 + 1) (m : List ℕ) (em : m ≡ held g p next) where
+      module _ (next : Aim) (en : next .0 ≡ at .0 + 1) (m : List ℕ) (em : m ≡ held g p next) where
         moved : machine-of g m at ≡ machine-of g p at
         moved = ap (machine (in-part g)) (ap (λ (l : List ℕ). held g l at) em ∙ set-set p 0 (address-of g next) (address-of g at))
 
@@ -149,22 +155,19 @@ module _ (g : Segment) (p : List ℕ) (at : PartPlace) (w : ℕ) (hand : InHand 
             → decided (machine-of g m at) ≡ effect (order-of (op-of w)) (machine-of g m at) (address-of g at + 1) a v y
         moved-act v y ev ey = rw moved (fields-act v y (operand-moved a (omega arith) ∙ sym ev) (operand-moved b (omega arith) ∙ sym ey))
 
-  pub two-named : shape-of-order (order-of (op-of w)) ≡ two-registers → Named g p at
-  unfolding Fetched Named
-  two-named sh =
-      let ew = fetched .1 in
-      (is-inside, rw (← ew) sh, rw (← ew) fits)
-
   -- the second word
-  module _ (x : PartPlace) (ex : x .0 ≡ at .0 + 1) (f : ℕ → Effect) (acts : decided (machine-of g p at) ≡ second (machine-of g p at) f) where
+  module _ (x : Aim) (ex : x .0 ≡ at .0 + 1) (r : Reach) (er : r ≡ reach-of g x) where
     second-place : x .0 ≡ g .from + (next-order (machine-of g p at) + 1)
     second-place = omega (arith, next-is g p at hand, is-from g p at hand)
 
-    second-outside : g .to ≤ x .0 → decided (machine-of g p at) ≡ Effect.Faults outside
-    second-outside h = rw (outside-held g p at (next-order (machine-of g p at) + 1) (x .0) second-place h) at acts
+    module _ (f : ℕ → Effect) (acts : decided (machine-of g p at) ≡ second (machine-of g p at) f) where
+      second-outside : r ≡ Reach.Outside → decided (machine-of g p at) ≡ Effect.Faults outside
+      second-outside e = rw (outside-held g p at (next-order (machine-of g p at) + 1) (x .0) second-place (past-end g x r er e)) at acts
 
-    second-is : x .0 < g .to → decided (machine-of g p at) ≡ f (getD p (x .0) 0)
-    second-is h = rw (word-held g p at (next-order (machine-of g p at) + 1) (x .0) second-place (is-lent g p at hand) h) at acts
+      second-is : (k : PartPlace) → r ≡ Reach.At k → decided (machine-of g p at) ≡ f (getD p (k .0) 0)
+      second-is k ek =
+          rw (place-is g x r er k ek)
+          (rw (word-held g p at (next-order (machine-of g p at) + 1) (x .0) second-place (is-lent g p at hand) (within g x r er k ek)) at acts)
 
   -- a register and a second word
   module _ (e : order-of (op-of w) ≡ Op.Load) where
@@ -174,17 +177,16 @@ module _ (g : Segment) (p : List ℕ) (at : PartPlace) (w : ℕ) (hand : InHand 
     loads-by : decided (machine-of g p at) ≡ second (machine-of g p at) (sets (address-of g at + 2) (a-of w))
     loads-by = known-acts Op.Load 2 Field.Register Field.Unused (omega arith) e refl (load-fields .0) (load-fields .1) refl
 
-    pub load-outside : (x : PartPlace) (t : Bool) → x .0 ≡ at .0 + 1 → t ≡ ltb (x .0) (g .to) → not t ≡ true → decided (machine-of g p at) ≡ Effect.Faults outside
-    load-outside x t ex et h = second-outside x ex _ loads-by (ltb-false (x .0) (g .to) (sym et ∙ not-true t h))
+    pub load-outside : (x : Aim) (r : Reach) → x .0 ≡ at .0 + 1 → r ≡ reach-of g x → r ≡ Reach.Outside → decided (machine-of g p at) ≡ Effect.Faults outside
+    load-outside x r ex er e = second-outside x ex r er _ loads-by e
 
     module _ (a : ℕ) (ea : a ≡ w / 16 % 8) where
-      loaded : a ≡ a-of w
+      pub loaded : a ≡ a-of w
       loaded = omega (arith, ltb-true (a-of w) 8 (load-fields .0))
 
-      pub load-acts : (x : PartPlace) (t : Bool) (n : ℕ) → x .0 ≡ at .0 + 1 → t ≡ ltb (x .0) (g .to) → not t ≡ false → n ≡ getD p (x .0) 0
+      pub load-acts : (x : Aim) (r : Reach) (k : PartPlace) (n : ℕ) → x .0 ≡ at .0 + 1 → r ≡ reach-of g x → r ≡ Reach.At k → n ≡ getD p (k .0) 0
           → decided (machine-of g p at) ≡ sets (address-of g at + 2) a n
-      load-acts x t n ex et h en =
-          rw (loaded, en) (second-is x ex _ loads-by (ltb-true (x .0) (g .to) (sym et ∙ not-false t h)))
+      load-acts x r k n ex er ek en = rw (loaded, en) (second-is x ex r er _ loads-by k ek)
 
   -- a second word alone
   module _ (o : Op) (e : order-of (op-of w) ≡ o) (sh : shape-of-order o ≡ OrderShape.Known 2 Field.Unused Field.Unused) where
@@ -194,16 +196,16 @@ module _ (g : Segment) (p : List ℕ) (at : PartPlace) (w : ℕ) (hand : InHand 
     alone-acts : Acts o 2
     alone-acts = known-acts o 2 Field.Unused Field.Unused (omega arith) e sh (alone-fields .0) (alone-fields .1) refl
 
-  module _ (e : order-of (op-of w) ≡ Op.Call) (x : PartPlace) (t : Bool) (ex : x .0 ≡ at .0 + 1) (et : t ≡ ltb (x .0) (g .to)) where
-    pub call-outside : not t ≡ true → decided (machine-of g p at) ≡ Effect.Faults outside
-    call-outside h = second-outside x ex _ (alone-acts Op.Call e refl) (ltb-false (x .0) (g .to) (sym et ∙ not-true t h))
+  module _ (e : order-of (op-of w) ≡ Op.Call) (x : Aim) (r : Reach) (ex : x .0 ≡ at .0 + 1) (er : r ≡ reach-of g x) where
+    pub call-outside : r ≡ Reach.Outside → decided (machine-of g p at) ≡ Effect.Faults outside
+    call-outside eo = second-outside x ex r er _ (alone-acts Op.Call e refl) eo
 
-    pub call-acts : (n : ℕ) → not t ≡ false → n ≡ getD p (x .0) 0
+    pub call-acts : (n : ℕ) (k : PartPlace) → r ≡ Reach.At k → n ≡ getD p (k .0) 0
         → decided (machine-of g p at) ≡ calls (machine-of g p at) (address-of g at + 2) (mod-word (stack (machine-of g p at) + 65535)) n
-    call-acts n h en = rw en (second-is x ex _ (alone-acts Op.Call e refl) (ltb-true (x .0) (g .to) (sym et ∙ not-false t h)))
+    call-acts n k ek en = rw en (second-is x ex r er _ (alone-acts Op.Call e refl) k ek)
 
   -- one word
-  module _ (e : order-of (op-of w) ≡ Op.Return) (v : ℕ) (ev : v ≡ getD p 1 0) (x : PartPlace) (ex : x .0 ≡ g .from + v) where
+  module _ (e : order-of (op-of w) ≡ Op.Return) (v : ℕ) (ev : v ≡ getD p 1 0) (x : Aim) (ex : x .0 ≡ g .from + v) where
     returns-by : decided (machine-of g p at) ≡ reading (found (machine-of g p at) v) (λ n. Effect.Does (address-of g at + 1) (Change.Return (mod-word (v + 1)) n))
     returns-by =
         let none = fields Op.Return 1 Field.Unused Field.Unused e refl in
@@ -211,13 +213,14 @@ module _ (g : Segment) (p : List ℕ) (at : PartPlace) (w : ℕ) (hand : InHand 
         let top : stack (machine-of g p at) ≡ v = register-held g p at 1 (omega arith) (omega arith) ∙ sym ev in
         rw top at acts
 
-    pub return-outside : (t : Bool) → t ≡ ltb (x .0) (g .to) → not t ≡ true → decided (machine-of g p at) ≡ Effect.Faults outside
-    return-outside t et h = rw (outside-held g p at v (x .0) ex (ltb-false (x .0) (g .to) (sym et ∙ not-true t h))) at returns-by
+    module _ (r : Reach) (er : r ≡ reach-of g x) where
+      pub return-outside : r ≡ Reach.Outside → decided (machine-of g p at) ≡ Effect.Faults outside
+      return-outside eo = rw (outside-held g p at v (x .0) ex (past-end g x r er eo)) at returns-by
 
-    pub return-acts : (t : Bool) (n top : ℕ) → t ≡ ltb (x .0) (g .to) → not t ≡ false → n ≡ getD p (x .0) 0 → top ≡ mod-word (v + 1)
-        → decided (machine-of g p at) ≡ Effect.Does (address-of g at + 1) (Change.Return top n)
-    return-acts t n top et h en etop =
-        rw (en, etop) (rw (word-held g p at v (x .0) ex (is-lent g p at hand) (ltb-true (x .0) (g .to) (sym et ∙ not-false t h))) at returns-by)
+      pub return-acts : (k : PartPlace) (n top : ℕ) → r ≡ Reach.At k → n ≡ getD p (k .0) 0 → top ≡ mod-word (v + 1)
+          → decided (machine-of g p at) ≡ Effect.Does (address-of g at + 1) (Change.Return top n)
+      return-acts k n top ek en etop =
+          rw (en, etop, place-is g x r er k ek) (rw (word-held g p at v (x .0) ex (is-lent g p at hand) (within g x r er k ek)) at returns-by)
 
   -- a condition
   condition-bare : cc (machine-of g p at) ≡ getD p 8 0
@@ -245,32 +248,26 @@ module _ (g : Segment) (p : List ℕ) (at : PartPlace) (w : ℕ) (hand : InHand 
         go (inl e) = absurd (omega (arith, eqb-true (a-of w) 0 (alone-fields Op.Jump e refl .0)))
         go (inr e) = condition-refused e h
 
-    module _ (low : a-of w ≤ 2) (x : PartPlace) (t : Bool) (ex : x .0 ≡ at .0 + 1) (et : t ≡ ltb (x .0) (g .to)) where
-      pub jump-outside : not t ≡ true → decided (machine-of g p at) ≡ Effect.Faults outside
+    module _ (low : a-of w ≤ 2) (x : Aim) (r : Reach) (ex : x .0 ≡ at .0 + 1) (er : r ≡ reach-of g x) where
+      pub jump-outside : r ≡ Reach.Outside → decided (machine-of g p at) ≡ Effect.Faults outside
       jump-outside h = go either-jump
         where
-          past-it : g .to ≤ x .0
-          past-it = ltb-false (x .0) (g .to) (sym et ∙ not-true t h)
-
           go : (order-of (op-of w) ≡ Op.Jump) ⊎ (order-of (op-of w) ≡ Op.JumpIf) → decided (machine-of g p at) ≡ Effect.Faults outside
-          go (inl e) = second-outside x ex _ (alone-acts Op.Jump e refl) past-it
-          go (inr e) = second-outside x ex _ (condition-acts e low) past-it
+          go (inl e) = second-outside x ex r er _ (alone-acts Op.Jump e refl) h
+          go (inr e) = second-outside x ex r er _ (condition-acts e low) h
 
-      module _ (h : not t ≡ false) (b : Bool) (eb : b ≡ (eqb (op-of w) 14 || eqb (getD p 8 0) (a-of w))) where
-        within : x .0 < g .to
-        within = ltb-true (x .0) (g .to) (sym et ∙ not-false t h)
-
-        by-condition : (e : order-of (op-of w) ≡ Op.JumpIf) → decided (machine-of g p at) ≡ sets (address-of g at + 2) 0 (cond b (getD p (x .0) 0) (address-of g at + 2))
+      module _ (k : PartPlace) (ea : r ≡ Reach.At k) (b : Bool) (eb : b ≡ (eqb (op-of w) 14 || eqb (getD p 8 0) (a-of w))) where
+        by-condition : (e : order-of (op-of w) ≡ Op.JumpIf) → decided (machine-of g p at) ≡ sets (address-of g at + 2) 0 (cond b (getD p (k .0) 0) (address-of g at + 2))
         by-condition e =
             let op : op-of w ≡ 15 = op-is (op-of w) Op.JumpIf tt e in
             let same : eqb (cc (machine-of g p at)) (a-of w) ≡ b = rw condition-bare (sym (rw op at eb)) in
-            rw same at (second-is x ex _ (condition-acts e low) within)
+            rw same at (second-is x ex r er _ (condition-acts e low) k ea)
 
-        pub jump-taken : (n : ℕ) → b ≡ true → n ≡ getD p (x .0) 0 → decided (machine-of g p at) ≡ sets (address-of g at + 2) 0 n
+        pub jump-taken : (n : ℕ) → b ≡ true → n ≡ getD p (k .0) 0 → decided (machine-of g p at) ≡ sets (address-of g at + 2) 0 n
         jump-taken n z en = go either-jump
           where
             go : (order-of (op-of w) ≡ Op.Jump) ⊎ (order-of (op-of w) ≡ Op.JumpIf) → decided (machine-of g p at) ≡ sets (address-of g at + 2) 0 n
-            go (inl e) = rw en (second-is x ex _ (alone-acts Op.Jump e refl) within)
+            go (inl e) = rw en (second-is x ex r er _ (alone-acts Op.Jump e refl) k ea)
             go (inr e) = rw en (rw z at (by-condition e))
 
         pub jump-passed : b ≡ false → decided (machine-of g p at) ≡ sets (address-of g at + 2) 0 (address-of g at + 2)

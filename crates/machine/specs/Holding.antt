@@ -1,21 +1,62 @@
--- The machine in a lent part, R0 of it in hand as a place: what its words are. Assumes nothing.
-use mathlib.Core.Path.{_≡_, sym, ap, _∙_}
+-- The machine in a lent part, R0 of it in hand: what its words are, and what is reached. Assumes nothing.
+use mathlib.Core.Path.{_≡_, refl, sym, ap, _∙_}
 use mathlib.Core.List.{List}
-use mathlib.Core.Bool.{true, false}
+use mathlib.Core.Bool.{Bool, true, false}
 use Prim.Native.Nat.{ℕ, _+_, _-_, _<_, _≤_}
 use native.Mathlib.Omega.{arith}
-use borrow.Author.Tests.{lt-ltb, le-ltb}
+use borrow.Author.Tests.{lt-ltb, le-ltb, ltb-true, ltb-false}
+use lib.Dec.{ltb}
 use lib.ListN.{length, getD}
 use lib.Seq.{getD-set-same, getD-set-other}
 use Rattle.paper.specs.Orders.{register, with-register, operand, inside, found}
 use Rattle.paper.specs.declared.Found.{Found}
 use Rattle.own.specs.Machines.{machine-fits, machine-register, machine-flags, found-word, found-outside}
-use Rattle.machine.specs.Parts.{Lent, in-part, address-of, held, machine-of}
+use Rattle.machine.specs.Parts.{Lent, in-part, reach-of, address-of, held, machine-of}
 use Rattle.machine.specs.After.{InHand}
+use Rattle.machine.specs.declared.Aim.{Aim}
 use Rattle.machine.specs.declared.PartPlace.{PartPlace}
+use Rattle.machine.specs.declared.Reach.{Reach}
 use Rattle.machine.specs.declared.Segment.{Segment}
 
-module _ (g : Segment) (p : List ℕ) (at : PartPlace) where
+-- where an address leads tells what is reached
+module _ (g : Segment) (x : Aim) where
+  pub reach-at : x .0 < g .to → Reach.At (record { 0 = x .0 }) ≡ reach-of g x
+  reach-at h = rw (lt-ltb (x .0) (g .to) h)
+
+  pub reach-past : g .to ≤ x .0 → Reach.Outside ≡ reach-of g x
+  reach-past h = rw (le-ltb (x .0) (g .to) h)
+
+-- and the other way round
+module _ (g : Segment) (x : Aim) (r : Reach) (er : r ≡ reach-of g x) where
+  told : (b : Bool) → ltb (x .0) (g .to) ≡ b → (r ≡ Reach.Outside → g .to ≤ x .0) × ((k : PartPlace) → r ≡ Reach.At k → (k .0 ≡ x .0) × (x .0 < g .to))
+  told true e =
+      let is : r ≡ Reach.At (record { 0 = x .0 }) = rw e at er in (
+        λ o.
+            let z : _≡_ {A = ℕ} 0 1 = cc in
+            absurd (omega arith),
+        λ k q.
+            let same : k ≡ record { 0 = x .0 } = cc in
+            (ap (λ (j : PartPlace). j .0) same, ltb-true (x .0) (g .to) e),
+      )
+  told false e =
+      let is : r ≡ Reach.Outside = rw e at er in (
+        λ o. ltb-false (x .0) (g .to) e,
+        λ k q.
+            let z : _≡_ {A = ℕ} 0 1 = cc in
+            absurd (omega arith),
+      )
+
+  pub past-end : r ≡ Reach.Outside → g .to ≤ x .0
+  past-end e = told (ltb (x .0) (g .to)) refl .0 e
+
+  module _ (k : PartPlace) (ek : r ≡ Reach.At k) where
+    pub place-is : k .0 ≡ x .0
+    place-is = told (ltb (x .0) (g .to)) refl .1 k ek .0
+
+    pub within : x .0 < g .to
+    within = told (ltb (x .0) (g .to)) refl .1 k ek .1
+
+module _ (g : Segment) (p : List ℕ) (at : Aim) where
   -- a word of the part other than R0 is as it was
   kept : (j : ℕ) → 0 < j → getD (held g p at) j 0 ≡ getD p j 0
   kept j h = getD-set-other p 0 j (address-of g at) 0 (λ e. omega arith)
@@ -66,7 +107,7 @@ module _ (g : Segment) (p : List ℕ) (at : PartPlace) where
     outside-held h = found-outside (in-part g) (held g p at) a (omega arith)
 
 -- what R0 in hand says
-module _ (g : Segment) (p : List ℕ) (at : PartPlace) (hand : InHand g p at) where
+module _ (g : Segment) (p : List ℕ) (at : Aim) (hand : InHand g p at) where
   pub is-lent : Lent g p
   unfolding InHand
   is-lent = hand .0

@@ -1,30 +1,81 @@
--- Orders in a row, one after another, R0 in hand as a place between them. Assumes nothing.
+-- Orders in a row, one after another, R0 in hand between them. Assumes nothing.
 use mathlib.Core.Path.{_≡_, refl, sym, ap, _∙_}
+use mathlib.Core.Bool.{Bool, true, false, cond, _||_}
 use mathlib.Core.List.{List}
-use Prim.Native.Nat.{ℕ, suc, _+_, _-_, _<_, _≤_}
-use native.Mathlib.Decide.{ℕ-discrete}
+use Prim.Native.Nat.{ℕ, zero, suc, _+_, _-_, _<_, _≤_}
 use native.Mathlib.Omega.{arith}
+use borrow.Author.Tests.{leb-false}
+use lib.Dec.{leb}
 use lib.ListN.{length, getD, set}
-use lib.Seq.{getD-set-other, set-getD}
-use Rattle.machine.specs.Parts.{Lent, address-of, held, ordered, in-a-row, Quiet}
-use Rattle.machine.specs.After.{InHand, Named, Carried, Done, After}
-use Rattle.machine.specs.Holding.{is-quiet}
-use Rattle.machine.specs.declared.PartPlace.{PartPlace}
+use lib.Seq.{set-getD}
+use Rattle.paper.specs.Orders.{op-of, order-of, two-registers, shape-of-order}
+use Rattle.machine.specs.Parts.{Lent, address-of, held, ordered, in-a-row, ends-row, row-length}
+use Rattle.machine.specs.After.{InHand, Fetched, Carried, Done, After}
+use Rattle.machine.specs.declared.Aim.{Aim}
 use Rattle.machine.specs.declared.Segment.{Segment}
 use Rattle.machine.specs.declared.Went.{Went}
 
--- so many orders of at most so many are left; those before were carried out, and another may follow at a place; shut, as a loop says it
-pub record Goes (g : Segment) (p : List ℕ) (most left : ℕ) (m : List ℕ) (at : PartPlace) : Type 0 where
+-- a row has one order at least, and at most so many
+module _ (g : Segment) where
+  pub row-some : (p : List ℕ) (n : ℕ) → 0 < n → 0 < row-length g p n
+  row-some p zero h = h
+  row-some p (suc n) h = omega arith
+
+  pub row-few : (p : List ℕ) (n : ℕ) → row-length g p n ≤ n
+  row-few p zero = omega arith
+  row-few p (suc n) = go (ends-row g p) (row-few (ordered g p) n)
+    where
+      go : (b : Bool) → row-length g (ordered g p) n ≤ n → suc (cond b 0 (row-length g (ordered g p) n)) ≤ suc n
+      go true h = omega arith
+      go false h = omega arith
+
+  -- one order, and those after it
+  row-shift : (p : List ℕ) (k : ℕ) → in-a-row g (ordered g p) k ≡ in-a-row g p (suc k)
+  row-shift p zero = refl
+  row-shift p (suc k) = ap (ordered g) (row-shift p k)
+
+  quiet-after : (a b : Bool) → (a || b) ≡ false → a ≡ false
+  quiet-after true b e = e
+  quiet-after false b e = refl
+
+  goes-quiet : (p : List ℕ) → ends-row g p ≡ false → getD (ordered g p) 8 0 < 4
+  unfolding ends-row
+  goes-quiet p e = leb-false 4 (getD (ordered g p) 8 0) (quiet-after _ _ e)
+
+  -- before each order of a row the task had no error and nothing pending
+  pub row-quiet : (p : List ℕ) (n : ℕ) → getD p 8 0 < 4 → (k : ℕ) → k < row-length g p n → getD (in-a-row g p k) 8 0 < 4
+  row-quiet p zero calm k h = absurd (omega arith)
+  row-quiet p (suc n) calm zero h = calm
+  row-quiet p (suc n) calm (suc k) h = go (ends-row g p) refl h (row-quiet (ordered g p) n)
+    where
+      go : (b : Bool) → ends-row g p ≡ b → suc k < suc (cond b 0 (row-length g (ordered g p) n))
+          → (getD (ordered g p) 8 0 < 4 → (j : ℕ) → j < row-length g (ordered g p) n → getD (in-a-row g (ordered g p) j) 8 0 < 4) → getD (in-a-row g p (suc k)) 8 0 < 4
+      go true e l again = absurd (omega arith)
+      go false e l again = rw (row-shift p k) at (again (goes-quiet p e) k (omega arith))
+
+  -- the count goes on, or ends
+  row-on : (p : List ℕ) (n : ℕ) → 0 < n → ends-row g p ≡ false → row-length g p n ≡ suc (row-length g (ordered g p) (n - 1))
+  row-on p zero h e = absurd (omega arith)
+  row-on p (suc n) h e =
+      let same : suc n - 1 ≡ n = omega arith in
+      rw (e, same)
+
+  row-off : (p : List ℕ) (n : ℕ) → 0 < n → ends-row g p ≡ true → row-length g p n ≡ 1
+  row-off p zero h e = absurd (omega arith)
+  row-off p (suc n) h e = rw e
+
+-- so many orders of at most so many are left; those before were carried out, and another may follow; shut, as a loop says it
+pub record Goes (g : Segment) (p : List ℕ) (most left : ℕ) (m : List ℕ) (at : Aim) : Type 0 where
   pub hand-now : InHand g m at
   pub row-now : held g m at ≡ in-a-row g p (most - left)
-  pub quiet-yet : Quiet g p (most - left)
+  pub count-now : row-length g p most ≡ most - left + row-length g (held g m at) left
   pub few : left ≤ most
   pub long : length m ≡ length p
 
-unfoldable pub Going : Segment → List ℕ → ℕ → ℕ → List ℕ → PartPlace → Type 0
+unfoldable pub Going : Segment → List ℕ → ℕ → ℕ → List ℕ → Aim → Type 0
 Going g p most left m at = Goes g p most left m at
 
--- R0 of the part is the address of the first place
+-- R0 of the part leads to the first order
 module _ (g : Segment) (p : List ℕ) (lent : Lent g p) where
   pub part-some : 0 < length p
   unfolding Lent
@@ -35,20 +86,21 @@ module _ (g : Segment) (p : List ℕ) (lent : Lent g p) where
   part-based = omega (arith, lent)
 
   -- no order yet
-  pub going-none : (most : ℕ) (at : PartPlace) → getD p 8 0 < 4 → at .0 ≡ g .from + getD p 0 0 → getD p 0 0 < 65536 → Going g p most most p at
-  unfolding Going InHand Quiet
+  pub going-none : (most : ℕ) (at : Aim) → getD p 8 0 < 4 → at .0 ≡ g .from + getD p 0 0 → getD p 0 0 < 65536 → Going g p most most p at
+  unfolding Going InHand
   going-none most at quiet ea low =
       let none : most - most ≡ 0 = omega arith in
       let own : address-of g at ≡ getD p 0 0 = omega arith in
+      let same : held g p at ≡ p = ap (λ (k : ℕ). set p 0 k) own ∙ set-getD p 0 0 in
       record {
         hand-now = (lent, quiet, omega arith, omega arith);
-        row-now = ap (λ (k : ℕ). set p 0 k) own ∙ set-getD p 0 0 ∙ ap (in-a-row g p) (sym none);
-        quiet-yet = λ k h. absurd (omega arith);
+        row-now = same ∙ ap (in-a-row g p) (sym none);
+        count-now = rw same (omega arith);
         few = omega arith;
         long = refl;
       }
 
-module _ (g : Segment) (p : List ℕ) (most left : ℕ) (m : List ℕ) (at : PartPlace) (going : Going g p most left m at) where
+module _ (g : Segment) (p : List ℕ) (most left : ℕ) (m : List ℕ) (at : Aim) (going : Going g p most left m at) where
   goes : Goes g p most left m at
   unfolding Going
   goes = going
@@ -64,67 +116,73 @@ module _ (g : Segment) (p : List ℕ) (most left : ℕ) (m : List ℕ) (at : Par
 
   -- the row ends here
   module _ (none : left ≤ 0) where
-    all : most - left ≡ most
+    all : left ≡ 0
     all = omega arith
 
-    pub end-row : (out : List ℕ) → out ≡ held g m at → out ≡ in-a-row g p most
-    end-row out e = e ∙ goes .row-now ∙ ap (in-a-row g p) all
+    pub end-count : most ≡ row-length g p most
+    end-count =
+        let e : row-length g p most ≡ most - 0 + 0 = rw all at (goes .count-now) in
+        omega arith
 
-    pub end-quiet : Quiet g p most
-    end-quiet = rw all at (goes .quiet-yet)
+    pub end-row : (out : List ℕ) → out ≡ held g m at → out ≡ in-a-row g p most
+    end-row out e =
+        let whole : most - left ≡ most = omega arith in
+        e ∙ goes .row-now ∙ ap (in-a-row g p) whole
 
   -- one order more
   module _ (some : 0 < left) where
     one-more : most - (left - 1) ≡ suc (most - left)
     one-more = omega (arith, goes .few)
 
-    pub more-some : 0 < most - (left - 1)
-    more-some = omega (arith, goes .few)
-
-    pub more-few : most - (left - 1) ≤ most
-    more-few = omega arith
-
-    pub more-quiet : Quiet g p (most - (left - 1))
-    unfolding Quiet
-    more-quiet k h = go (ℕ-discrete k (most - left))
-      where
-        flags-now : getD (held g m at) 8 0 < 4
-        flags-now = omega (arith, getD-set-other m 0 8 (address-of g at) 0 (λ z. omega arith), is-quiet g m at (goes .hand-now))
-
-        go : Dec (k ≡ most - left) → getD (in-a-row g p k) 8 0 < 4
-        go (yes e) = rw (e, ← goes .row-now) flags-now
-        go (no e) = goes .quiet-yet k (omega (arith, one-more))
-
     row-more : (out : List ℕ) → Carried g m at out → out ≡ in-a-row g p (most - (left - 1))
     unfolding Carried
     row-more out c = c ∙ ap (ordered g) (goes .row-now) ∙ ap (in-a-row g p) (sym one-more)
 
+    -- it is the last
+    last-count : ends-row g (held g m at) ≡ true → most - (left - 1) ≡ row-length g p most
+    last-count e = omega (arith, goes .count-now, row-off g (held g m at) left some e, goes .few)
+
     module _ (r : Went) (l : List ℕ) (h : After g m at r l) where
-      pub going-on : (y : PartPlace) → r ≡ Went.On y → length l ≡ length m → Going g p most (left - 1) l y
-      unfolding Going After Done
+      pub going-on : (y : Aim) → r ≡ Went.On y → length l ≡ length m → Going g p most (left - 1) l y
+      unfolding Going After Done Carried
       going-on y e same =
-          let on : Done g m at (Went.On y) l = rw e at h in
+          let on : Done g m at (Went.On y) l × (ends-row g (held g m at) ≡ false) = rw e at h in
+          let count : row-length g (held g m at) left ≡ suc (row-length g (held g l y) (left - 1)) =
+          row-on g (held g m at) left some (on .1) ∙ ap (λ (q : List ℕ). suc (row-length g q (left - 1))) (sym (on .0 .0)) in
           record {
-            hand-now = on .1;
-            row-now = row-more (held g l y) (on .0);
-            quiet-yet = more-quiet;
+            hand-now = on .0 .1;
+            row-now = row-more (held g l y) (on .0 .0);
+            count-now = omega (arith, goes .count-now, count, goes .few);
             few = omega (arith, goes .few);
             long = same ∙ goes .long;
           }
 
-      pub off-row : r ≡ Went.Off → l ≡ in-a-row g p (most - (left - 1))
-      unfolding After Done
-      off-row e = row-more l (rw e at h)
-
-      left-is : r ≡ Went.Left → (l ≡ m) × Named g m at
+      off-is : r ≡ Went.Off → Carried g m at l × (ends-row g (held g m at) ≡ true)
       unfolding After
-      left-is e = rw e at h
+      off-is e = rw e at h
 
-      pub left-hand : r ≡ Went.Left → InHand g l at
-      left-hand e = rw (left-is e .0) (goes .hand-now)
+      pub off-row : r ≡ Went.Off → l ≡ in-a-row g p (most - (left - 1))
+      off-row e = row-more l (off-is e .0)
 
-      pub left-named : r ≡ Went.Left → Named g l at
-      left-named e = rw (left-is e .0) (left-is e .1)
+      pub off-count : r ≡ Went.Off → most - (left - 1) ≡ row-length g p most
+      off-count e = last-count (off-is e .1)
 
-      pub left-row : r ≡ Went.Left → (out : List ℕ) → Carried g l at out → out ≡ in-a-row g p (most - (left - 1))
-      left-row e out c = row-more out (rw (left-is e .0) at c)
+      module _ (w : ℕ) (e : r ≡ Went.Left w) where
+        left-is : (l ≡ m) × Fetched g m at w × (shape-of-order (order-of (op-of w)) ≡ two-registers) × (ends-row g (held g m at) ≡ true)
+        unfolding After
+        left-is = rw e at h
+
+        pub left-hand : InHand g l at
+        left-hand = rw (left-is .0) (goes .hand-now)
+
+        pub left-fetched : Fetched g l at w
+        left-fetched = rw (left-is .0) (left-is .1)
+
+        pub left-shape : shape-of-order (order-of (op-of w)) ≡ two-registers
+        left-shape = left-is .2
+
+        pub left-row : (out : List ℕ) → Carried g l at out → out ≡ in-a-row g p (most - (left - 1))
+        left-row out c = row-more out (rw (left-is .0) at c)
+
+        pub left-count : most - (left - 1) ≡ row-length g p most
+        left-count = last-count (left-is .3)

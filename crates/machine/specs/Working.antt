@@ -19,7 +19,7 @@ use Rattle.shapes.specs.Reading.{first-of, other-of, one-of, only, op-is}
 use Rattle.machine.specs.Parts.{address-of, machine-of}
 use Rattle.machine.specs.After.{InHand, Done}
 use Rattle.machine.specs.Carrying.{compare-went}
-use Rattle.machine.specs.declared.PartPlace.{PartPlace}
+use Rattle.machine.specs.declared.Aim.{Aim}
 use Rattle.machine.specs.declared.Segment.{Segment}
 use Rattle.machine.specs.declared.Went.{Went}
 
@@ -101,7 +101,7 @@ small x y = go (eqb x y) (ltb x y)
     go false true = omega arith
     go false false = omega arith
 
-pub compare-next : (g : Segment) (p out : List ℕ) (at : PartPlace) (w k a x y : ℕ) (r : Went) → InHand g p at → at .0 < g .to
+pub compare-next : (g : Segment) (p out : List ℕ) (at : Aim) (w k a x y : ℕ) (r : Went) → InHand g p at → at .0 < g .to
     → kind-of (order-of (op-of w)) ≡ k → shape-of-order (order-of (op-of w)) ≡ two-registers → NoneOf 10 k
     → decided (machine-of g p at) ≡ effect (order-of (op-of w)) (machine-of g p at) (address-of g at + 1) a x y
     → r ≡ Went.On (record { 0 = at .0 + 1 }) → out ≡ set p 8 (compared x y) → Done g p at r out

@@ -10,8 +10,8 @@ ghost use Rattle.paper.specs.declared.Op.{Op};
 ghost use Rattle.paper.specs.declared.Change.{Change};
 ghost use Rattle.paper.specs.declared.Effect.{Effect};
 ghost use Rattle.shapes.specs.Entries.{Shapes, kind as kind-of};
-ghost use Rattle.machine.specs.Parts.{Lent, address-of, held, machine-of, in-a-row, Quiet};
-ghost use Rattle.machine.specs.After.{InHand, Fetched, Named, Done, After, Carried};
+ghost use Rattle.machine.specs.Parts.{Lent, address-of, reach-of, held, machine-of, in-a-row, row-length};
+ghost use Rattle.machine.specs.After.{InHand, Fetched, Fell, Done, Worked, After, Carried};
 ghost use Rattle.machine.specs.declared.Went.{Went};
 use paper::Address;
 use results::both_bits;
@@ -102,7 +102,10 @@ const JUMP: u16 = 14;
 
 const SERVICE: u16 = 18;
 
-// A place of the part: counted apart from addresses, and from places of the image.
+// Where an address leads, counted from the part's first word: in the segment or past it.
+pub struct Aim(pub usize);
+
+// A place of the part that holds a word of the segment: counted apart from addresses, and from places of the image.
 pub struct PartPlace(pub usize);
 
 // Where the segment lies in the part.
@@ -111,46 +114,56 @@ pub struct Segment {
     pub to: usize,
 }
 
-// What became of an order: another may follow, at a place; or the row of orders ends with it; or it names R0 and is left.
-pub enum Went {
-    On(PartPlace),
-    Off,
-    Left,
+// What is reached: a word of the segment, at its place, or none.
+pub enum Reach {
+    At(PartPlace),
+    Outside,
 }
 
-// The place that an address leads to, in the segment or past it.
-fn place(g: Segment, a: Address) -> PartPlace
+// What became of an order: R0 is in hand, and another may follow; or the row of orders ends, and R0 stands in the part; or it names R0 and is left.
+pub enum Went {
+    On(Aim),
+    Off,
+    Left(u16),
+}
+
+// Where an address leads, by the segment's base.
+fn aimed(g: Segment, a: Address) -> Aim
     requires { ⌜ g .from < 65536 ⌝ }
     ensures { λ r. ⌜ r .0 ≡ g .from + a .0 ⌝ }
 {
-    PartPlace(g.from + a.0 as usize)
+    Aim(g.from + a.0 as usize)
 }
 
-// The place so many words on.
-fn onward(x: PartPlace, words: usize) -> PartPlace
+// So many words on.
+fn onward(x: Aim, words: usize) -> Aim
     requires { ⌜ (x .0 < 131072) × (words ≤ 2) ⌝ }
     ensures { λ r. ⌜ r .0 ≡ x .0 + words ⌝ }
 {
-    PartPlace(x.0 + words)
+    Aim(x.0 + words)
 }
 
-// Whether a place lies in the segment; no word is read or written at one that does not.
-fn inside(g: Segment, x: PartPlace) -> bool
-    ensures { λ r. ⌜ r ≡ ltb (x .0) (g .to) ⌝ }
+// What an address reaches, by where it leads and the segment's length: places are made here alone.
+fn reached(g: Segment, x: Aim) -> Reach
+    ensures { λ r. ⌜ r ≡ reach-of g x ⌝ }
 {
-    x.0 < g.to
+    let k = x.0;
+    if k < g.to {
+        return Reach::At(PartPlace(k));
+    }
+    Reach::Outside
 }
 
-// The address of a place.
-fn address(g: Segment, x: PartPlace) -> u16
+// The address that leads there.
+fn address(g: Segment, x: Aim) -> u16
     requires { ⌜ (g .from ≤ x .0) × (x .0 - g .from < 65536) ⌝ }
     ensures { λ r. ⌜ r ≡ x .0 - g .from ⌝ }
 {
     (x.0 - g.from) as u16
 }
 
-// R0 becomes the address of a place.
-fn stand(p: &mut [u16], g: Segment, x: PartPlace)
+// R0 in hand is written into the part.
+fn stand(p: &mut [u16], g: Segment, x: Aim)
     requires { ⌜ 0 < length (now p) ⌝ }
     requires { ⌜ (g .from ≤ x .0) × (x .0 - g .from < 65536) ⌝ }
     ensures { λ _. ⌜ now (p .exit) ≡ held g (now (p .entry)) x ⌝ }
@@ -158,20 +171,20 @@ fn stand(p: &mut [u16], g: Segment, x: PartPlace)
     p[NEXT_ORDER] = address(g, x);
 }
 
-// The order at a place faults: only the error changes.
-fn fault(p: &mut [u16], g: Segment, at: PartPlace, e: u16) -> Went
+// An order faults: only the error changes.
+fn fault(p: &mut [u16], g: Segment, at: Aim, e: u16) -> Went
     requires { ⌜ InHand g (now p) at ⌝ }
     requires { ⌜ decided (machine-of g (now p) at) ≡ Effect.Faults e ⌝ }
-    requires { ⌜ e < 8 ⌝ }
-    ensures { λ r. ⌜ Done g (now (p .entry)) at r (now (p .exit)) ⌝ }
+    requires { ⌜ (0 < e) × (e < 8) ⌝ }
+    ensures { λ r. ⌜ Fell g (now (p .entry)) at r (now (p .exit)) ⌝ }
 {
     stand(p, g, at);
     p[FLAGS] = p[FLAGS] + ERROR * e;
     Went::Off
 }
 
-// Register a becomes v, and another order may follow at a place; where that is R0 the row ends.
-fn set(p: &mut [u16], next: PartPlace, a: usize, v: u16) -> Went
+// Register a becomes v, and R0 is in hand; where a is R0 it stands in the part.
+fn set(p: &mut [u16], next: Aim, a: usize, v: u16) -> Went
     requires { ⌜ a < length (now p) ⌝ }
     ensures { λ r. ⌜ r ≡ cond (eqb a 0) Went.Off (Went.On next) ⌝ }
     ensures { λ _. ⌜ now (p .exit) ≡ set-word (now (p .entry)) a v ⌝ }
@@ -184,45 +197,43 @@ fn set(p: &mut [u16], next: PartPlace, a: usize, v: u16) -> Went
 }
 
 // Fetch.
-fn fetches(p: &mut [u16], g: Segment, at: PartPlace, a: usize, y: u16) -> Went
+fn fetches(p: &mut [u16], g: Segment, at: Aim, a: usize, y: u16) -> Went
     requires { ⌜ InHand g (now p) at ⌝ }
     requires { ⌜ at .0 < g .to ⌝ }
     requires { ⌜ a < 8 ⌝ }
     requires { ⌜ decided (machine-of g (now p) at) ≡ reading (found (machine-of g (now p) at) y) (sets (address-of g at + 1) a) ⌝ }
-    ensures { λ r. ⌜ Done g (now (p .entry)) at r (now (p .exit)) ⌝ }
+    ensures { λ r. ⌜ Worked g (now (p .entry)) at a r (now (p .exit)) ⌝ }
 {
-    let x = place(g, Address(y));
-    if !inside(g, x) {
+    let Reach::At(x) = reached(g, aimed(g, Address(y))) else {
         return fault(p, g, at, OUTSIDE);
-    }
+    };
     let k = x.0;
     let v = p[k];
     set(p, onward(at, 1), a, v)
 }
 
 // Store.
-fn stores(p: &mut [u16], g: Segment, at: PartPlace, v: u16, y: u16) -> Went
+fn stores(p: &mut [u16], g: Segment, at: Aim, v: u16, y: u16) -> Went
     requires { ⌜ InHand g (now p) at ⌝ }
     requires { ⌜ at .0 < g .to ⌝ }
     requires { ⌜ decided (machine-of g (now p) at) ≡ storing (machine-of g (now p) at) y (Effect.Does (address-of g at + 1) (Change.Store (address-at y) v)) ⌝ }
     ensures { λ r. ⌜ Done g (now (p .entry)) at r (now (p .exit)) ⌝ }
 {
-    let x = place(g, Address(y));
-    if !inside(g, x) {
+    let Reach::At(x) = reached(g, aimed(g, Address(y))) else {
         return fault(p, g, at, OUTSIDE);
-    }
+    };
     let k = x.0;
     p[k] = v;
     Went::On(onward(at, 1))
 }
 
 // Quotient or remainder.
-fn divides(p: &mut [u16], g: Segment, at: PartPlace, op: u16, a: usize, x: u16, y: u16) -> Went
+fn divides(p: &mut [u16], g: Segment, at: Aim, op: u16, a: usize, x: u16, y: u16) -> Went
     requires { ⌜ InHand g (now p) at ⌝ }
     requires { ⌜ at .0 < g .to ⌝ }
     requires { ⌜ a < 8 ⌝ }
     requires { ⌜ decided (machine-of g (now p) at) ≡ unless-zero y (sets (address-of g at + 1) a (cond (eqb op 8) (x / y) (x % y))) ⌝ }
-    ensures { λ r. ⌜ Done g (now (p .entry)) at r (now (p .exit)) ⌝ }
+    ensures { λ r. ⌜ Worked g (now (p .entry)) at a r (now (p .exit)) ⌝ }
 {
     if y == 0 {
         return fault(p, g, at, ZERO_DIVISOR);
@@ -234,7 +245,7 @@ fn divides(p: &mut [u16], g: Segment, at: PartPlace, op: u16, a: usize, x: u16, 
 }
 
 // Compare.
-fn compares(p: &mut [u16], at: PartPlace, x: u16, y: u16) -> Went
+fn compares(p: &mut [u16], at: Aim, x: u16, y: u16) -> Went
     requires { ⌜ (8 < length (now p)) × (at .0 < 131072) ⌝ }
     ensures { λ r. ⌜ r ≡ Went.On (record { 0 = at .0 + 1 }) ⌝ }
     ensures { λ _. ⌜ now (p .exit) ≡ set-word (now (p .entry)) 8 (compared-by x y) ⌝ }
@@ -244,23 +255,14 @@ fn compares(p: &mut [u16], at: PartPlace, x: u16, y: u16) -> Went
 }
 
 // An order of two registers, by its kind and the words of the two.
-fn works(
-    p: &mut [u16],
-    g: Segment,
-    at: PartPlace,
-    kind: u16,
-    w: u16,
-    a: usize,
-    x: u16,
-    y: u16,
-) -> Went
+fn works(p: &mut [u16], g: Segment, at: Aim, kind: u16, w: u16, a: usize, x: u16, y: u16) -> Went
     requires { ⌜ InHand g (now p) at ⌝ }
     requires { ⌜ at .0 < g .to ⌝ }
     requires { ⌜ a < 8 ⌝ }
     requires { ⌜ kind-of (order-of (op-of w)) ≡ kind ⌝ }
     requires { ⌜ shape-of-order (order-of (op-of w)) ≡ two-registers ⌝ }
     requires { ⌜ decided (machine-of g (now p) at) ≡ effect (order-of (op-of w)) (machine-of g (now p) at) (address-of g at + 1) a x y ⌝ }
-    ensures { λ r. ⌜ Done g (now (p .entry)) at r (now (p .exit)) ⌝ }
+    ensures { λ r. ⌜ Worked g (now (p .entry)) at a r (now (p .exit)) ⌝ }
 {
     match kind {
         COPY => set(p, onward(at, 1), a, y),
@@ -290,15 +292,14 @@ fn field_b(w: u16) -> usize
     (w % REGISTERS) as usize
 }
 
-// The order of two registers at a place, which names R0: R0 is moved past it before operands are read.
-fn named(p: &mut [u16], shapes: &[u16; 256], g: Segment, at: PartPlace)
+// The order of two registers with first word w, which names R0: R0 is moved past it before operands are read.
+fn named(p: &mut [u16], shapes: &[u16; 256], g: Segment, at: Aim, w: u16)
     requires { ⌜ InHand g (now p) at ⌝ }
     requires { ⌜ Shapes (now shapes) ⌝ }
-    requires { ⌜ Named g (now p) at ⌝ }
+    requires { ⌜ Fetched g (now p) at w ⌝ }
+    requires { ⌜ shape-of-order (order-of (op-of w)) ≡ two-registers ⌝ }
     ensures { λ _. ⌜ Carried g (now (p .entry)) at (now (p .exit)) ⌝ }
 {
-    let k = at.0;
-    let w = p[k];
     let kind = entry(shapes, w / OP) / KIND;
     stand(p, g, onward(at, 1));
     let a = field_a(w);
@@ -308,12 +309,12 @@ fn named(p: &mut [u16], shapes: &[u16; 256], g: Segment, at: PartPlace)
     match went {
         Went::On(next) => stand(p, g, next),
         Went::Off => {}
-        Went::Left => {}
+        Went::Left(_) => {}
     }
 }
 
 // An order of two registers, with first word w; one that names R0 is left.
-fn two(p: &mut [u16], g: Segment, at: PartPlace, kind: u16, w: u16) -> Went
+fn two(p: &mut [u16], g: Segment, at: Aim, kind: u16, w: u16) -> Went
     requires { ⌜ InHand g (now p) at ⌝ }
     requires { ⌜ Fetched g (now p) at w ⌝ }
     requires { ⌜ kind-of (order-of (op-of w)) ≡ kind ⌝ }
@@ -323,10 +324,10 @@ fn two(p: &mut [u16], g: Segment, at: PartPlace, kind: u16, w: u16) -> Went
     let a = field_a(w);
     let b = field_b(w);
     if a == NEXT_ORDER {
-        return Went::Left;
+        return Went::Left(w);
     }
     if b == NEXT_ORDER {
-        return Went::Left;
+        return Went::Left(w);
     }
     let x = p[a];
     let y = p[b];
@@ -334,23 +335,22 @@ fn two(p: &mut [u16], g: Segment, at: PartPlace, kind: u16, w: u16) -> Went
 }
 
 // Load.
-fn loads(p: &mut [u16], g: Segment, at: PartPlace, w: u16) -> Went
+fn loads(p: &mut [u16], g: Segment, at: Aim, w: u16) -> Went
     requires { ⌜ InHand g (now p) at ⌝ }
     requires { ⌜ Fetched g (now p) at w ⌝ }
     requires { ⌜ order-of (op-of w) ≡ Op.Load ⌝ }
     ensures { λ r. ⌜ After g (now (p .entry)) at r (now (p .exit)) ⌝ }
 {
-    let second = onward(at, 1);
-    if !inside(g, second) {
+    let Reach::At(second) = reached(g, onward(at, 1)) else {
         return fault(p, g, at, OUTSIDE);
-    }
+    };
     let k = second.0;
     let n = p[k];
     set(p, onward(at, 2), field_a(w), n)
 }
 
 // Jump, and jump if.
-fn jumps(p: &mut [u16], g: Segment, at: PartPlace, w: u16) -> Went
+fn jumps(p: &mut [u16], g: Segment, at: Aim, w: u16) -> Went
     requires { ⌜ InHand g (now p) at ⌝ }
     requires { ⌜ Fetched g (now p) at w ⌝ }
     requires { ⌜ kind-of (order-of (op-of w)) ≡ 15 ⌝ }
@@ -360,71 +360,67 @@ fn jumps(p: &mut [u16], g: Segment, at: PartPlace, w: u16) -> Went
     if MOST_CC < c {
         return fault(p, g, at, BAD_ORDER);
     }
-    let second = onward(at, 1);
-    if !inside(g, second) {
+    let Reach::At(second) = reached(g, onward(at, 1)) else {
         return fault(p, g, at, OUTSIDE);
-    }
+    };
     if either(w / OP == JUMP, p[FLAGS] == c) {
         let k = second.0;
-        return Went::On(place(g, Address(p[k])));
+        return Went::On(aimed(g, Address(p[k])));
     }
     Went::On(onward(at, 2))
 }
 
 // A call of n.
-fn calls_to(p: &mut [u16], g: Segment, at: PartPlace, n: u16) -> Went
+fn calls_to(p: &mut [u16], g: Segment, at: Aim, n: u16) -> Went
     requires { ⌜ InHand g (now p) at ⌝ }
     requires { ⌜ at .0 < g .to ⌝ }
     requires { ⌜ decided (machine-of g (now p) at) ≡ calls-by (machine-of g (now p) at) (address-of g at + 2) (mod-word (stack (machine-of g (now p) at) + 65535)) n ⌝ }
     ensures { λ r. ⌜ Done g (now (p .entry)) at r (now (p .exit)) ⌝ }
 {
     let top = sum(p[STACK], LAST_WORD);
-    let x = place(g, Address(top));
-    if !inside(g, x) {
+    let Reach::At(x) = reached(g, aimed(g, Address(top))) else {
         return fault(p, g, at, OUTSIDE);
-    }
+    };
     let k = x.0;
     p[k] = address(g, onward(at, 2));
     p[STACK] = top;
-    Went::On(place(g, Address(n)))
+    Went::On(aimed(g, Address(n)))
 }
 
 // Call.
-fn calls(p: &mut [u16], g: Segment, at: PartPlace, w: u16) -> Went
+fn calls(p: &mut [u16], g: Segment, at: Aim, w: u16) -> Went
     requires { ⌜ InHand g (now p) at ⌝ }
     requires { ⌜ Fetched g (now p) at w ⌝ }
     requires { ⌜ order-of (op-of w) ≡ Op.Call ⌝ }
     ensures { λ r. ⌜ After g (now (p .entry)) at r (now (p .exit)) ⌝ }
 {
-    let second = onward(at, 1);
-    if !inside(g, second) {
+    let Reach::At(second) = reached(g, onward(at, 1)) else {
         return fault(p, g, at, OUTSIDE);
-    }
+    };
     let k = second.0;
     let n = p[k];
     calls_to(p, g, at, n)
 }
 
 // Return.
-fn returns(p: &mut [u16], g: Segment, at: PartPlace, w: u16) -> Went
+fn returns(p: &mut [u16], g: Segment, at: Aim, w: u16) -> Went
     requires { ⌜ InHand g (now p) at ⌝ }
     requires { ⌜ Fetched g (now p) at w ⌝ }
     requires { ⌜ order-of (op-of w) ≡ Op.Return ⌝ }
     ensures { λ r. ⌜ After g (now (p .entry)) at r (now (p .exit)) ⌝ }
 {
     let top = p[STACK];
-    let x = place(g, Address(top));
-    if !inside(g, x) {
+    let Reach::At(x) = reached(g, aimed(g, Address(top))) else {
         return fault(p, g, at, OUTSIDE);
-    }
+    };
     let k = x.0;
     let n = p[k];
     p[STACK] = sum(top, 1);
-    Went::On(place(g, Address(n)))
+    Went::On(aimed(g, Address(n)))
 }
 
 // A service, or an unknown op.
-fn asks(p: &mut [u16], g: Segment, at: PartPlace, w: u16) -> Went
+fn asks(p: &mut [u16], g: Segment, at: Aim, w: u16) -> Went
     requires { ⌜ InHand g (now p) at ⌝ }
     requires { ⌜ Fetched g (now p) at w ⌝ }
     requires { ⌜ kind-of (order-of (op-of w)) ≡ 0 ⌝ }
@@ -443,7 +439,7 @@ fn asks(p: &mut [u16], g: Segment, at: PartPlace, w: u16) -> Went
 }
 
 // The order with first word w, by its kind.
-fn by_kind(p: &mut [u16], g: Segment, at: PartPlace, kind: u16, w: u16) -> Went
+fn by_kind(p: &mut [u16], g: Segment, at: Aim, kind: u16, w: u16) -> Went
     requires { ⌜ InHand g (now p) at ⌝ }
     requires { ⌜ Fetched g (now p) at w ⌝ }
     requires { ⌜ kind-of (order-of (op-of w)) ≡ kind ⌝ }
@@ -470,7 +466,7 @@ fn by_kind(p: &mut [u16], g: Segment, at: PartPlace, kind: u16, w: u16) -> Went
 }
 
 // The order with first word w: its fields have no bit that its entry of the table wants 0.
-fn known(p: &mut [u16], shapes: &[u16; 256], g: Segment, at: PartPlace, w: u16) -> Went
+fn known(p: &mut [u16], shapes: &[u16; 256], g: Segment, at: Aim, w: u16) -> Went
     requires { ⌜ InHand g (now p) at ⌝ }
     requires { ⌜ Shapes (now shapes) ⌝ }
     requires { ⌜ at .0 < g .to ⌝ }
@@ -484,31 +480,30 @@ fn known(p: &mut [u16], shapes: &[u16; 256], g: Segment, at: PartPlace, w: u16) 
     by_kind(p, g, at, e / KIND, w)
 }
 
-// The order at a place.
-fn order(p: &mut [u16], shapes: &[u16; 256], g: Segment, at: PartPlace) -> Went
+// The order that R0 in hand leads to.
+fn order(p: &mut [u16], shapes: &[u16; 256], g: Segment, at: Aim) -> Went
     requires { ⌜ InHand g (now p) at ⌝ }
     requires { ⌜ Shapes (now shapes) ⌝ }
     ensures { λ r. ⌜ After g (now (p .entry)) at r (now (p .exit)) ⌝ }
 {
-    if !inside(g, at) {
+    let Reach::At(x) = reached(g, at) else {
         return fault(p, g, at, OUTSIDE);
-    }
-    let k = at.0;
+    };
+    let k = x.0;
     let w = p[k];
     known(p, shapes, g, at, w)
 }
 
-// At most so many orders in a row, up to one that faults, asks for a service or names R0 in a field: how many there were.
+// Orders in a row, at most so many: up to one that faults, asks for a service or names R0 in a field. How many there were.
 pub fn orders(p: &mut [u16], shapes: &[u16; 256], g: Segment, most: u16) -> u16
     requires { ⌜ Lent g (now p) ⌝ }
     requires { ⌜ Shapes (now shapes) ⌝ }
     requires { ⌜ getD (now p) 8 0 < 4 ⌝ }
     requires { ⌜ 0 < most ⌝ }
-    ensures { λ r. ⌜ (0 < r) × (r ≤ most) ⌝ }
+    ensures { λ r. ⌜ r ≡ row-length g (now (p .entry)) most ⌝ }
     ensures { λ r. ⌜ now (p .exit) ≡ in-a-row g (now (p .entry)) r ⌝ }
-    ensures { λ r. ⌜ Quiet g (now (p .entry)) r ⌝ }
 {
-    let mut at = place(g, Address(p[NEXT_ORDER]));
+    let mut at = aimed(g, Address(p[NEXT_ORDER]));
     let mut left = most;
     while left > 0 {
         let went = order(p, shapes, g, at);
@@ -516,8 +511,8 @@ pub fn orders(p: &mut [u16], shapes: &[u16; 256], g: Segment, most: u16) -> u16
         match went {
             Went::On(next) => at = next,
             Went::Off => return most - left,
-            Went::Left => {
-                named(p, shapes, g, at);
+            Went::Left(w) => {
+                named(p, shapes, g, at, w);
                 return most - left;
             }
         }

@@ -3,7 +3,7 @@ use lib.Dec.{lit≤}
 use Rattle.machine.specs.Holding.{is-near, is-some}
 use Rattle.machine.specs.Deciding.{is-inside, unknown-op, unknown-service}
 use Rattle.machine.specs.Answering.{past-from, past-low}
-use Rattle.machine.specs.Choosing.{done-after, asked-row, asked-room, ask-next}
+use Rattle.machine.specs.Choosing.{fell-after, asked-row, asked-room, ask-next}
 use borrow.Author.Needs.{needs}
 use Rattle.machine.proofs.asks.Statement.{statement}
 use Rattle.machine.proofs.asks.Tie as tie
@@ -12,13 +12,13 @@ fault-requires : tie.Need-fault-requires
 fault-requires c κs = (search needs, (search unknown-op, search needs))
 
 returns : tie.Need-returns
-returns c = search done-after
+returns c = search fell-after
 
 fault-requires-2 : tie.Need-fault-requires-2
 fault-requires-2 c κs = (search needs, (search unknown-service, search needs))
 
 returns-2 : tie.Need-returns-2
-returns-2 c = search done-after
+returns-2 c = search fell-after
 
 onward-requires : tie.Need-onward-requires
 onward-requires c κs = (search is-near, search needs)

@@ -1,8 +1,8 @@
--- Assumes nothing.
+-- The second word is what is called.
 use Rattle.machine.specs.Holding.{is-near}
 use Rattle.machine.specs.Deciding.{is-inside, call-outside, call-acts}
 use Rattle.machine.specs.Answering.{read-in, twice-fits}
-use Rattle.machine.specs.Choosing.{done-after}
+use Rattle.machine.specs.Choosing.{fell-after, call-after}
 use borrow.Author.Needs.{needs}
 use Rattle.machine.proofs.calls.Statement.{statement}
 use Rattle.machine.proofs.calls.Tie as tie
@@ -14,7 +14,7 @@ fault-requires : tie.Need-fault-requires
 fault-requires c κs = (search needs, (search call-outside, search needs))
 
 returns : tie.Need-returns
-returns c = search done-after
+returns c = search fell-after
 
 mul-n : tie.Need-mul-n
 mul-n c = search twice-fits
@@ -26,7 +26,7 @@ calls-to-requires : tie.Need-calls-to-requires
 calls-to-requires c κs = (search needs, (search is-inside, search call-acts))
 
 returns-2 : tie.Need-returns-2
-returns-2 c = search done-after
+returns-2 c = search call-after
 
 pub calls-spec : {M : Type 1} → statement M
 calls-spec =
@@ -34,6 +34,8 @@ calls-spec =
     (tie.spec
     onward-requires
     (λ c κs. search needs)
+    (λ c. search needs)
+    (λ c. search needs)
     fault-requires
     (λ c. search needs)
     returns

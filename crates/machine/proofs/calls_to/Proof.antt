@@ -1,7 +1,7 @@
--- Assumes nothing.
-use Rattle.machine.specs.Holding.{is-based, is-near, stack-in}
-use Rattle.machine.specs.Answering.{call-outside, twice-fits, read-in, past-from, past-low, stack-room, call-next}
+-- The return address goes to where the stack leads, then R1 falls, as the definition of call says.
 use lib.Dec.{lit≤}
+use Rattle.machine.specs.Holding.{is-based, is-near, stack-in}
+use Rattle.machine.specs.Answering.{fell-done, call-outside, past-from, past-low, read-in, twice-fits, stack-room, call-next}
 use borrow.Author.Needs.{needs}
 use Rattle.machine.proofs.calls_to.Statement.{statement}
 use Rattle.machine.proofs.calls_to.Tie as tie
@@ -9,11 +9,14 @@ use Rattle.machine.proofs.calls_to.Tie as tie
 slice-read-sum : tie.Need-slice-read-sum
 slice-read-sum c = search stack-in
 
-place-requires : tie.Need-place-requires
-place-requires c κs = search is-based
+aimed-requires : tie.Need-aimed-requires
+aimed-requires c κs = search is-based
 
 fault-requires : tie.Need-fault-requires
 fault-requires c κs = (search needs, (search call-outside, search needs))
+
+returns : tie.Need-returns
+returns c = search fell-done
 
 onward-requires : tie.Need-onward-requires
 onward-requires c κs = (search is-near, search needs)
@@ -30,8 +33,8 @@ slice-write-p c = search read-in
 slice-write-p-2 : tie.Need-slice-write-p-2
 slice-write-p-2 c = search stack-room
 
-place-requires-2 : tie.Need-place-requires-2
-place-requires-2 c κs = search is-based
+aimed-requires-2 : tie.Need-aimed-requires-2
+aimed-requires-2 c κs = search is-based
 
 returns-2 : tie.Need-returns-2
 returns-2 c = search call-next
@@ -42,16 +45,18 @@ calls-to-spec =
     (tie.spec
     slice-read-sum
     (λ c κs. search needs)
-    place-requires
+    aimed-requires
     (λ c κs. search needs)
+    (λ c. search needs)
+    (λ c. search needs)
     fault-requires
     (λ c. search needs)
-    (λ c. search needs)
+    returns
     onward-requires
     address-requires
     mul-p
     slice-write-p
     slice-write-p-2
-    place-requires-2
+    aimed-requires-2
     (λ c. search needs)
     returns-2)

@@ -1,12 +1,15 @@
--- Assumes nothing.
+-- A zero divisor faults, else the quotient or the remainder goes to the register.
 use Rattle.machine.specs.Holding.{is-near, register-in}
-use Rattle.machine.specs.Answering.{set-next, divisor-zero, quotient-is, remainder-is}
+use Rattle.machine.specs.Answering.{fell-worked, set-next, divisor-zero, quotient-is, remainder-is}
 use borrow.Author.Needs.{needs}
 use Rattle.machine.proofs.divides.Statement.{statement}
 use Rattle.machine.proofs.divides.Tie as tie
 
 fault-requires : tie.Need-fault-requires
 fault-requires c κs = (search needs, (search divisor-zero, search needs))
+
+returns : tie.Need-returns
+returns c = search fell-worked
 
 onward-requires : tie.Need-onward-requires
 onward-requires c κs = (search is-near, search needs)
@@ -32,7 +35,7 @@ divides-spec =
     (tie.spec
     fault-requires
     (λ c. search needs)
-    (λ c. search needs)
+    returns
     onward-requires
     (λ c. search needs)
     set-requires

@@ -1,15 +1,18 @@
--- Assumes nothing.
+-- The word at the address goes to the register, as the definition of fetch says.
 use Rattle.machine.specs.Holding.{is-based, is-near, register-in}
-use Rattle.machine.specs.Answering.{fetch-outside, twice-fits, read-in, fetch-next}
+use Rattle.machine.specs.Answering.{fell-worked, fetch-outside, twice-fits, read-in, fetch-next}
 use borrow.Author.Needs.{needs}
 use Rattle.machine.proofs.fetches.Statement.{statement}
 use Rattle.machine.proofs.fetches.Tie as tie
 
-place-requires : tie.Need-place-requires
-place-requires c κs = search is-based
+aimed-requires : tie.Need-aimed-requires
+aimed-requires c κs = search is-based
 
 fault-requires : tie.Need-fault-requires
 fault-requires c κs = (search needs, (search fetch-outside, search needs))
+
+returns : tie.Need-returns
+returns c = search fell-worked
 
 mul-v : tie.Need-mul-v
 mul-v c = search twice-fits
@@ -30,11 +33,13 @@ pub fetches-spec : {M : Type 1} → statement M
 fetches-spec =
     tie.close
     (tie.spec
-    place-requires
+    aimed-requires
     (λ c κs. search needs)
+    (λ c. search needs)
+    (λ c. search needs)
     fault-requires
     (λ c. search needs)
-    (λ c. search needs)
+    returns
     mul-v
     slice-read-v
     onward-requires

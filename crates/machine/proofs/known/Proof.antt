@@ -1,6 +1,6 @@
 -- Assumes nothing.
 use Rattle.machine.specs.Deciding.{bad-fields, is-fetched}
-use Rattle.machine.specs.Choosing.{done-after, kind-is}
+use Rattle.machine.specs.Choosing.{fell-after, kind-is}
 use borrow.Author.Needs.{needs}
 use Rattle.machine.proofs.known.Statement.{statement}
 use Rattle.machine.proofs.known.Tie as tie
@@ -9,7 +9,7 @@ fault-requires : tie.Need-fault-requires
 fault-requires c κs = (search needs, (search bad-fields, search needs))
 
 returns : tie.Need-returns
-returns c = search done-after
+returns c = search fell-after
 
 by-kind-requires : tie.Need-by-kind-requires
 by-kind-requires c κs = (search needs, (search is-fetched, search kind-is))

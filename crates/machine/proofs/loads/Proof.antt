@@ -1,8 +1,8 @@
--- Assumes nothing.
+-- The second word goes to the register, as the definition of load says.
 use Rattle.machine.specs.Holding.{is-near}
 use Rattle.machine.specs.Deciding.{load-outside}
 use Rattle.machine.specs.Answering.{read-in, twice-fits}
-use Rattle.machine.specs.Choosing.{done-after, a-in, load-next}
+use Rattle.machine.specs.Choosing.{fell-after, a-in, load-next}
 use borrow.Author.Needs.{needs}
 use Rattle.machine.proofs.loads.Statement.{statement}
 use Rattle.machine.proofs.loads.Tie as tie
@@ -14,7 +14,7 @@ fault-requires : tie.Need-fault-requires
 fault-requires c κs = (search needs, (search load-outside, search needs))
 
 returns : tie.Need-returns
-returns c = search done-after
+returns c = search fell-after
 
 mul-n : tie.Need-mul-n
 mul-n c = search twice-fits
@@ -37,6 +37,8 @@ loads-spec =
     (tie.spec
     onward-requires
     (λ c κs. search needs)
+    (λ c. search needs)
+    (λ c. search needs)
     fault-requires
     (λ c. search needs)
     returns

@@ -1,77 +1,57 @@
--- Assumes nothing.
+-- R0 is moved past the order first, so that it is read so and written last.
 use mathlib.Core.Path.{refl}
 use native.Mathlib.Omega.{arith}
 use lib.Dec.{lit≤}
-use Rattle.machine.specs.Holding.{is-near, is-some, is-from, is-low, segment-in}
+use Rattle.machine.specs.Holding.{is-near, is-some, is-from, is-low}
+use Rattle.machine.specs.Deciding.{is-inside, moved-act}
 use Rattle.machine.specs.Answering.{past-from, past-low}
-use Rattle.machine.specs.Choosing.{first-fits, a-register, kind-is, moved-hand, moved-a, moved-b, moved-on, moved-off, never-left, named-inside, named-shape, named-act, on-hand}
+use Rattle.machine.specs.Choosing.{a-register, kind-is, moved-hand, moved-a, moved-b, moved-on, moved-off, never-left, on-hand}
 use borrow.Author.Needs.{needs}
 use Rattle.machine.proofs.named.Statement.{statement}
 use Rattle.machine.proofs.named.Tie as tie
-
-mul-w : tie.Need-mul-w
-mul-w c = search (first-fits, named-inside)
-
-slice-read-w : tie.Need-slice-read-w
-slice-read-w c = search (segment-in, named-inside)
-
-entry-requires : tie.Need-entry-requires
-entry-requires c κs = (omega (arith, c .slice-known2 .given (c .before .before .args .at .0)), search needs)
 
 onward-requires : tie.Need-onward-requires
 onward-requires c κs = (search is-near, search needs)
 
 stand-requires : tie.Need-stand-requires
-stand-requires c κs = (search is-some, (search past-from, search (past-low, named-inside, lit≤)))
+stand-requires c κs = (search is-some, (search past-from, search (past-low, is-inside, lit≤)))
 
 slice-read-x : tie.Need-slice-read-x
-slice-read-x c =
-    let b = c .before .before .before .before in
-    moved-a _ _ _ (b .before .before .before .before .before .before .pre .0) _ _ (b .stand .ensures) _ _ (c .before .field-a .ensures)
+slice-read-x c = search moved-a
 
 slice-read-y : tie.Need-slice-read-y
-slice-read-y c =
-    let b = c .before .before .before .before .before .before in
-    moved-b _ _ _ (b .before .before .before .before .before .before .pre .0) _ _ (b .stand .ensures) _ _ (c .before .field-b .ensures)
+slice-read-y c = search moved-b
 
 works-requires : tie.Need-works-requires
 works-requires c κs =
-    let f = c .before .before .before .before in
-    let b = f .before .before .before in
-    let s = b .before .before .before .before .before .before in
-    (moved-hand _ _ _ (s .pre .0) _ _ (b .stand .ensures), (search named-inside, (search a-register, (search kind-is, (search named-shape, named-act _ _ _ (s .pre .0) (s .pre .1 .1) _ _ _ _ _ _ (b .stand .ensures) (f .field-a .ensures) (c .before .before .field-b .ensures) (b .before .onward .ensures) refl refl)))))
+    let d1 = c .before .before .before .before .before in
+    let d2 = d1 .before .before .before .before .before in
+    let s = d2 .before .before .pre in
+    (moved-hand _ _ _ (s .0) _ _ (d1 .before .before .stand .ensures), (search is-inside, (search a-register, (search kind-is, (search needs, moved-act _ _ _ _ (s .0) (s .1 .1 .0) (s .1 .1 .1) _ _ (c .before .before .before .before .field-a .ensures) (c .before .before .field-b .ensures) _ (d1 .before .before .before .onward .ensures) _ (d1 .before .before .stand .ensures) _ _ refl refl)))))
 
 stand-requires-2 : tie.Need-stand-requires-2
 stand-requires-2 c κs =
-    let hand = on-hand _ _ _ _ _ _ (c .before .before .before .before .before .before .works .ensures) (c .before .before .went .given .1) in
+    let d1 = c .before .before .before .before .before in
+    let d2 = d1 .before .before .before .before .before in
+    let d3 = d2 .before .before .before .before .before in
+    let s = d3 .before .before .before .before .pre in
+    let hand = on-hand _ _ _ (s .0) _ _ (d2 .before .before .before .before .stand .ensures) _ _ _ (d1 .before .works .ensures) _ (c .before .before .went .given .1) in
     (is-some _ _ _ hand, (is-from _ _ _ hand, is-low _ _ _ hand))
 
 returns : tie.Need-returns
-returns c =
-    let w = c .before .before .before .before .before in
-    let k = w .before .before .before .before in
-    let b = k .before .before .before .before .before .before .before .before in
-    moved-on _ _ _ (b .before .before .before .before .before .before .pre .0) _ _ (b .stand .ensures) _ _ (k .works .ensures) _ _ (w .went .given .1) (c .before .before .stand2 .ensures)
+returns c = search moved-on
 
 returns-2 : tie.Need-returns-2
-returns-2 c =
-    let k = c .before .before .before .before in
-    let b = k .before .before .before .before .before .before .before .before in
-    moved-off _ _ _ (b .before .before .before .before .before .before .pre .0) _ _ (b .stand .ensures) _ _ (k .works .ensures) (c .enum-told .given .1)
+returns-2 c = search moved-off
 
 returns-3 : tie.Need-returns-3
-returns-3 c =
-    let k = c .before .before .before .before in
-    let b = k .before .before .before .before .before .before .before .before in
-    never-left _ _ _ (b .before .before .before .before .before .before .pre .0) _ _ (b .stand .ensures) _ _ (k .works .ensures) (c .enum-told2 .given .1)
+returns-3 c = search never-left
 
 pub named-spec : {M : Type 1} → statement M
 named-spec =
     tie.close
     (tie.spec
-    mul-w
-    slice-read-w
-    entry-requires
+    (λ c κs. search needs)
     onward-requires
     stand-requires
     (λ c κs. search needs)

@@ -1,15 +1,18 @@
--- Assumes nothing.
+-- The word goes to the address, as the definition of store says.
 use Rattle.machine.specs.Holding.{is-based, is-near}
-use Rattle.machine.specs.Answering.{store-outside, twice-fits, read-in, store-next}
+use Rattle.machine.specs.Answering.{fell-done, store-outside, twice-fits, read-in, store-next}
 use borrow.Author.Needs.{needs}
 use Rattle.machine.proofs.stores.Statement.{statement}
 use Rattle.machine.proofs.stores.Tie as tie
 
-place-requires : tie.Need-place-requires
-place-requires c κs = search is-based
+aimed-requires : tie.Need-aimed-requires
+aimed-requires c κs = search is-based
 
 fault-requires : tie.Need-fault-requires
 fault-requires c κs = (search needs, (search store-outside, search needs))
+
+returns : tie.Need-returns
+returns c = search fell-done
 
 mul-p : tie.Need-mul-p
 mul-p c = search twice-fits
@@ -27,11 +30,13 @@ pub stores-spec : {M : Type 1} → statement M
 stores-spec =
     tie.close
     (tie.spec
-    place-requires
+    aimed-requires
     (λ c κs. search needs)
+    (λ c. search needs)
+    (λ c. search needs)
     fault-requires
     (λ c. search needs)
-    (λ c. search needs)
+    returns
     mul-p
     slice-write-p
     onward-requires

@@ -1,15 +1,15 @@
--- Assumes nothing.
+-- An order that names R0 is left; any other is worked with the words of its registers.
 use Rattle.machine.specs.Deciding.{is-inside, two-act}
-use Rattle.machine.specs.Choosing.{done-after, left, a-in, b-in, a-register}
+use Rattle.machine.specs.Choosing.{a-left, b-left, a-in, b-in, a-register, two-after}
 use borrow.Author.Needs.{needs}
 use Rattle.machine.proofs.two.Statement.{statement}
 use Rattle.machine.proofs.two.Tie as tie
 
 returns : tie.Need-returns
-returns c = search left
+returns c = search a-left
 
 returns-2 : tie.Need-returns-2
-returns-2 c = search left
+returns-2 c = search b-left
 
 slice-read-x : tie.Need-slice-read-x
 slice-read-x c = search a-in
@@ -21,7 +21,7 @@ works-requires : tie.Need-works-requires
 works-requires c κs = (search needs, (search is-inside, (search a-register, (search needs, (search needs, search two-act)))))
 
 returns-3 : tie.Need-returns-3
-returns-3 c = search done-after
+returns-3 c = search two-after
 
 pub two-spec : {M : Type 1} → statement M
 two-spec =

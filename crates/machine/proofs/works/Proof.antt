@@ -1,6 +1,6 @@
--- Assumes nothing.
+-- Each kind has one order, or two that share a function; what it makes of the two words is the definition's.
 use Rattle.machine.specs.Holding.{is-near, is-row, register-in}
-use Rattle.machine.specs.Answering.{set-next}
+use Rattle.machine.specs.Answering.{done-worked, set-next}
 use Rattle.machine.specs.Working.{by-copy, by-fetch, by-store, by-sum, by-difference, by-product, by-divide, by-and, by-or, by-exclusive-or, compare-next}
 use borrow.Author.Needs.{needs}
 use Rattle.machine.proofs.works.Statement.{statement}
@@ -21,6 +21,9 @@ compares-requires c κs = (search is-row, search is-near)
 returns : tie.Need-returns
 returns c = search (set-next, by-copy)
 
+returns-3 : tie.Need-returns-3
+returns-3 c = search done-worked
+
 returns-4 : tie.Need-returns-4
 returns-4 c = search (set-next, by-sum)
 
@@ -40,7 +43,7 @@ returns-10 : tie.Need-returns-10
 returns-10 c = search (set-next, by-exclusive-or)
 
 returns-11 : tie.Need-returns-11
-returns-11 c = search (compare-next, c .before .before .before .before .match .rest)
+returns-11 c = search (done-worked, compare-next, c .before .before .before .before .match .rest)
 
 pub works-spec : {M : Type 1} → statement M
 works-spec =
@@ -75,7 +78,7 @@ works-spec =
     (λ c. search needs)
     (λ c. search needs)
     (λ c. search needs)
-    (λ c. search needs)
+    returns-3
     (λ c. search needs)
     returns-4
     (λ c. search needs)
