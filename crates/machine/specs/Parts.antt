@@ -65,6 +65,6 @@ ends-row g p =
     leb 4 (getD (ordered g p) 8 0) || names-next (shape-of-order (order-of (op-of w))) w
 
 -- how many orders a row has, of at most n
-abbrev pub row-length : Segment → List ℕ → ℕ → ℕ
+unfoldable pub row-length : Segment → List ℕ → ℕ → ℕ
 row-length g p zero = 0
 row-length g p (suc n) = suc (cond (ends-row g p) 0 (row-length g (ordered g p) n))

@@ -18,10 +18,12 @@ use Rattle.machine.specs.declared.Went.{Went}
 -- a row has one order at least, and at most so many
 module _ (g : Segment) where
   pub row-some : (p : List ℕ) (n : ℕ) → 0 < n → 0 < row-length g p n
+  unfolding row-length
   row-some p zero h = h
   row-some p (suc n) h = omega arith
 
   pub row-few : (p : List ℕ) (n : ℕ) → row-length g p n ≤ n
+  unfolding row-length
   row-few p zero = omega arith
   row-few p (suc n) = go (ends-row g p) (row-few (ordered g p) n)
     where
@@ -44,6 +46,7 @@ module _ (g : Segment) where
 
   -- before each order of a row the task had no error and nothing pending
   pub row-quiet : (p : List ℕ) (n : ℕ) → getD p 8 0 < 4 → (k : ℕ) → k < row-length g p n → getD (in-a-row g p k) 8 0 < 4
+  unfolding row-length
   row-quiet p zero calm k h = absurd (omega arith)
   row-quiet p (suc n) calm zero h = calm
   row-quiet p (suc n) calm (suc k) h = go (ends-row g p) refl h (row-quiet (ordered g p) n)
@@ -55,12 +58,14 @@ module _ (g : Segment) where
 
   -- the count goes on, or ends
   row-on : (p : List ℕ) (n : ℕ) → 0 < n → ends-row g p ≡ false → row-length g p n ≡ suc (row-length g (ordered g p) (n - 1))
+  unfolding row-length
   row-on p zero h e = absurd (omega arith)
   row-on p (suc n) h e =
       let same : suc n - 1 ≡ n = omega arith in
       rw (e, same)
 
   row-off : (p : List ℕ) (n : ℕ) → 0 < n → ends-row g p ≡ true → row-length g p n ≡ 1
+  unfolding row-length
   row-off p zero h e = absurd (omega arith)
   row-off p (suc n) h e = rw e
 
@@ -120,6 +125,7 @@ module _ (g : Segment) (p : List ℕ) (most left : ℕ) (m : List ℕ) (at : Aim
     all = omega arith
 
     pub end-count : most ≡ row-length g p most
+    unfolding row-length
     end-count =
         let e : row-length g p most ≡ most - 0 + 0 = rw all at (goes .count-now) in
         omega arith

@@ -24,18 +24,16 @@ use Rattle.laws.specs.Sound.{Sound, sound}
 use Rattle.laws.specs.Effects.{answer-told}
 use Rattle.laws.specs.Orders.{lies-apart, own-flags}
 use Rattle.laws.specs.Agree.{own-after}
-use Rattle.machine.specs.Parts.{Lent, Quiet}
+use Rattle.machine.specs.Parts.{Lent, row-length}
+use Rattle.machine.specs.Rows.{row-some, row-few, row-quiet}
 use Rattle.machine.specs.Parts as part
-use Rattle.ticks.specs.Seated.{Sits, Seated, First}
+use Rattle.ticks.specs.Seated.{Sits, Seated, First, part-of}
 use Rattle.ticks.specs.Row.{in-a-row, row-sound, row-table, row-part, row-flags}
-use Rattle.ticks.specs.Ticks.{past-clock, row-some, row-leads, ticks-row, row-told}
+use Rattle.ticks.specs.Ticks.{past-clock, row-held, row-leads, ticks-row, row-told}
 use Rattle.ticks.specs.Told.{by-flags, Told}
 use Rattle.ticks.specs.declared.Seat.{Seat}
 
--- the words from a place on, and a list with others there
-abbrev pub part-of : ℕ → List ℕ → List ℕ
-part-of r im = take (length im - r) (drop r im)
-
+-- a list with other words from a place on
 abbrev with-part : ℕ → List ℕ → List ℕ → List ℕ
 with-part r im l = take r im ++ (l ++ drop (length im - r) (drop r im))
 
@@ -50,10 +48,10 @@ part-back r im l =
 -- of a sound image, from the row of its first task on
 module _ (s : Shape) (im : List ℕ) (x : Seat) (h : Sound s im) (f : First s im x) where
   abbrev t : Task
-  t = x .task
+  t = x .row .task
 
   abbrev r : ℕ
-  r = x .row .0
+  r = x .row .place .0
 
   abbrev xs : List ℕ
   xs = take r im
@@ -71,7 +69,7 @@ module _ (s : Shape) (im : List ℕ) (x : Seat) (h : Sound s im) (f : First s im
   named = f .named
 
   starts : place s (reg t 0) .0 ≡ r
-  starts = ap (λ (p : Place). p .0) (sym (sits .starts))
+  starts = ap (λ (p : Place). p .0) (sym (sits .rowed .placed))
 
   abbrev lying : ℕ → ℕ → ℕ → Lies
   lying a b n = record { row = a; base = b; length = n }
@@ -79,7 +77,7 @@ module _ (s : Shape) (im : List ℕ) (x : Seat) (h : Sound s im) (f : First s im
   -- it lies within the image
   pub row-within : r ≤ length im
   row-within =
-      let l = lies-apart s im t (sits .among) (sound h .laid) in
+      let l = lies-apart s im t (sits .rowed .known) (sound h .laid) in
       omega (arith, starts, l)
 
   pub row-small : r ≤ 32768
@@ -104,33 +102,33 @@ module _ (s : Shape) (im : List ℕ) (x : Seat) (h : Sound s im) (f : First s im
   pub part-lent : Lent (x .segment) (part-of r im)
   unfolding Lent
   part-lent =
-      let l = lies-apart s im t (sits .among) (sound h .laid) in
-      let some = sound h .laid .lengths t (sits .among) in
+      let l = lies-apart s im t (sits .rowed .known) (sound h .laid) in
+      let some = sound h .laid .lengths t (sits .rowed .known) in
       let whole : length (part-of r im) ≡ length im - r = ap length (part-is r im) ∙ length-drop r im in
       let small = sound h .laid .fit .words in
       (omega (arith, starts, l, sits .based), omega (arith, some, sits .ends), omega (arith, whole, l, starts, sits .based, sits .ends), omega (arith, l, small, sound h .laid .words, sits .based, sits .ends))
 
   pub part-calm : at s im (flags t) < 4 → getD (part-of r im) 8 0 < 4
-  part-calm low = rw (← row-flags s im t h (sits .among) (x .segment) xs (part-of r im) joined there 0) low
+  part-calm low = rw (← row-flags s im t h (sits .rowed .known) (x .segment) xs (part-of r im) joined there 0) low
 
   -- the flags after an order tell its answer
   row-answer : (k : ℕ) → at s (in-a-row s im t k) (flags t) < 4
       → order-answer t (order s (in-a-row s im t k) t) ≡ cond (eqb (error-of (at s (in-a-row s im t (suc k)) (flags t))) 0) (Answer.OrderDone t) (Answer.OrderFaulted t)
   row-answer k low =
       let m = in-a-row s im t k in
-      let laid = sound (row-sound s im t h (sits .among) k) .laid in
+      let laid = sound (row-sound s im t h (sits .rowed .known) k) .laid in
       let none : error-of (own s m t .flags) ≡ 0 = omega (arith, own-flags s m t, low) in
       let e : at s (in-a-row s im t (suc k)) (flags t) ≡ after (own s m t) (order s m t) .flags =
-      own-flags s _ t ∙ ap (λ (z : Machine). z .flags) (own-after s m t (sits .among) laid (order s m t)) in
+      own-flags s _ t ∙ ap (λ (z : Machine). z .flags) (own-after s m t (sits .rowed .known) laid (order s m t)) in
       rw e (answer-told (own s m t) none t)
 
   -- the image with the part after n orders in its place
   module _ (n : ℕ) (p : List ℕ) (ep : p ≡ part.in-a-row (x .segment) (part-of r im) n) where
     back : with-part r im p ≡ in-a-row s im t n
-    back = part-back r im p ∙ rw ep (sym (row-part s im t h (sits .among) (x .segment) xs (part-of r im) joined there n))
+    back = part-back r im p ∙ rw ep (sym (row-part s im t h (sits .rowed .known) (x .segment) xs (part-of r im) joined there n))
 
     pub back-sound : Sound s (with-part r im p)
-    back-sound = rw back (row-sound s im t h (sits .among) n)
+    back-sound = rw back (row-sound s im t h (sits .rowed .known) n)
 
     -- and with the clock written
     module _ (d : ℕ) (out : List ℕ) (eo : out ≡ put s (with-part r im p) clock d) where
@@ -139,39 +137,43 @@ module _ (s : Shape) (im : List ℕ) (x : Seat) (h : Sound s im) (f : First s im
 
       table-kept : (k : ℕ) → k < 2 → at s out (cell Part.SegmentTable (t .0) k) ≡ at s im (cell Part.SegmentTable (t .0) k)
       table-kept k hk =
-          rw out-is (past-clock s (in-a-row s im t n) d (cell Part.SegmentTable (t .0) k) (sits .among, hk) tt ∙ row-table s im t h (sits .among) n k hk)
+          rw out-is (past-clock s (in-a-row s im t n) d (cell Part.SegmentTable (t .0) k) (sits .rowed .known, hk) tt ∙ row-table s im t h (sits .rowed .known) n k hk)
 
       pub orders-first : First s out x
       unfolding First Seated
       orders-first =
           record {
             seated = record {
-              among = sits .among;
-              starts = sits .starts;
+              rowed = sits .rowed;
               based = sits .based ∙ sym (table-kept 0 (omega arith));
               ends = rw (table-kept 1 (omega arith)) (sits .ends);
             };
-            some = rw out-is (row-some s im t h (sits .among) some named n d);
-            named = rw out-is (row-leads s im t h (sits .among) some named n d);
+            some = rw out-is (row-held s im t h (sits .rowed .known) some named n d);
+            named = rw out-is (row-leads s im t h (sits .rowed .known) some named n d);
           }
 
-    -- n orders were n ticks, and the flags tell the reply of the last
-    module _ (q : Quiet (x .segment) (part-of r im) n) (c : ℕ) (ec : c ≡ at s im clock) where
-      calm : (k : ℕ) → k < n → at s (in-a-row s im t k) (flags t) < 4
-      unfolding Quiet
-      calm k hk = rw (row-flags s im t h (sits .among) (x .segment) xs (part-of r im) joined there k) (q k hk)
+  -- the orders of a row were ticks, and the flags tell the reply of the last
+  module _ (low : at s im (flags t) < 4) (c most n : ℕ) (ec : c ≡ at s im clock) (en : n ≡ row-length (x .segment) (part-of r im) most) where
+    calm : (k : ℕ) → k < n → at s (in-a-row s im t k) (flags t) < 4
+    calm k hk =
+        rw (row-flags s im t h (sits .rowed .known) (x .segment) xs (part-of r im) joined there k)
+        (row-quiet (x .segment) (part-of r im) most (part-calm low) k (rw (← en) hk))
 
-      pub orders-told : 0 < n → n ≤ c → (out : List ℕ) → out ≡ put s (with-part r im p) clock (c - n)
-          → Told s im n (by-flags (at s out (flags t)) t) out
-      unfolding Told
-      orders-told some-order low out eo =
-          let k = n - 1 in
-          let e : n ≡ suc k = omega arith in
-          let is = out-is (c - n) out eo in
-          let same : at s out (flags t) ≡ at s (in-a-row s im t (suc k)) (flags t) =
-          rw is (past-clock s (in-a-row s im t n) (c - n) (flags t) (sits .among, omega arith) tt) ∙
-          ap (λ (j : ℕ). at s (in-a-row s im t j) (flags t)) e in (
-            some-order,
-            rw is (ticks-row s im t h (sits .among) some named c ec n low calm),
-            rw same (row-told s im t h (sits .among) some named c ec k (omega arith) (λ j hj. calm j (omega arith)) ∙ ap Reply.Accepted (row-answer k (calm k (omega arith)))),
-          )
+    pub orders-few : n ≤ most
+    orders-few = rw en (row-few (x .segment) (part-of r im) most)
+
+    pub orders-told : 0 < most → most ≤ c → (p out : List ℕ) → p ≡ part.in-a-row (x .segment) (part-of r im) n → out ≡ put s (with-part r im p) clock (c - n)
+        → Told s im n (by-flags (at s out (flags t)) t) out
+    unfolding Told
+    orders-told some-order within p out ep eo =
+        let some-taken : 0 < n = rw en (row-some (x .segment) (part-of r im) most some-order) in
+        let k = n - 1 in
+        let e : n ≡ suc k = omega arith in
+        let is = out-is n p ep (c - n) out eo in
+        let same : at s out (flags t) ≡ at s (in-a-row s im t (suc k)) (flags t) =
+        rw is (past-clock s (in-a-row s im t n) (c - n) (flags t) (sits .rowed .known, omega arith) tt) ∙
+        ap (λ (j : ℕ). at s (in-a-row s im t j) (flags t)) e in (
+          some-taken,
+          rw is (ticks-row s im t h (sits .rowed .known) some named c ec n (omega (arith, orders-few)) calm),
+          rw same (row-told s im t h (sits .rowed .known) some named c ec k (omega (arith, orders-few)) (λ j hj. calm j (omega arith)) ∙ ap Reply.Accepted (row-answer k (calm k (omega arith)))),
+        )

@@ -2,18 +2,23 @@
 use mathlib.Core.Path.{_≡_}
 use mathlib.Core.List.{List}
 use mathlib.Core.Bool.{Bool, true, false}
-use Prim.Native.Nat.{ℕ, _+_, _<_}
-use Rattle.paper.specs.Image.{place, at, reg, base, len}
+use Prim.Native.Nat.{ℕ, _+_, _-_}
+use lib.ListN.{length, take, drop}
+use Rattle.paper.specs.Image.{at, base, len}
 use Rattle.paper.specs.Queues.{empty, first}
 use Rattle.paper.specs.declared.Shape.{Shape}
 use Rattle.paper.specs.declared.Queue.{Queue}
+use Rattle.words.specs.Names.{Rowed}
 use Rattle.ticks.specs.declared.Seat.{Seat}
 
+-- the words of an image from a place on
+abbrev pub part-of : ℕ → List ℕ → List ℕ
+part-of r im = take (length im - r) (drop r im)
+
 pub record Sits (s : Shape) (im : List ℕ) (x : Seat) : Type 0 where
-  pub among : x .task .0 < s .n
-  pub starts : x .row ≡ place s (reg (x .task) 0)
-  pub based : x .row .0 + x .segment .from ≡ at s im (base (x .task))
-  pub ends : x .segment .to ≡ x .segment .from + at s im (len (x .task))
+  pub rowed : Rowed s (x .row)
+  pub based : x .row .place .0 + x .segment .from ≡ at s im (base (x .row .task))
+  pub ends : x .segment .to ≡ x .segment .from + at s im (len (x .row .task))
 
 unfoldable pub Seated : Shape → List ℕ → Seat → Type 0
 Seated s im x = Sits s im x
@@ -22,7 +27,7 @@ Seated s im x = Sits s im x
 pub record Leads (s : Shape) (im : List ℕ) (x : Seat) : Type 0 where
   pub seated : Seated s im x
   pub some : empty s im Queue.Ready ≡ false
-  pub named : first s im Queue.Ready ≡ x .task .0
+  pub named : first s im Queue.Ready ≡ x .row .task .0
 
 unfoldable pub First : Shape → List ℕ → Seat → Type 0
 First s im x = Leads s im x

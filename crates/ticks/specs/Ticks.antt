@@ -163,8 +163,8 @@ module _ (s : Shape) (im : List ℕ) (i : Task) (h : Sound s im) (hi : i .0 < s 
   row-clock k d = at-same s (in-a-row s im i k) clock d (omega arith, omega arith) (sound (row-sound s im i h hi k) .laid .words)
 
   -- afterwards the task is still the first
-  pub row-some : (k d : ℕ) → empty s (row-at k d) Queue.Ready ≡ false
-  row-some k d = clock-empty s (in-a-row s im i k) d ∙ row-empty s im i h hi k ∙ some
+  pub row-held : (k d : ℕ) → empty s (row-at k d) Queue.Ready ≡ false
+  row-held k d = clock-empty s (in-a-row s im i k) d ∙ row-empty s im i h hi k ∙ some
 
   pub row-leads : (k d : ℕ) → first s (row-at k d) Queue.Ready ≡ i .0
   row-leads k d = clock-first s (in-a-row s im i k) d (row-sound s im i h hi k) ∙ row-first s im i h hi k ∙ e
@@ -176,7 +176,7 @@ module _ (s : Shape) (im : List ℕ) (i : Task) (h : Sound s im) (hi : i .0 < s 
   row-tick k d time calm =
       let m = in-a-row s im i k in
       let lies = sound (row-sound s im i h hi k) .laid in
-      let one = order-tick s (row-at k d) i (row-some k d) (row-leads k d) (rw (row-clock k d) time)
+      let one = order-tick s (row-at k d) i (row-held k d) (row-leads k d) (rw (row-clock k d) time)
       (rw (past-clock s m d (flags i) (hi, omega arith) tt) calm) in
       let same : order s (row-at k d) i ≡ order s m i = order-agrees s (row-at k d) m i (own-clock s m i hi lies d) in
       one ∙ rw (same, after-clock s m i hi lies d (order s m i), row-clock (suc k) d, clock-twice s (in-a-row s im i (suc k)) (d - 1) d)

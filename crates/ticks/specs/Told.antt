@@ -1,10 +1,13 @@
 -- What is told of ticks in a row; shut, as contracts say it.
 use mathlib.Core.Path.{_≡_, refl, sym, ap, _∙_}
 use mathlib.Core.List.{List}
-use mathlib.Core.Bool.{Bool, true, cond}
-use Prim.Native.Nat.{ℕ, _+_, _-_, _<_, _≤_}
+use mathlib.Core.Bool.{Bool, true, false, cond, not, _||_, true≢false}
+use mathlib.Core.Logic.{_≢_}
+use Prim.Native.Nat.{ℕ, _+_, _-_, _<_, _≤_, min}
 use native.Mathlib.Omega.{arith}
-use lib.Dec.{eqb}
+use borrow.Author.Tests.{eq-eqb, ne-eqb, le-leb, lt-leb, not-true}
+use lib.Dec.{eqb, leb}
+use Rattle.paper.specs.Image.{at, clock, flags}
 use Rattle.paper.specs.Flags.{error-of}
 use Rattle.paper.specs.Queues.{empty}
 use Rattle.paper.specs.Events.{tick, happening}
@@ -17,13 +20,44 @@ use Rattle.paper.specs.declared.Refusal.{Refusal}
 use Rattle.paper.specs.declared.Reply.{Reply}
 use Rattle.laws.specs.Replies.{happening-unchanged}
 use Rattle.laws.specs.Stays.{Lawful}
-use Rattle.ticks.specs.Seated.{First}
+use Rattle.bound.specs.Ticks.{stays-first}
+use Rattle.machine.specs.Parts.{row-length}
+use Rattle.ticks.specs.Seated.{First, part-of}
+use Rattle.ticks.specs.declared.Came.{Came}
+use Rattle.ticks.specs.declared.Gone.{Gone}
 use Rattle.ticks.specs.declared.Seat.{Seat}
 use Rattle.ticks.specs.Ticks.{ticked, Taken, Ticks, ticks-none, ticked-last, one-tick, ticks-joined, idle-tick, ticks-idle, ticks-lawful}
 
 -- the reply of an order, as the flags after it tell
 abbrev pub by-flags : ℕ → Task → Reply
 by-flags f i = Reply.Accepted (cond (eqb (error-of f) 0) (Answer.OrderDone i) (Answer.OrderFaulted i))
+
+-- the reply of what a tick came to, of the task at a seat
+unfoldable pub reply-of : Shape → List ℕ → Seat → Came → Reply
+reply-of s im x Came.Ordered = by-flags (at s im (flags (x .row .task))) (x .row .task)
+reply-of s im x (Came.Replied r) = r
+
+-- whether the first task is first still
+unfoldable pub stays-of : Came → Bool
+stays-of Came.Ordered = true
+stays-of (Came.Replied r) = stays-first r
+
+-- one tick, which is taken or refused
+abbrev taken-by : Reply → ℕ
+taken-by (Reply.Accepted a) = 1
+taken-by (Reply.Refused f) = 0
+
+abbrev replied : Reply → Gone
+replied r = record { taken = taken-by r; came = Came.Replied r }
+
+unfoldable pub one-gone : Shape → List ℕ → Gone
+one-gone s im = replied (tick s im .reply)
+
+-- how many ticks are taken at once: one by a rule before an order, or orders in a row for as long as the clock runs
+unfoldable pub gone : Shape → List ℕ → Seat → ℕ → Gone
+gone s im x most =
+    cond (leb 4 (at s im (flags (x .row .task))) || eqb (at s im clock) 0) (one-gone s im)
+    (record { taken = row-length (x .segment) (part-of (x .row .place .0) im) (min most (at s im clock)); came = Came.Ordered })
 
 -- n ticks from im are accepted and lead to out; r is the reply of the last, or the next one's, which is refused
 unfoldable pub Told : Shape → List ℕ → ℕ → Reply → List ℕ → Type 0
@@ -114,6 +148,35 @@ unfolding AtMost
 at-most most n (Reply.Accepted a) h = h
 at-most most n (Reply.Refused f) h = omega arith
 
+-- what ticks at once came to: one is taken at least where it is not refused
+module _ (s : Shape) (im out : List ℕ) (x : Seat) where
+  replied-taken : (r : Reply) → taken-by r ≢ 0 → Taken r
+  replied-taken (Reply.Accepted a) ne = tt
+  replied-taken (Reply.Refused f) ne = ne refl
+
+  pub gone-taken : (most : ℕ) (g : Gone) → g ≡ gone s im x most → g .taken ≢ 0 → Taken (reply-of s out x (g .came))
+  unfolding gone one-gone reply-of
+  gone-taken most g e ne = go (leb 4 (at s im (flags (x .row .task))) || eqb (at s im clock) 0) e
+    where
+      go : (b : Bool) → g ≡ cond b (replied (tick s im .reply)) (record { taken = row-length (x .segment) (part-of (x .row .place .0) im) (min most (at s im clock)); came = Came.Ordered })
+          → Taken (reply-of s out x (g .came))
+      go true q = rw q (replied-taken (tick s im .reply) (rw q at ne))
+      go false q = rw q tt
+
+-- where the first task left, its seat tells nothing of the reply
+module _ (s : Shape) (out : List ℕ) (x : Seat) where
+  left-as : (y : Seat) (c : Came) → stays-of c ≡ false → reply-of s out y c ≡ reply-of s out x c
+  unfolding reply-of stays-of
+  left-as y Came.Ordered e = absurd (true≢false e)
+  left-as y (Came.Replied r) e = refl
+
+  pub left-reply : (y : Seat) (c : Came) (b : Bool) → b ≡ stays-of c → not b ≡ true → reply-of s out y c ≡ reply-of s out x c
+  left-reply y c b eb e = left-as y c (sym eb ∙ not-true b e)
+
+-- a reply in other words
+pub passes-as : (s : Shape) (im out : List ℕ) (most n : ℕ) (r q : Reply) → r ≡ q → Passes s im most n q out → Passes s im most n r out
+passes-as s im out most n r q e p = rw e p
+
 -- so many ticks have passed, the last of them accepted, and x is the seat of the first task; shut, as a loop says it
 pub record Going (s : Shape) (im : List ℕ) (most n : ℕ) (r : Reply) (m : List ℕ) (x : Seat) : Type 0 where
   pub law : Lawful s m
@@ -129,6 +192,9 @@ pub goes-none : (s : Shape) (im : List ℕ) (most : ℕ) (r : Reply) (x : Seat) 
 unfolding Goes
 goes-none s im most r x h f =
     record { law = h; leads = f; few = omega arith; ticks = ticks-none s im; last = λ z. absurd (omega arith) }
+
+pub goes-as : (s : Shape) (im m : List ℕ) (most n : ℕ) (r q : Reply) (x : Seat) → r ≡ q → Goes s im most n q m x → Goes s im most n r m x
+goes-as s im m most n r q x e g = rw e g
 
 -- what goes on is known
 module _ (s : Shape) (im m : List ℕ) (most n : ℕ) (r : Reply) (x : Seat) (g : Goes s im most n r m x) where
@@ -165,17 +231,15 @@ module _ (s : Shape) (im m : List ℕ) (most n : ℕ) (r : Reply) (x : Seat) (g 
     unfolding Goes
     next-lawful = told-lawful s m out k q (g .law) t
 
-    pub next-refused : (f : Refusal) → q ≡ Reply.Refused f → n < most → Passes s im most (n + k) q out
-    unfolding Passes AtMost
-    next-refused f e low =
-        let less : k < most - n = rw e at l in
-        rw e (rw e at then-told, omega (arith, less))
+    pub next-refused : k ≡ 0 → n < most → Passes s im most (n + k) q out
+    unfolding Passes AtMost Told
+    next-refused none low = (then-told, go q t l)
+      where
+        go : (z : Reply) → Told s m k z out → AtMost (most - n) k z → AsMany most (n + k) z
+        go (Reply.Accepted a) u h = absurd (omega (arith, u .0))
+        go (Reply.Refused f) u h = omega arith
 
-    module _ (a : Answer) (e : q ≡ Reply.Accepted a) where
-      pub next-some : 0 < k
-      unfolding Told
-      next-some = (rw e at t) .0
-
+    module _ (ok : Taken q) where
       pub next-goes : (y : Seat) → First s out y → Goes s im most (n + k) q out y
       unfolding Goes
       next-goes y f =
@@ -184,14 +248,18 @@ module _ (s : Shape) (im m : List ℕ) (most n : ℕ) (r : Reply) (x : Seat) (g 
             leads = f;
             few = next-few;
             ticks = told-ticks s im out (n + k) q then-told;
-            last = λ z. (then-told, rw e tt);
+            last = λ z. (then-told, ok);
           }
-
-      pub next-idle : n + k < most → (b : Bool) → b ≡ empty s out Queue.Ready → b ≡ true → (j : ℕ) (last : Reply)
-          → (j ≡ most) × (last ≡ Reply.Accepted Answer.Idle) → Passes s im most j last out
-      next-idle low b eb z j last i =
-          passes-idle s im out b eb z most j last i (n + k) (told-ticks s im out (n + k) q then-told) low
 
       pub next-all : most ≤ n + k → Passes s im most (n + k) q out
       unfolding Passes
-      next-all all = rw e (rw e at then-told, omega (arith, next-few))
+      next-all all = (then-told, go q ok)
+        where
+          go : (z : Reply) → Taken z → AsMany most (n + k) z
+          go (Reply.Accepted a) u = omega (arith, next-few)
+          go (Reply.Refused f) u = absurd u
+
+    pub next-idle : n + k < most → (b : Bool) → b ≡ empty s out Queue.Ready → b ≡ true → (j : ℕ) (last : Reply)
+        → (j ≡ most) × (last ≡ Reply.Accepted Answer.Idle) → Passes s im most j last out
+    next-idle low b eb z j last i =
+        passes-idle s im out b eb z most j last i (n + k) (told-ticks s im out (n + k) q then-told) low

@@ -8,30 +8,31 @@ ghost use Rattle.paper.specs.declared.Answer.{Answer};
 ghost use Rattle.paper.specs.declared.Reply.{Reply};
 ghost use Rattle.paper.specs.declared.Queue.the-variants.{Ready};
 ghost use Rattle.laws.specs.Stays.{Lawful};
-ghost use Rattle.bound.specs.Ticks.{stays-first};
 ghost use Rattle.shapes.specs.Entries.{Shapes};
-ghost use Rattle.ticks.specs.Seated.{First, FirstIf};
-ghost use Rattle.ticks.specs.Told.{by-flags, Told, AtMost, Passes};
+ghost use Rattle.machine.specs.Parts.{row-length};
+ghost use Rattle.ticks.specs.Seated.{First, FirstIf, part-of};
+ghost use Rattle.words.specs.Names.{Rowed};
+ghost use Rattle.ticks.specs.Told.{by-flags, reply-of, stays-of, one-gone, gone, Told, AtMost, Passes};
 use events::before_order;
 use events::turn;
 use machine::Segment;
 use machine::orders;
 use paper::Answer;
-use paper::Cell;
-use paper::Part;
-use paper::Place;
 use paper::Queue;
 use paper::Reply;
 use paper::Shape;
 use paper::Task;
-use places::place_of;
 use results::error_of;
+use words::FLAGS;
+use words::Row;
 use words::Spot;
 use words::empty;
 use words::entry;
 use words::first;
 use words::get;
+use words::own;
 use words::put;
+use words::row_of;
 
 // Flags from this on have an error or a service pending.
 const ERROR: u16 = 4;
@@ -41,18 +42,22 @@ const BASE: usize = 0;
 
 const LENGTH: usize = 1;
 
-// A task, the place of its row, and where its segment lies from there.
+// A task's row, and where its segment lies from there.
 pub struct Seat {
-    pub task: Task,
-    pub row: Place,
+    pub row: Row,
     pub segment: Segment,
 }
 
-// What one tick, or orders in a row, came to: how many ticks were taken, the reply of the last, and whether the first task is first still.
+// What a tick came to: an order, whose reply the flags of its task tell; or a reply.
+pub enum Came {
+    Ordered,
+    Replied(Reply),
+}
+
+// How many ticks were taken at once, and what the last of them came to, or the one that was refused.
 pub struct Gone {
     pub taken: usize,
-    pub last: Reply,
-    pub stays: bool,
+    pub came: Came,
 }
 
 // How many ticks were taken, and the reply of the last, or of the one that was refused.
@@ -68,17 +73,9 @@ fn first_seat(s: Shape, im: &[u16]) -> Seat
     ensures { λ r. ⌜ First s (now (im .entry)) r ⌝ }
 {
     let t = Task(first(s, im, Queue::Ready));
-    let row = place_of(
-        s,
-        Cell {
-            part: Part::TaskTable,
-            row: t.0 as usize,
-            column: 0,
-        },
-    );
-    let from = entry(s, im, t, BASE) as usize - row.0;
+    let row = row_of(s, t);
+    let from = entry(s, im, t, BASE) as usize - row.place.0;
     Seat {
-        task: t,
         row: row,
         segment: Segment {
             from: from,
@@ -97,7 +94,7 @@ fn least(a: usize, b: u16) -> u16
     b
 }
 
-// At most so many orders of a task, for as long as the clock runs, which is not 0: how many there were. The clock is written once.
+// Orders of a task in a row, at most so many and for as long as the clock runs, which is not 0: how many there were. The clock is written once.
 fn run_orders(
     s: Shape,
     im: &mut [u16],
@@ -109,15 +106,15 @@ fn run_orders(
     requires { ⌜ Lawful s (now im) ⌝ }
     requires { ⌜ Shapes (now shapes) ⌝ }
     requires { ⌜ First s (now im) x ⌝ }
-    requires { ⌜ word-at s (now im) (flags-cell (x .task)) < 4 ⌝ }
+    requires { ⌜ word-at s (now im) (flags-cell (x .row .task)) < 4 ⌝ }
     requires { ⌜ clock ≡ word-at s (now im) clock-cell ⌝ }
     requires { ⌜ (0 < clock) × (0 < most) ⌝ }
-    ensures { λ r. ⌜ r ≤ most ⌝ }
-    ensures { λ r. ⌜ Told s (now (im .entry)) r (by-flags (word-at s (now (im .exit)) (flags-cell (x .task))) (x .task)) (now (im .exit)) ⌝ }
+    ensures { λ r. ⌜ r ≡ row-length (x .segment) (part-of (x .row .place .0) (now (im .entry))) (min most clock) ⌝ }
+    ensures { λ r. ⌜ Told s (now (im .entry)) r (by-flags (word-at s (now (im .exit)) (flags-cell (x .row .task))) (x .row .task)) (now (im .exit)) ⌝ }
     ensures { λ _. ⌜ First s (now (im .exit)) x ⌝ }
 {
     let ticks = least(most, clock);
-    let row = x.row.0;
+    let row = x.row.place.0;
     let taken = orders(&mut im[row..], shapes, x.segment, ticks);
     put(s, im, Spot::Clock, clock - taken);
     taken as usize
@@ -133,17 +130,20 @@ fn by_flags(f: u16, t: Task) -> Reply
     Reply::Accepted(Answer::OrderFaulted(t))
 }
 
-// Whether the first task is first still after a tick with a reply.
-fn stays(r: Reply) -> bool
-    ensures { λ b. ⌜ b ≡ stays-first r ⌝ }
+// Whether the first task is first still after a tick.
+fn stays(c: Came) -> bool
+    ensures { λ b. ⌜ b ≡ stays-of c ⌝ }
 {
-    match r {
-        Reply::Accepted(a) => match a {
-            Answer::ServiceDone(_) => true,
-            Answer::ServiceFaulted(_) => true,
-            _ => false,
+    match c {
+        Came::Ordered => true,
+        Came::Replied(r) => match r {
+            Reply::Accepted(a) => match a {
+                Answer::ServiceDone(_) => true,
+                Answer::ServiceFaulted(_) => true,
+                _ => false,
+            },
+            Reply::Refused(_) => false,
         },
-        Reply::Refused(_) => false,
     }
 }
 
@@ -151,25 +151,24 @@ fn stays(r: Reply) -> bool
 fn rule(s: Shape, im: &mut [u16], x: Seat, flags: u16, clock: u16) -> Gone
     requires { ⌜ Lawful s (now im) ⌝ }
     requires { ⌜ First s (now im) x ⌝ }
-    requires { ⌜ flags ≡ word-at s (now im) (flags-cell (x .task)) ⌝ }
+    requires { ⌜ flags ≡ word-at s (now im) (flags-cell (x .row .task)) ⌝ }
     requires { ⌜ clock ≡ word-at s (now im) clock-cell ⌝ }
     requires { ⌜ 4 ≤ flags ⌝ }
-    ensures { λ r. ⌜ AtMost 1 (r .taken) (r .last) ⌝ }
-    ensures { λ r. ⌜ Told s (now (im .entry)) (r .taken) (r .last) (now (im .exit)) ⌝ }
-    ensures { λ r. ⌜ FirstIf (r .stays) s (now (im .exit)) x ⌝ }
+    ensures { λ r. ⌜ r ≡ one-gone s (now (im .entry)) ⌝ }
+    ensures { λ r. ⌜ AtMost 1 (r .taken) (reply-of s (now (im .exit)) x (r .came)) ⌝ }
+    ensures { λ r. ⌜ Told s (now (im .entry)) (r .taken) (reply-of s (now (im .exit)) x (r .came)) (now (im .exit)) ⌝ }
+    ensures { λ r. ⌜ FirstIf (stays-of (r .came)) s (now (im .exit)) x ⌝ }
 {
-    let last = before_order(s, im, x.task, flags, clock);
+    let last = before_order(s, im, x.row, flags, clock);
     if let Reply::Refused(_) = last {
         return Gone {
             taken: 0,
-            last: last,
-            stays: false,
+            came: Came::Replied(last),
         };
     }
     Gone {
         taken: 1,
-        last: last,
-        stays: stays(last),
+        came: Came::Replied(last),
     }
 }
 
@@ -179,29 +178,39 @@ fn go_on(s: Shape, im: &mut [u16], shapes: &[u16; 256], x: Seat, most: usize) ->
     requires { ⌜ Shapes (now shapes) ⌝ }
     requires { ⌜ First s (now im) x ⌝ }
     requires { ⌜ 0 < most ⌝ }
-    ensures { λ r. ⌜ AtMost most (r .taken) (r .last) ⌝ }
-    ensures { λ r. ⌜ Told s (now (im .entry)) (r .taken) (r .last) (now (im .exit)) ⌝ }
-    ensures { λ r. ⌜ FirstIf (r .stays) s (now (im .exit)) x ⌝ }
+    ensures { λ r. ⌜ r ≡ gone s (now (im .entry)) x most ⌝ }
+    ensures { λ r. ⌜ AtMost most (r .taken) (reply-of s (now (im .exit)) x (r .came)) ⌝ }
+    ensures { λ r. ⌜ Told s (now (im .entry)) (r .taken) (reply-of s (now (im .exit)) x (r .came)) (now (im .exit)) ⌝ }
+    ensures { λ r. ⌜ FirstIf (stays-of (r .came)) s (now (im .exit)) x ⌝ }
 {
-    let t = x.task;
-    let flags = get(s, im, Spot::Flags(t));
+    let flags = own(s, im, x.row, FLAGS);
     let clock = get(s, im, Spot::Clock);
     if ERROR <= flags {
         return rule(s, im, x, flags, clock);
     }
     if clock == 0 {
+        let t = x.row.task;
         turn(s, im, t);
         return Gone {
             taken: 1,
-            last: Reply::Accepted(Answer::TurnPassed(t)),
-            stays: false,
+            came: Came::Replied(Reply::Accepted(Answer::TurnPassed(t))),
         };
     }
-    let taken = run_orders(s, im, shapes, x, clock, most);
     Gone {
-        taken: taken,
-        last: by_flags(get(s, im, Spot::Flags(t)), t),
-        stays: true,
+        taken: run_orders(s, im, shapes, x, clock, most),
+        came: Came::Ordered,
+    }
+}
+
+// The reply of a tick that came to something.
+fn told(s: Shape, im: &[u16], x: Seat, c: Came) -> Reply
+    requires { ⌜ Lawful s (now im) ⌝ }
+    requires { ⌜ Rowed s (x .row) ⌝ }
+    ensures { λ r. ⌜ r ≡ reply-of s (now (im .entry)) x c ⌝ }
+{
+    match c {
+        Came::Ordered => by_flags(own(s, im, x.row, FLAGS), x.row.task),
+        Came::Replied(r) => r,
     }
 }
 
@@ -228,25 +237,25 @@ pub fn ticks(s: Shape, im: &mut [u16], shapes: &[u16; 256], most: usize) -> Pass
     }
     let mut x = first_seat(s, im);
     let mut taken: usize = 0;
-    let mut last = Reply::Accepted(Answer::Idle);
+    let mut came = Came::Ordered;
     while taken < most {
         let gone = go_on(s, im, shapes, x, most - taken);
         taken += gone.taken;
-        last = gone.last;
-        if let Reply::Refused(_) = last {
+        came = gone.came;
+        if gone.taken == 0 {
             return Passed {
                 taken: taken,
-                last: last,
+                last: told(s, im, x, came),
             };
         }
-        if !gone.stays {
+        if !stays(came) {
             if empty(s, im, Queue::Ready) {
                 if taken < most {
                     return idled(most);
                 }
                 return Passed {
                     taken: taken,
-                    last: last,
+                    last: told(s, im, x, came),
                 };
             }
             x = first_seat(s, im);
@@ -254,6 +263,6 @@ pub fn ticks(s: Shape, im: &mut [u16], shapes: &[u16; 256], most: usize) -> Pass
     }
     Passed {
         taken: taken,
-        last: last,
+        last: told(s, im, x, came),
     }
 }

@@ -1,4 +1,4 @@
--- Assumes nothing.
+-- The error in the flags tells whether the order faulted.
 use Rattle.ticks.specs.Needs.{flags-done, flags-faulted}
 use borrow.Author.Needs.{needs}
 use Rattle.ticks.proofs.by_flags.Statement.{statement}

@@ -1,4 +1,4 @@
--- Assumes nothing.
+-- The first task's row, and its entry of the segment table.
 use Rattle.ticks.specs.Needs.{lawful-sound, lawful-fit, first-in, row-before, seat-made}
 use borrow.Author.Needs.{needs}
 use Rattle.ticks.proofs.first_seat.Statement.{statement}
@@ -7,8 +7,8 @@ use Rattle.ticks.proofs.first_seat.Tie as tie
 first-requires : tie.Need-first-requires
 first-requires c κs = search (lawful-sound, needs)
 
-place-of-requires : tie.Need-place-of-requires
-place-of-requires c κs = (search lawful-fit, search (first-in, needs))
+row-of-requires : tie.Need-row-of-requires
+row-of-requires c κs = (search lawful-fit, search (first-in, needs))
 
 entry-requires : tie.Need-entry-requires
 entry-requires c κs = (search lawful-sound, search (first-in, needs))
@@ -27,8 +27,7 @@ first-seat-spec =
     tie.close
     (tie.spec
     first-requires
-    (λ c. search needs)
-    place-of-requires
+    row-of-requires
     entry-requires
     (λ c. search needs)
     sub-from

@@ -1,46 +1,44 @@
--- Assumes nothing.
-use mathlib.Core.Path.{refl}
-use Rattle.ticks.specs.Told.{accepted-most, fewer, told-lawful}
-use Rattle.ticks.specs.Needs.{lawful-sound, first-among, first-some, turn-told, first-unless, first-when, flags-calm, has-time, orders-reply, orders-most}
+-- By the flags and the clock: a rule before an order, the turn, or orders in a row.
+use Rattle.ticks.specs.Needs.{lawful-sound, first-rowed, first-some, rule-gone, turn-gone, turn-most, turn-told, turn-leaves, orders-gone, orders-most, orders-reply, orders-stay, flags-calm, has-time}
+use Rattle.ticks.specs.Told.{fewer}
 use borrow.Author.Needs.{needs}
 use Rattle.ticks.proofs.go_on.Statement.{statement}
 use Rattle.ticks.proofs.go_on.Tie as tie
 
-get-requires : tie.Need-get-requires
-get-requires c κs = (search lawful-sound, search first-among)
+own-requires : tie.Need-own-requires
+own-requires c κs = (search lawful-sound, (search first-rowed, search needs))
 
-get-requires-2 : tie.Need-get-requires-2
-get-requires-2 c κs = search (lawful-sound, needs)
+get-requires : tie.Need-get-requires
+get-requires c κs = search (lawful-sound, needs)
 
 rule-requires : tie.Need-rule-requires
 rule-requires c κs = (search needs, (search needs, (search needs, (search needs, search needs))))
 
 returns : tie.Need-returns
-returns c = (search fewer, search needs)
+returns c = (search rule-gone, (search fewer, (search needs, search needs)))
 
 turn-requires : tie.Need-turn-requires
 turn-requires c κs = (search lawful-sound, search first-some)
 
 returns-2 : tie.Need-returns-2
-returns-2 c = (accepted-most _ _ _ _ refl (search needs), (search turn-told, search first-unless))
+returns-2 c = (search turn-gone, (search turn-most, (search turn-told, search turn-leaves)))
 
 run-orders-requires : tie.Need-run-orders-requires
-run-orders-requires c κs = let b = c .before .before in
-    (search needs, (search needs, (search needs, (flags-calm _ _ _ _ (b .before .before .before .get .ensures) (b .if1 .left), (search needs, (search has-time, search needs))))))
-
-get-requires-3 : tie.Need-get-requires-3
-get-requires-3 c κs = (search (lawful-sound, told-lawful), search first-among)
+run-orders-requires c κs = (search needs, (search needs, (search needs, (flags-calm _ _ _ _ (c .before .before .before .before .before .own .ensures) (c .before .before .if1 .left), (search needs, (search has-time, search needs))))))
 
 returns-3 : tie.Need-returns-3
-returns-3 c = let b = c .before .before .before .before .before in
-    (search orders-most, (orders-reply _ _ _ _ _ _ _ (c .before .get3 .ensures) (c .by-flags .ensures) (b .run-orders .ensures .1 .0), search first-when))
+returns-3 c =
+    let d1 = c .before .before .before .before .before in
+    let d2 = d1 .before .before .before .before .before in
+    let o = c .before .before .run-orders .ensures in
+    (orders-gone _ _ _ (d2 .before .pre .1 .1 .0) _ _ (d1 .before .before .before .own .ensures) (d1 .before .get .ensures) _ _ (c .before .before .before .before .before .if1 .left) (c .before .before .before .before .if2 .left) (o .0), (orders-most _ _ _ _ _ _ _ _ (o .0), (orders-reply _ _ _ _ _ (o .1 .0), orders-stay _ _ _ (o .1 .1))))
 
 pub go-on-spec : {M : Type 1} → statement M
 go-on-spec =
     tie.close
     (tie.spec
+    own-requires
     get-requires
-    get-requires-2
     rule-requires
     (λ c. search needs)
     returns
@@ -48,7 +46,5 @@ go-on-spec =
     (λ c. search needs)
     returns-2
     run-orders-requires
-    get-requires-3
-    (λ c κs. search needs)
     (λ c. search needs)
     returns-3)

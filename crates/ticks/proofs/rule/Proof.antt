@@ -1,19 +1,17 @@
--- Assumes nothing.
-use native.Mathlib.Omega.{arith}
-use Rattle.ticks.specs.Told.{accepted-most, refused-most}
-use Rattle.ticks.specs.Needs.{lawful-sound, first-among, first-some, first-flagged, rule-refused, rule-taken, rule-stays, first-unless}
+-- The rule's outcome is the tick's; a refused tick is not taken.
+use Rattle.ticks.specs.Needs.{lawful-sound, first-rowed, first-some, first-flagged, none-gone, none-most, one-most, some-gone, rule-refused, rule-taken, rule-stays, rule-leaves}
 use borrow.Author.Needs.{needs}
 use Rattle.ticks.proofs.rule.Statement.{statement}
 use Rattle.ticks.proofs.rule.Tie as tie
 
 before-order-requires : tie.Need-before-order-requires
-before-order-requires c κs = (search lawful-sound, (search first-among, (search first-some, (search first-flagged, search needs))))
+before-order-requires c κs = (search lawful-sound, (search first-rowed, (search first-some, (search first-flagged, search needs))))
 
 returns : tie.Need-returns
-returns c = (refused-most _ _ _ _ (c .enum-told .given .1) (omega arith), (search rule-refused, search first-unless))
+returns c = (search none-gone, (search none-most, (search rule-refused, search rule-leaves)))
 
 returns-2 : tie.Need-returns-2
-returns-2 c = (accepted-most _ _ _ _ (c .before .enum-told2 .given .1) (omega arith), (search rule-taken, search rule-stays))
+returns-2 c = (search some-gone, (search one-most, (search rule-taken, search rule-stays)))
 
 pub rule-spec : {M : Type 1} → statement M
 rule-spec =
@@ -24,6 +22,5 @@ rule-spec =
     (λ c. search needs)
     returns
     (λ c. search needs)
-    (λ c κs. search needs)
     (λ c. search needs)
     returns-2)

@@ -1,7 +1,7 @@
--- Assumes nothing.
+-- The part from the task's row on is lent; its orders are ticks, and the clock falls by as many.
 use native.Mathlib.Omega.{arith}
 use Rattle.ticks.specs.Lent.{row-within, row-small, part-lent, part-calm, back-sound, orders-first, orders-told}
-use Rattle.ticks.specs.Needs.{lawful-sound, sound-long, least-some, least-first, least-second}
+use Rattle.ticks.specs.Needs.{lawful-sound, sound-long, least-some, least-second, row-fits, row-least}
 use borrow.Author.Needs.{needs}
 use Rattle.ticks.proofs.run_orders.Statement.{statement}
 use Rattle.ticks.proofs.run_orders.Tie as tie
@@ -19,7 +19,7 @@ orders-requires : tie.Need-orders-requires
 orders-requires c κs = (search (part-lent, lawful-sound), (search needs, (search (part-calm, lawful-sound), search least-some)))
 
 sub-put : tie.Need-sub-put
-sub-put c = search least-second
+sub-put c = least-second _ _ _ (c .before .before .before .before .before .least .ensures) _ (row-fits _ _ _ _ (c .before .before .before .orders .ensures .0))
 
 put-requires : tie.Need-put-requires
 put-requires c κs = (search (back-sound, lawful-sound), search needs)
@@ -28,11 +28,13 @@ same-length : tie.Need-same-length
 same-length c = search (sound-long, lawful-sound)
 
 returns : tie.Need-returns
-returns c = let o = c .before .before .before .before .before .before in
-    let p = o .before .before .before .before .pre in
+returns c =
+    let d1 = c .before .before .before .before .before in
+    let p = d1 .before .before .before .before .before .pre in
     let h = lawful-sound _ _ (p .0) in
-    let e = o .orders .ensures in
-    (search least-first, (orders-told _ _ _ h (p .1 .1 .0) _ _ (e .1 .0) (e .1 .1) _ (p .1 .1 .1 .1 .0) (e .0 .0) (search least-second) _ (c .before .before .put .ensures .0), search (orders-first, lawful-sound)))
+    let e = d1 .before .orders .ensures in
+    let l = d1 .before .before .before .least .ensures in
+    (row-least _ _ _ _ (e .0) _ _ l, (orders-told _ _ _ h (p .1 .1 .0) (p .1 .1 .1 .0) _ _ _ (p .1 .1 .1 .1 .0) (e .0) (least-some _ _ _ l (p .1 .1 .1 .1 .1 .0) (p .1 .1 .1 .1 .1 .1)) (omega (arith, l)) _ _ (e .1) (c .before .before .put .ensures .0), search (orders-first, lawful-sound)))
 
 pub run-orders-spec : {M : Type 1} → statement M
 run-orders-spec =

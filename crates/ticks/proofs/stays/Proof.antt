@@ -1,4 +1,4 @@
--- Assumes nothing.
+-- By the answer: after a service that is done or faulted the first task is first still, and so after an order.
 use mathlib.Core.Path.{_≡_}
 use mathlib.Core.Bool.{false}
 use mathlib.Core.List.{[], _∷_}
@@ -7,26 +7,44 @@ use denote.Enum.Declared.{tagOf}
 use Rattle.paper.specs.declared.Answer.{Answer}
 use Rattle.paper.specs.declared.Reply.{Reply}
 use Rattle.paper.proofs.Answer as answer
-use Rattle.bound.specs.Ticks.{stays-first}
+use Rattle.ticks.specs.Told.{stays-of}
+use Rattle.ticks.specs.declared.Came.{Came}
 use borrow.Author.Needs.{needs}
 use Rattle.ticks.proofs.stays.Statement.{statement}
 use Rattle.ticks.proofs.stays.Tie as tie
 
--- what the last arm says: an answer that tells of no service done or faulted
-no-service : (a : Answer) → OneOf (0 ∷ 1 ∷ 2 ∷ 4 ∷ 6 ∷ 7 ∷ 8 ∷ 9 ∷ []) (tagOf answer.the-type a) → (r : Reply) → r ≡ Reply.Accepted a → false ≡ stays-first r
-no-service Answer.Idle h r e = rw e
-no-service (Answer.ErrorStop i) h r e = rw e
-no-service (Answer.TurnPassed i) h r e = rw e
-no-service (Answer.ServiceDone i) h r e = absurd (miss (0 ∷ 1 ∷ 2 ∷ 4 ∷ 6 ∷ 7 ∷ 8 ∷ 9 ∷ []) 3 tt h)
-no-service (Answer.ServiceWaits i) h r e = rw e
-no-service (Answer.ServiceFaulted i) h r e = absurd (miss (0 ∷ 1 ∷ 2 ∷ 4 ∷ 6 ∷ 7 ∷ 8 ∷ 9 ∷ []) 5 tt h)
-no-service (Answer.OrderDone i) h r e = rw e
-no-service (Answer.OrderFaulted i) h r e = rw e
-no-service (Answer.Input i) h r e = rw e
-no-service (Answer.OutputDone i) h r e = rw e
+returns : tie.Need-returns
+unfolding stays-of
+returns c = search needs
+
+returns-2 : tie.Need-returns-2
+unfolding stays-of
+returns-2 c = search needs
 
 returns-3 : tie.Need-returns-3
-returns-3 c = no-service _ (c .match2 .keys3) _ (c .before .before .r .given .1)
+unfolding stays-of
+returns-3 c = search needs
+
+-- what the last arm says: an answer that tells of no service done or faulted
+no-service : (a : Answer) → OneOf (0 ∷ 1 ∷ 2 ∷ 4 ∷ 6 ∷ 7 ∷ 8 ∷ 9 ∷ []) (tagOf answer.the-type a) → (r : Reply) → r ≡ Reply.Accepted a → (c : Came) → c ≡ Came.Replied r → false ≡ stays-of c
+unfolding stays-of
+no-service Answer.Idle h r er c ec = rw (ec, er)
+no-service (Answer.ErrorStop i) h r er c ec = rw (ec, er)
+no-service (Answer.TurnPassed i) h r er c ec = rw (ec, er)
+no-service (Answer.ServiceDone i) h r er c ec = absurd (miss (0 ∷ 1 ∷ 2 ∷ 4 ∷ 6 ∷ 7 ∷ 8 ∷ 9 ∷ []) 3 tt h)
+no-service (Answer.ServiceWaits i) h r er c ec = rw (ec, er)
+no-service (Answer.ServiceFaulted i) h r er c ec = absurd (miss (0 ∷ 1 ∷ 2 ∷ 4 ∷ 6 ∷ 7 ∷ 8 ∷ 9 ∷ []) 5 tt h)
+no-service (Answer.OrderDone i) h r er c ec = rw (ec, er)
+no-service (Answer.OrderFaulted i) h r er c ec = rw (ec, er)
+no-service (Answer.Input i) h r er c ec = rw (ec, er)
+no-service (Answer.OutputDone i) h r er c ec = rw (ec, er)
+
+returns-4 : tie.Need-returns-4
+returns-4 c = no-service _ (c .match3 .keys3) _ (c .before .before .r .given .1) _ (c .before .before .before .before .before .c .given .1)
+
+returns-5 : tie.Need-returns-5
+unfolding stays-of
+returns-5 c = search needs
 
 pub stays-spec : {M : Type 1} → statement M
 stays-spec =
@@ -38,5 +56,8 @@ stays-spec =
     (λ c. search needs)
     (λ c. search needs)
     (λ c. search needs)
+    returns
+    returns-2
     returns-3
-    (λ c. search needs))
+    returns-4
+    returns-5)
