@@ -1,11 +1,12 @@
 -- What the calls of this crate ask and make, as laws over values. Assumes nothing.
-use mathlib.Core.Path.{_≡_, refl, sym, _∙_}
+use mathlib.Core.Path.{_≡_, refl, sym, _∙_, ap}
 use mathlib.Core.List.{List}
 use Prim.Native.Nat.{ℕ, _+_, _*_, _/_, _%_, _<_, _≤_}
 use native.Mathlib.Nat.{add-zero}
 use native.Mathlib.Omega.{arith}
 use lib.ListN.{length, getD, take, drop}
 use lib.Seq.{length-take-le}
+use Rattle.paper.specs.Waking.{outcome}
 use Rattle.paper.specs.Events.{event-of, happening}
 use Rattle.paper.specs.Runner.{word, line, last-line, after-line, prints-on, printed-from}
 use Rattle.paper.specs.declared.Shape.{Shape}
@@ -94,12 +95,11 @@ module _ (s : Shape) (first : List ℕ) (n : ℕ) (bytes o : List ℕ) where
 
     module _ (m : ℕ) (em : m ≡ n + taken) (out′ : List ℕ) (text′ : ℕ) where
       -- one more is carried out
-      module _ (im′ : List ℕ) (reply : Reply) (h : at + 6 ≤ length bytes) (er : reply ≡ happening s im (event-at s bytes at) .reply)
-          (ei : im′ ≡ happening s im (event-at s bytes at) .image) (good : Lawful s im′) (et : text′ ≡ text + length (line m reply))
+      module _ (im′ : List ℕ) (reply : Reply) (h : at + 6 ≤ length bytes) (is : outcome reply im′ ≡ happening s im (event-at s bytes at)) (good : Lawful s im′) (et : text′ ≡ text + length (line m reply))
           (small : text′ ≤ text + most-line) (eo : out′ ≡ written out text (line m reply)) where
         left-is : Joins o out text taken (prints-on (n + taken) reply im′ (λ next. printed-from s next (1 + (n + taken)) (drop (at + 6) bytes)))
             (printed-from s first n bytes)
-        left-is = rw (er, ei, ← printed-step s im (n + taken) bytes at h) (g .joins)
+        left-is = rw (ap (λ o. o .reply) is, ap (λ o. o .image) is, ← printed-step s im (n + taken) bytes at h) (g .joins)
 
         pub event-accepted : (a : Answer) → reply ≡ Reply.Accepted a → Going s first n bytes o im′ out′ (at + 6) text′ (taken + 1)
         event-accepted a ea =

@@ -2,6 +2,7 @@
 ghost use mathlib.Core.Path.{_≡_};
 ghost use Prim.Native.Nat.{_+_, _<_, _≤_};
 ghost use lib.ListN.{length, take};
+ghost use Rattle.paper.specs.Waking.{outcome};
 ghost use Rattle.paper.specs.Events.{happening};
 ghost use Rattle.laws.specs.Stays.{Lawful};
 ghost use Rattle.shapes.specs.Entries.{Shapes};
@@ -31,8 +32,7 @@ fn step_at(s: Shape, im: &mut [u16], shapes: &[u16; 256], bytes: &[u8], at: usiz
     requires { ⌜ Lawful s (now im) ⌝ }
     requires { ⌜ Shapes (now shapes) ⌝ }
     requires { ⌜ at + event-bytes ≤ length (now bytes) ⌝ }
-    ensures { λ r. ⌜ r ≡ happening s (now (im .entry)) (event-at s (now (bytes .entry)) at) .reply ⌝ }
-    ensures { λ _. ⌜ now (im .exit) ≡ happening s (now (im .entry)) (event-at s (now (bytes .entry)) at) .image ⌝ }
+    ensures { λ r. ⌜ outcome r (now (im .exit)) ≡ happening s (now (im .entry)) (event-at s (now (bytes .entry)) at) ⌝ }
     ensures { λ _. ⌜ Lawful s (now (im .exit)) ⌝ }
 {
     let kind = word(bytes[at], bytes[at + 1]);

@@ -5,6 +5,7 @@ use Prim.Native.Nat.{ℕ, zero, suc, _+_, _-_, _*_, _%_, _/_, _<_, _≤_}
 use native.Mathlib.Omega.{arith}
 use lib.ListN.{length, getD, drop}
 use lib.Seq.{drop-cons, drop-length}
+use Rattle.paper.specs.Waking.{Outcome, outcome}
 use Rattle.paper.specs.Events.{event-of, tick, happening}
 use Rattle.paper.specs.declared.Shape.{Shape}
 use Rattle.paper.specs.declared.Event.{Event}
@@ -97,10 +98,10 @@ module _ (s : Shape) (im events : List ℕ) where
 
   -- the next event
   module _ (k : ℕ) (last : Reply) (m out : List ℕ) (r : Reply) (whole : 3 * k + 2 < length events) (h : TakenFrom s im events k last m)
-      (reply : r ≡ happening s m (nth-event s events k) .reply) (image : out ≡ happening s m (nth-event s events k) .image) where
+      (is : outcome r out ≡ happening s m (nth-event s events k)) where
     one-next : told-from s im events (Reply.Accepted Answer.Idle) ≡ onward k (goes-on r out (λ next. told-from s next (drop (3 * (k + 1)) events) r))
     unfolding TakenFrom nth-event
-    one-next = rw (reply, image) (h ∙ ap (λ l. onward k (told-from s m l last)) (rest-is events k whole))
+    one-next = rw (ap (λ o. o .reply) is, ap (λ o. o .image) is) (h ∙ ap (λ l. onward k (told-from s m l last)) (rest-is events k whole))
 
     pub taken-more : (a : Answer) → r ≡ Reply.Accepted a → TakenFrom s im events (k + 1) r out
     unfolding TakenFrom
@@ -123,6 +124,10 @@ module _ (s : Shape) (im events : List ℕ) where
       let none : k + 0 ≡ k = omega arith in
       h ∙ ap (λ l. onward k (told-from s m l last)) (ap (λ (j : ℕ). drop j events) end ∙ drop-length events) ∙ ap (λ (n : ℕ). counted n (ended last m)) none
 
+-- an outcome is its reply and its image
+pub outcome-is : (o : Outcome) (r : Reply) (im : List ℕ) → r ≡ o .reply → im ≡ o .image → outcome r im ≡ o
+outcome-is o r im er ei = rw (er, ei)
+
 -- ticks that stand in a row in a list of events
 module _ (s : Shape) (im events : List ℕ) (k : ℕ) (last : Reply) (m : List ℕ) (h : TakenFrom s im events k last m) where
   -- an event that is a tick
@@ -140,7 +145,7 @@ module _ (s : Shape) (im events : List ℕ) (k : ℕ) (last : Reply) (m : List �
       → 3 * (k + n) + 2 < length events → (r : Reply) → r ≡ tick s (ticked s m n) .reply → Taken r → TakenFrom s im events (k + n + 1) r (ticked s m (suc n))
   tick-taken n before e l (Reply.Accepted a) t y =
       let here = tick-happens (ticked s m n) (nth-event s events (k + n)) e in
-      taken-more s im events (k + n) (last-before n) (ticked s m n) _ _ l before (t ∙ ap (λ o. o .reply) (sym here)) (ap (λ o. o .image) (sym here)) a refl
+      taken-more s im events (k + n) (last-before n) (ticked s m n) _ _ l before (rw (here, t)) a refl
   tick-taken n before e l (Reply.Refused f) t y = absurd y
 
   -- all of them
@@ -171,5 +176,5 @@ module _ (s : Shape) (im events : List ℕ) (k : ℕ) (last : Reply) (m : List �
         let here = tick-happens out (nth-event s events (k + n)) en in
         let told : happening s out (nth-event s events (k + n)) .reply ≡ Reply.Refused f = ap (λ o. o .reply) here ∙ r in
         let before : TakenFrom s im events (k + n) (last-before n) out = rw (t .0) (ticked-taken n (t .1) e l) in
-        taken-refused s im events (k + n) (last-before n) out out (Reply.Refused f) there before (sym told)
-        (sym (happening-unchanged s out (nth-event s events (k + n)) f told)) f refl
+        taken-refused s im events (k + n) (last-before n) out out (Reply.Refused f) there before
+        (outcome-is _ _ _ (sym told) (sym (happening-unchanged s out (nth-event s events (k + n)) f told))) f refl

@@ -4,6 +4,7 @@ use mathlib.Core.List.{List, [], _∷_}
 use Prim.Native.Nat.{ℕ, _+_, _-_, _*_, _%_, _/_, _<_, _≤_}
 use native.Mathlib.Omega.{arith}
 use lib.ListN.{length, getD}
+use Rattle.paper.specs.Waking.{outcome}
 use Rattle.paper.specs.Events.{event-of, happening}
 use Rattle.paper.specs.declared.Shape.{Shape}
 use Rattle.paper.specs.declared.Event.{Event}
@@ -14,7 +15,7 @@ use Rattle.laws.specs.Sound.{Sound, sound}
 use Rattle.laws.specs.Checked.{good-sound}
 use Rattle.laws.specs.Stays.{Formed, Lawful, lawful, good, happening-good, event-formed}
 use Rattle.ticks.specs.Told.{Told, Passes}
-use Rattle.happening.specs.Lists.{nth-event, TakenFrom, Ends, alone-last, alone-image, taken-all, ticks-taken, ticks-refused}
+use Rattle.happening.specs.Lists.{outcome-is, nth-event, TakenFrom, Ends, alone-last, alone-image, taken-all, ticks-taken, ticks-refused}
 use Rattle.happening.specs.Ahead.{Ahead, ahead-ticks}
 
 -- a lawful image is sound
@@ -31,18 +32,14 @@ module _ (s : Shape) (im events : List ℕ) (k : ℕ) (e : Event)
   pub made-formed : Formed s e
   made-formed = rw ee (event-formed s _ _ _)
 
-  pub nth-reply : (r : Reply) → r ≡ happening s im e .reply → r ≡ happening s im (nth-event s events k) .reply
-  unfolding nth-event
-  nth-reply r er = rw (← ee) er
-
-  module _ (out : List ℕ) (eo : out ≡ happening s im e .image) where
-    pub nth-image : out ≡ happening s im (nth-event s events k) .image
+  module _ (r : Reply) (out : List ℕ) (is : outcome r out ≡ happening s im e) where
+    pub nth-outcome : outcome r out ≡ happening s im (nth-event s events k)
     unfolding nth-event
-    nth-image = rw (← ee) eo
+    nth-outcome = rw (← ee) is
 
     -- the image stays lawful
     pub nth-lawful : Lawful s im → Lawful s out
-    nth-lawful h = rw eo (lawful (happening-good s im (good h) e made-formed))
+    nth-lawful h = rw (ap (λ o. o .image) is) (lawful (happening-good s im (good h) e made-formed))
 
 -- there is an event k
 pub event-there : (events : List ℕ) (k count : ℕ) → count ≡ length events / 3 → k < count → 3 * k + 2 < length events
@@ -93,10 +90,7 @@ all-end s im events k count last m whole ec low done h = taken-all s im events k
 
 -- a list of one event
 module _ (s : Shape) (im : List ℕ) (k d c n : ℕ) (last : Reply) (out : List ℕ) (e : Ends s im (k ∷ d ∷ c ∷ []) n last out) where
-  pub one-reply : last ≡ happening s im (event-of s k d c) .reply
+  pub one-outcome : outcome last out ≡ happening s im (event-of s k d c)
   unfolding Ends
-  one-reply = ap (λ t. t .last) (sym e) ∙ alone-last _ _
-
-  pub one-image : out ≡ happening s im (event-of s k d c) .image
-  unfolding Ends
-  one-image = ap (λ t. t .image) (sym e) ∙ alone-image (happening s im (event-of s k d c) .reply) _
+  one-outcome =
+      outcome-is _ _ _ (ap (λ t. t .last) (sym e) ∙ alone-last _ _) (ap (λ t. t .image) (sym e) ∙ alone-image (happening s im (event-of s k d c) .reply) _)

@@ -3,6 +3,7 @@ ghost use mathlib.Core.Path.{_≡_};
 ghost use mathlib.Core.Bool.{false};
 ghost use Prim.Native.Nat.{_+_, _*_, _%_, _<_, _≤_};
 ghost use lib.ListN.{length};
+ghost use Rattle.paper.specs.Waking.{outcome};
 ghost use Rattle.paper.specs.Events.{event-of as event-by, happening};
 ghost use Rattle.laws.specs.Stays.{Lawful};
 ghost use Rattle.shapes.specs.Entries.{Shapes};
@@ -88,8 +89,7 @@ fn report_at(s: Shape, im: &mut [u16], events: &[u16], k: usize) -> Reply
     requires { ⌜ Lawful s (now im) ⌝ }
     requires { ⌜ 3 * k + 2 < length (now events) ⌝ }
     requires { ⌜ zeros-at (now events) (3 * k) 3 ≡ false ⌝ }
-    ensures { λ r. ⌜ r ≡ happening s (now (im .entry)) (nth-event s (now (events .entry)) k) .reply ⌝ }
-    ensures { λ _. ⌜ now (im .exit) ≡ happening s (now (im .entry)) (nth-event s (now (events .entry)) k) .image ⌝ }
+    ensures { λ r. ⌜ outcome r (now (im .exit)) ≡ happening s (now (im .entry)) (nth-event s (now (events .entry)) k) ⌝ }
     ensures { λ _. ⌜ Lawful s (now (im .exit)) ⌝ }
 {
     let at = EVENT_WORDS * k;
@@ -152,8 +152,7 @@ pub fn step(
 ) -> Reply
     requires { ⌜ Lawful s (now im) ⌝ }
     requires { ⌜ Shapes (now shapes) ⌝ }
-    ensures { λ r. ⌜ r ≡ happening s (now (im .entry)) (event-by s kind device character) .reply ⌝ }
-    ensures { λ _. ⌜ now (im .exit) ≡ happening s (now (im .entry)) (event-by s kind device character) .image ⌝ }
+    ensures { λ r. ⌜ outcome r (now (im .exit)) ≡ happening s (now (im .entry)) (event-by s kind device character) ⌝ }
     ensures { λ _. ⌜ Lawful s (now (im .exit)) ⌝ }
 {
     let list: [u16; EVENT_WORDS] = [kind, device, character];

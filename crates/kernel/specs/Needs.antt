@@ -9,6 +9,7 @@ use borrow.Author.Tests.{eqb-true, eq-eqb, ne-eqb}
 use lib.Dec.{eqb}
 use lib.ListN.{length}
 use Rattle.paper.specs.Image.{shape-of}
+use Rattle.paper.specs.Waking.{outcome}
 use Rattle.paper.specs.Events.{event-of, happening}
 use Rattle.paper.specs.Numbers.{verdict-number, reply-number, reply-values, and-then, refused-if, check}
 use Rattle.paper.specs.Calls.{Ran, one-more, goes-on, run-from, check-run, event, run}
@@ -25,18 +26,20 @@ use Rattle.happening.specs.Lists.{Toll, goes-on as tells-on, told-from, stop-of
 
 -- one event
 module _ (im : List ℕ) (k d c : ℕ) where
-  happened : (answer : Reply) (out : List ℕ) → answer ≡ event im k d c .reply → out ≡ event im k d c .image → Happens im k d c answer out
-  happened answer out e f = record { answered = e; numbered = ap reply-number e; valued = ap reply-values e; left = f }
+  happened : (answer : Reply) (out : List ℕ) → outcome answer out ≡ event im k d c → Happens im k d c answer out
+  happened answer out e =
+      let told = ap (λ o. o .reply) e in
+      record { answered = told; numbered = ap reply-number told; valued = ap reply-values told; left = ap (λ o. o .image) e }
 
   module _ (v : Verdict) (ev : v ≡ check im) where
     pub event-fine : (s : Shape) (answer : Reply) (out : List ℕ) → v ≡ Verdict.Fine → s ≡ shape-of im
-        → answer ≡ happening s im (event-of s k d c) .reply → out ≡ happening s im (event-of s k d c) .image → Happens im k d c answer out
+        → outcome answer out ≡ happening s im (event-of s k d c) → Happens im k d c answer out
     unfolding event
-    event-fine s answer out f es ea eo = happened answer out (rw (← ev, f, ← es) ea) (rw (← ev, f, ← es) eo)
+    event-fine s answer out f es e = happened answer out (rw (← ev, f, ← es) e)
 
     pub event-refused : (r : Refusal) → v ≡ Verdict.Refused r → Happens im k d c (Reply.Refused r) im
     unfolding event
-    event-refused r f = happened (Reply.Refused r) im (rw (← ev, f)) (rw (← ev, f))
+    event-refused r f = happened (Reply.Refused r) im (rw (← ev, f))
 
 -- a later verdict counts where the first is fine
 pub turn-fine : (first later : Verdict) → first ≡ Verdict.Fine → later ≡ and-then first later

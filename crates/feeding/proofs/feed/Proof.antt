@@ -30,10 +30,10 @@ put-line-requires : tie.Need-put-line-requires Inv-loop μ-loop
 put-line-requires c κs = line-room _ _ _ _ _ _ _ _ _ _ (c .before .before .before .before .before .before .loop .inv .0) (omega arith) (c .before .before .before .before .before .before .before .before .before .before .pre .1 .1 .1)
 
 loop-again : tie.Need-loop-again Inv-loop μ-loop
-loop-again c = (event-accepted _ _ _ _ _ _ _ _ _ _ (c .before .before .before .before .before .before .before .before .before .before .before .loop .inv .0) _ refl _ _ _ _ (omega arith) (c .before .before .before .before .before .before .before .before .step-at .ensures .0) (c .before .before .before .before .before .before .before .before .step-at .ensures .1 .0) (c .before .before .before .before .before .before .before .before .step-at .ensures .1 .1) (c .before .before .before .before .put-line .ensures .0) (c .before .before .before .before .put-line .ensures .1 .0) (c .before .before .before .before .put-line .ensures .1 .1) _ (c .enum-told .given .1), c .before .before .before .before .before .before .before .before .step-at .kept .1 .0 ∙ c .before .before .before .before .before .before .before .before .before .before .before .loop .inv .1)
+loop-again c = (event-accepted _ _ _ _ _ _ _ _ _ _ (c .before .before .before .before .before .before .before .before .before .before .before .loop .inv .0) _ refl _ _ _ _ (omega arith) (c .before .before .before .before .before .before .before .before .step-at .ensures .0) (c .before .before .before .before .before .before .before .before .step-at .ensures .1) (c .before .before .before .before .put-line .ensures .0) (c .before .before .before .before .put-line .ensures .1 .0) (c .before .before .before .before .put-line .ensures .1 .1) _ (c .enum-told .given .1), c .before .before .before .before .before .before .before .before .step-at .kept .1 .0 ∙ c .before .before .before .before .before .before .before .before .before .before .before .loop .inv .1)
 
 returns : tie.Need-returns Inv-loop μ-loop
-returns c = event-refused _ _ _ _ _ _ _ _ _ _ (c .before .before .before .before .before .before .before .before .before .before .before .before .loop .inv .0) _ refl _ _ _ _ (omega arith) (c .before .before .before .before .before .before .before .before .before .step-at .ensures .0) (c .before .before .before .before .before .before .before .before .before .step-at .ensures .1 .0) (c .before .before .before .before .before .before .before .before .before .step-at .ensures .1 .1) (c .before .before .before .before .before .put-line .ensures .0) (c .before .before .before .before .before .put-line .ensures .1 .0) (c .before .before .before .before .before .put-line .ensures .1 .1) _ (c .before .reply .given .1) (c .before .before .before .before .before .before .before .before .before .before .before .before .before .before .before .before .pre .1 .1 .1)
+returns c = event-refused _ _ _ _ _ _ _ _ _ _ (c .before .before .before .before .before .before .before .before .before .before .before .before .loop .inv .0) _ refl _ _ _ _ (omega arith) (c .before .before .before .before .before .before .before .before .before .step-at .ensures .0) (c .before .before .before .before .before .before .before .before .before .step-at .ensures .1) (c .before .before .before .before .before .put-line .ensures .0) (c .before .before .before .before .before .put-line .ensures .1 .0) (c .before .before .before .before .before .put-line .ensures .1 .1) _ (c .before .reply .given .1) (c .before .before .before .before .before .before .before .before .before .before .before .before .before .before .before .before .pre .1 .1 .1)
 
 returns-2 : tie.Need-returns-2 Inv-loop μ-loop
 returns-2 c = events-end _ _ _ _ _ _ _ _ _ _ (c .before .before .loop .inv .0) (c .if1 .taken) (c .before .before .before .before .before .before .pre .1 .1 .1)

@@ -1,4 +1,4 @@
--- Assumes nothing.
+-- Six bytes make the three words of the event.
 use Rattle.feeding.specs.Needs.{event-read}
 use borrow.Author.Needs.{needs}
 use Rattle.feeding.proofs.step_at.Statement.{statement}
@@ -6,8 +6,13 @@ use Rattle.feeding.proofs.step_at.Tie as tie
 
 returns : tie.Need-returns
 returns c =
-    let e = event-read (c .before .before .before .before .before .before .before .before .before .before .before .before .before .before .before .args .s) (c .before .before .before .before .before .before .before .before .before .before .before .before .before .before .before .args .bytes .now) (c .before .before .before .before .before .before .before .before .before .before .before .before .before .before .before .args .at) _ _ _ (c .before .before .before .before .before .before .before .before .before .before .word .ensures) (c .before .before .before .before .before .before .before .word2 .ensures) (c .before .before .before .before .word3 .ensures) in
-    (rw e at (c .before .before .step .ensures .0), (rw e at (c .before .before .step .ensures .1 .0), c .before .before .step .ensures .1 .1))
+    let d = c .before .before in
+    let w3 = d .before .before in
+    let w2 = w3 .before .before .before in
+    let w1 = w2 .before .before .before in
+    let start = w1 .before .before .before .before .before in
+    let e = event-read (start .args .s) (start .args .bytes .now) (start .args .at) _ _ _ (w1 .word .ensures) (w2 .word2 .ensures) (w3 .word3 .ensures) in
+    (rw e at (d .step .ensures .0), d .step .ensures .1)
 
 pub step-at-spec : {M : Type 1} → statement M
 step-at-spec =

@@ -1,6 +1,6 @@
--- Assumes nothing.
+-- The three words make the event that is reported.
 use Rattle.happening.specs.Ahead.{words-no-tick}
-use Rattle.happening.specs.Needs.{lawful-sound, made-formed, nth-reply, nth-image, nth-lawful}
+use Rattle.happening.specs.Needs.{lawful-sound, made-formed, nth-outcome, nth-lawful}
 use borrow.Author.Needs.{needs}
 use Rattle.happening.proofs.report_at.Statement.{statement}
 use Rattle.happening.proofs.report_at.Tie as tie
@@ -9,7 +9,7 @@ report-requires : tie.Need-report-requires
 report-requires c κs = (search lawful-sound, (search made-formed, search words-no-tick))
 
 returns : tie.Need-returns
-returns c = (search nth-reply, (search nth-image, search nth-lawful))
+returns c = (search nth-outcome, search nth-lawful)
 
 pub report-at-spec : {M : Type 1} → statement M
 report-at-spec =

@@ -1,11 +1,11 @@
--- Assumes nothing.
-use Rattle.happening.specs.Needs.{one-reply, one-image}
+-- A list of one event ends with that event.
+use Rattle.happening.specs.Needs.{one-outcome}
 use borrow.Author.Needs.{needs}
 use Rattle.happening.proofs.step.Statement.{statement}
 use Rattle.happening.proofs.step.Tie as tie
 
 returns : tie.Need-returns
-returns c = (search one-reply, (search one-image, search needs))
+returns c = (search one-outcome, search needs)
 
 pub step-spec : {M : Type 1} → statement M
 step-spec =

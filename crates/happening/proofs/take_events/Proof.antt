@@ -72,7 +72,7 @@ loop-less c = omega (arith, reached (c .before .before .before .before .before .
 loop-again : tie.Need-loop-again Inv-loop μ-loop
 loop-again c = let b = c .before .before .before .before .before in
     let r = reached (b .before .before .before) in
-    (search needs, taken-more _ _ _ _ _ _ _ _ (search event-there) (r .taken) (b .report-at .ensures .0) (b .report-at .ensures .1 .0) _ (c .before .enum-told4 .given .1), omega arith)
+    (search needs, taken-more _ _ _ _ _ _ _ _ (search event-there) (r .taken) (b .report-at .ensures .0) _ (c .before .enum-told4 .given .1), omega arith)
 
 loop-less-2 : tie.Need-loop-less-2 Inv-loop μ-loop
 loop-less-2 c = omega arith
