@@ -12,7 +12,7 @@ use Rattle.paper.specs.declared.Verdict.{Verdict}
 use Rattle.bound.specs.Bound.{InLine, most-ticks, ticks, Comes, calls, accepted-ticks, RunComes}
 use Rattle.bound.specs.Nearer.{calls-come}
 use Rattle.bound.specs.Turn.{line-good, comes-as, turn-comes}
-use Rattle.laws.specs.Taken.{first-events, events-after, events-length, events-whole, prefix-taken, run-whole, run-taken}
+use Rattle.user_laws.specs.Taken.{first-events, events-after, events-length, events-whole, prefix-taken, run-whole, run-taken}
 
 -- calls of `event`, refused ones between accepted ones, with accepted ticks enough: the turn comes after as few accepted ones
 pub calls-turn-comes : (s : Shape) (im : List ℕ) (i : Task) (k : ℕ) → InLine s im i k → (events : List ℕ) → most-ticks s im k ≤ accepted-ticks im events

@@ -16,13 +16,15 @@ use Rattle.paper.specs.declared.Shape.{Shape}
 use Rattle.paper.specs.declared.Queue.{Queue}
 use Rattle.paper.specs.declared.Answer.{Answer}
 use Rattle.paper.specs.declared.Reply.{Reply}
-use Rattle.laws.specs.Stays.{words-good}
+use Rattle.laws.specs.Events.{event-formed}
+use Rattle.event_laws.specs.Stays.{words-good}
+use Rattle.event_laws.specs.Touched.{event-frame}
 use Rattle.bound.specs.Bound.{tick-count, Behind, Untouched}
 use Rattle.bound.specs.Measure.{pace, measure, Nears}
 use Rattle.bound.specs.Pace.{pace-some, pace-most}
-use Rattle.bound.specs.Ready.{KeepsPlace, LeavesPlace}
+use Rattle.event_laws.specs.First.{KeepsPlace, LeavesPlace}
 use Rattle.bound.specs.Ticks.{Moves, event-moves}
-use Rattle.bound.specs.Line.{behind-some, event-touches, touches-untouched}
+use Rattle.bound.specs.Line.{behind-some, frame-untouched}
 
 module _ (s : Shape) (im m : List ℕ) (g : Good s m) (used : ℕ) (one : used ≤ 1) where
   -- where the first task leaves its place: it could use a tick at least, and the next one can use a whole slice at most
@@ -58,8 +60,8 @@ module _ (s : Shape) (im m : List ℕ) (g : Good s m) (used : ℕ) (one : used �
           falls = omega (arith, less);
         }
 
-    moves-nears : (r : Reply) → Moves s im r m used → Nears s im m i (suc k) used
-    moves-nears r v = ⊎-elim (λ h. leaves-nears (h .0)) (λ h. keeps-nears (h .0) (h .1)) (v .turn)
+    moves-nears : Moves s im m used → Nears s im m i (suc k) used
+    moves-nears v = ⊎-elim leaves-nears (λ h. keeps-nears (h .0) (h .1)) v
 
 -- a tick counts 1
 tick-one : (k d c : ℕ) → tick-count k d c ≤ 1
@@ -72,15 +74,12 @@ tick-one k d c = go (is-tick k d c)
 -- an accepted event, and a task with others ahead of it
 module _ (s : Shape) (im : List ℕ) (g : Good s im) (i : Task) (k : ℕ) (b : Behind s im i (suc k)) (kind device character : ℕ) (told : Answer)
     (taken-up : happening s im (event-of s kind device character) .reply ≡ Reply.Accepted told) where
-  moves : Moves s im (happening s im (event-of s kind device character) .reply) (happening s im (event-of s kind device character) .image) (tick-count kind device character)
-  moves = event-moves s im g (behind-some s im g i (suc k) b) kind device character told taken-up
-
   -- the step lemma: a tick makes the measure fall by 1 at least, and no device event raises it
   pub event-nears : Nears s im (happening s im (event-of s kind device character) .image) i (suc k) (tick-count kind device character)
   event-nears =
-      moves-nears s im _ (words-good s im g kind device character) (tick-count kind device character)
-      (tick-one kind device character) i k b _ moves
+      moves-nears s im _ (words-good s im g kind device character) (tick-count kind device character) (tick-one kind device character) i k b
+      (event-moves s im g (behind-some s im g i (suc k) b) kind device character told taken-up)
 
   -- and neither touches a word of the task
   pub event-untouched : Untouched s im (happening s im (event-of s kind device character) .image) i
-  event-untouched = touches-untouched s im g i k b _ (event-touches s im g kind device character) (moves .tabled)
+  event-untouched = frame-untouched s im g i k b (event-frame s im g (event-of s kind device character) (event-formed s kind device character))

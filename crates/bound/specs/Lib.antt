@@ -1,7 +1,6 @@
 pub mod Bound
 pub mod Measure
 pub mod Pace
-pub mod Ready
 pub mod Ticks
 pub mod Line
 pub mod Falls

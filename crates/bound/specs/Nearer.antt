@@ -15,9 +15,9 @@ use Rattle.paper.specs.Calls.{event}
 use Rattle.paper.specs.declared.Task.{Task}
 use Rattle.paper.specs.declared.Shape.{Shape}
 use Rattle.paper.specs.declared.Refusal.{Refusal}
-use Rattle.laws.specs.Stays.{words-good}
-use Rattle.laws.specs.Replies.{Accepted, RefusedFor, replies}
-use Rattle.laws.specs.Folded.{event-is}
+use Rattle.event_laws.specs.Stays.{words-good}
+use Rattle.user_laws.specs.Replies.{Accepted, RefusedFor, replies}
+use Rattle.user_laws.specs.Folded.{event-is}
 use Rattle.bound.specs.Bound.{Behind, most-ticks, tick-count, Prefix, Untouched, Comes, calls, if-accepted, accepted-ticks}
 use Rattle.bound.specs.Measure.{measure, Nears}
 use Rattle.bound.specs.Pace.{pace-some, pace-most}

@@ -11,8 +11,8 @@ use Rattle.paper.specs.declared.Shape.{Shape}
 use Rattle.paper.specs.declared.Reply.{Reply}
 use Rattle.paper.specs.declared.Verdict.{Verdict}
 use Rattle.laws.specs.Checked.{checked-good, never-fine}
-use Rattle.laws.specs.Stays.{words-good}
-use Rattle.laws.specs.Folded.{event-is}
+use Rattle.event_laws.specs.Stays.{words-good}
+use Rattle.user_laws.specs.Folded.{event-is}
 use Rattle.bound.specs.Bound.{InLine, most-ticks, tick-count, ticks, Prefix, Comes, calls, if-accepted, accepted-ticks}
 use Rattle.bound.specs.Nearer.{calls-come}
 

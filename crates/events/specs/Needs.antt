@@ -25,9 +25,10 @@ use Rattle.paper.specs.declared.Reply.{Reply}
 use Rattle.laws.specs.Cells.{cells}
 use Rattle.laws.specs.Queues.{taken-count, taken-rest}
 use Rattle.laws.specs.Sound.{Sound, sound}
-use Rattle.laws.specs.Stays.{Formed}
+use Rattle.laws.specs.Events.{Formed}
 use Rattle.waking.specs.Room.{Room, has-room}
-use Rattle.laws.specs.Moved.{apart-full, sent-apart, next-apart}
+use Rattle.laws.specs.Frame.{frame-none, frame-appended, kept-full}
+use Rattle.laws.specs.Changes.{device-parts, frame-next}
 use Rattle.services.specs.Needs.{outcomes, no-room, some-room, room-stays, the-one}
 
 -- three tests, as the code joins them
@@ -181,10 +182,10 @@ module _ (s : Shape) (im m : List ℕ) (i : Task) (h : Sound s im) (hi : i .0 < 
   pub input-room : (c : ℕ) → m ≡ appended s im (Queue.Input i) c → full s m Queue.Ready ≡ full s im Queue.Ready
   input-room c em =
       let q = Queue.Input i in
-      rw em (apart-full s im (appended s im q c) (sent-apart s im h i hi q hi refl c))
+      rw em (kept-full device-parts (frame-appended frame-none q hi h (λ r. refl) c) Queue.Ready tt refl)
 
   pub port-room : m ≡ port-next s im i → full s m Queue.Ready ≡ full s im Queue.Ready
-  port-room em = rw em (apart-full s im (port-next s im i) (next-apart s im h i hi))
+  port-room em = rw em (kept-full device-parts (frame-next frame-none h i hi (λ r. refl) (λ r. refl)) Queue.Ready tt refl)
 
   pub owner-room : (x : ℕ) (w : Woken) (r : Bool) → w ≡ one-if (eqb (at s im (status i)) x) i → r ≡ has-room s im w → not r ≡ false
       → full s m Queue.Ready ≡ full s im Queue.Ready → Room s m w

@@ -12,7 +12,7 @@ ghost use Rattle.paper.specs.Events.{event-of as event-by, stopped, turned, tur
 ghost use Rattle.paper.specs.declared.Event.the-variants.{Tick};
 ghost use Rattle.paper.specs.declared.Queue.the-variants.{Ready};
 ghost use Rattle.laws.specs.Sound.{Sound};
-ghost use Rattle.laws.specs.Stays.{Formed};
+ghost use Rattle.laws.specs.Events.{Formed};
 ghost use Rattle.words.specs.Names.{Rowed};
 use paper::Answer;
 use paper::Event;

@@ -14,7 +14,7 @@ use Rattle.paper.specs.declared.Answer.{Answer}
 use Rattle.paper.specs.declared.Refusal.{Refusal}
 use Rattle.paper.specs.declared.Reply.{Reply}
 use Rattle.paper.specs.declared.Verdict.{Verdict}
-use Rattle.laws.specs.Stays.{Lawful}
+use Rattle.laws.specs.Events.{Lawful}
 use Rattle.writes.specs.Written.{written, written-length}
 use Rattle.lines.specs.Lines.{most-line}
 use Rattle.feeding.specs.Printing.{event-bytes, event-at, printed-step, printed-none, printed-short, Joins, Prints, joins-start, joins-line, joins-end, joins-last, ForAnyRest, any-rest}

@@ -4,7 +4,7 @@ ghost use Prim.Native.Nat.{_+_, _<_, _≤_};
 ghost use lib.ListN.{length, take};
 ghost use Rattle.paper.specs.Waking.{outcome};
 ghost use Rattle.paper.specs.Events.{happening};
-ghost use Rattle.laws.specs.Stays.{Lawful};
+ghost use Rattle.laws.specs.Events.{Lawful};
 ghost use Rattle.shapes.specs.Entries.{Shapes};
 ghost use Rattle.lines.specs.Lines.{most-line};
 ghost use Rattle.feeding.specs.Printing.{event-bytes, event-at, ForAnyRest, is-refusal};

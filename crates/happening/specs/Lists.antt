@@ -13,7 +13,7 @@ use Rattle.paper.specs.declared.Answer.{Answer}
 use Rattle.paper.specs.declared.Refusal.{Refusal}
 use Rattle.paper.specs.declared.Reply.{Reply}
 use Rattle.paper.specs.declared.Verdict.{Verdict}
-use Rattle.laws.specs.Replies.{happening-unchanged}
+use Rattle.event_laws.specs.Walk.{happening-unchanged}
 use Rattle.ticks.specs.Ticks.{ticked, Taken, Ticks}
 use Rattle.ticks.specs.Told.{Told}
 

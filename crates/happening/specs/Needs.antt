@@ -13,7 +13,8 @@ use Rattle.paper.specs.declared.Refusal.{Refusal}
 use Rattle.paper.specs.declared.Reply.{Reply}
 use Rattle.laws.specs.Sound.{Sound, sound}
 use Rattle.laws.specs.Checked.{good-sound}
-use Rattle.laws.specs.Stays.{Formed, Lawful, lawful, good, happening-good, event-formed}
+use Rattle.laws.specs.Events.{Formed, Lawful, lawful, good, event-formed}
+use Rattle.event_laws.specs.Stays.{happening-good}
 use Rattle.ticks.specs.Told.{Told, Passes}
 use Rattle.happening.specs.Lists.{outcome-is, nth-event, TakenFrom, Ends, alone-last, alone-image, taken-all, ticks-taken, ticks-refused}
 use Rattle.happening.specs.Ahead.{Ahead, ahead-ticks}

@@ -5,7 +5,7 @@ ghost use Prim.Native.Nat.{_+_, _*_, _%_, _<_, _≤_};
 ghost use lib.ListN.{length};
 ghost use Rattle.paper.specs.Waking.{outcome};
 ghost use Rattle.paper.specs.Events.{event-of as event-by, happening};
-ghost use Rattle.laws.specs.Stays.{Lawful};
+ghost use Rattle.laws.specs.Events.{Lawful};
 ghost use Rattle.shapes.specs.Entries.{Shapes};
 ghost use Rattle.happening.specs.Lists.{nth-event, Ends};
 ghost use Rattle.happening.specs.Ahead.{zeros-at, Ahead, Stops};

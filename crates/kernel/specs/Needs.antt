@@ -21,7 +21,7 @@ use Rattle.paper.specs.declared.Refusal.{Refusal}
 use Rattle.paper.specs.declared.Reply.{Reply}
 use Rattle.paper.specs.declared.Verdict.{Verdict}
 use Rattle.laws.specs.Checked.{never-fine, then-fine}
-use Rattle.laws.specs.Stays.{Lawful, inspected-lawful}
+use Rattle.laws.specs.Events.{Lawful, inspected-lawful}
 use Rattle.happening.specs.Lists.{Toll, goes-on as tells-on, told-from, stop-of, Ends}
 
 -- one event

@@ -26,7 +26,8 @@ use Rattle.laws.specs.Cells.{at-other, length-put}
 use Rattle.laws.specs.Layout.{shape-is}
 use Rattle.laws.specs.Queues.{word-valid}
 use Rattle.laws.specs.Segments.{segment-cell, InSegment, segment-from, segment-upto, segment-valid, segment-place}
-use Rattle.laws.specs.Sound.{Sound, shut, sound, laid-frame, queued-frame}
+use Rattle.laws.specs.Sound.{Sound, sound, fixed}
+use Rattle.laws.specs.Frame.{Frame, frame-sound}
 use Rattle.laws.specs.Effects.{Own, own-error, order-own, does-fine, faulted-flags}
 
 -- a cell of task i: one of its registers, its flags, or a word of its segment
@@ -35,23 +36,11 @@ OwnCell s im i c =
     ((c .part ≡ Part.TaskTable) × (c .row ≡ i .0)) ⊎ ((c .part ≡ Part.Segments) × InSegment s im i (place s c))
 
 -- an image that differs from im in cells of task i alone
-pub record Keeps (s : Shape) (im : List ℕ) (i : Task) (im′ : List ℕ) : Type 0 where
-  pub long : length im′ ≡ length im
-  pub others : (c : Cell) → Valid s c → ¬ OwnCell s im i c → at s im′ c ≡ at s im c
+abbrev pub Keeps : Shape → List ℕ → Task → List ℕ → Type 0
+Keeps s im i m = Frame s (OwnCell s im i) im m
 
 module _ (s : Shape) (im : List ℕ) (i : Task) where
-  pub keeps-all : Keeps s im i im
-  keeps-all = record { long = refl; others = λ c hc f. refl }
-
   module _ (hi : i .0 < s .n) where
-    -- a write of a word of its row keeps the others
-    pub keeps-word : (m : List ℕ) (r v : ℕ) → r < 9 → Keeps s im i m → Keeps s im i (put s m (reg i r) v)
-    keeps-word m r v hr k =
-        record {
-          long = length-put s m (reg i r) v ∙ k .long;
-          others = λ c hc f. at-other s m (reg i r) c v (hi, hr) hc (λ e. f (rw e (inl (refl, refl)))) ∙ k .others c hc f;
-        }
-
     module _ (laid : Laid s im) where
       -- a task's row lies before its segment, and that within the image
       pub lies-apart : Apart (lies s im i) im
@@ -90,32 +79,15 @@ not-own s im i c t g (inr (e, _)) = T-not (eqb (ord (c .part)) 9) g (rw e tt)
 
 -- so the layout, the queues and the shape stay
 module _ (s : Shape) (im : List ℕ) (i : Task) (m : List ℕ) (h : Sound s im) (k : Keeps s im i m) where
-  queue-kept : (q : Queue) → Has s q → (j : ℕ) → j < lead → at s m (queue-word s q j) ≡ at s im (queue-word s q j)
-  queue-kept Queue.Ready hq j hj = k .others _ (word-valid s Queue.Ready j hq (omega arith)) (not-own s im i _ tt tt)
-  queue-kept (Queue.Input t) hq j hj = k .others _ (word-valid s (Queue.Input t) j hq (omega arith)) (not-own s im i _ tt tt)
-  queue-kept (Queue.Output t) hq j hj = k .others _ (word-valid s (Queue.Output t) j hq (omega arith)) (not-own s im i _ tt tt)
-  queue-kept (Queue.Message t u) hq j hj = k .others _ (word-valid s (Queue.Message t u) j hq (omega arith)) (not-own s im i _ tt tt)
+  own-free : (c : Cell) → c .column < fixed (c .part) → ¬ OwnCell s im i c
+  own-free c l (inl (p, _)) = let z : fixed (c .part) ≡ 0 = ap fixed p in omega arith
+  own-free c l (inr (p, _)) = let z : fixed (c .part) ≡ 0 = ap fixed p in omega arith
 
   pub keeps-sound : Sound s m
-  keeps-sound =
-      shut record {
-        laid = laid-frame s im m (sound h .laid) (k .long) (λ j hj. k .others (cell Part.Header 0 j) (omega arith, omega arith) (not-own s im i _ tt tt))
-            (λ j c hj hc. k .others (cell Part.SegmentTable (j .0) c) (hj, hc) (not-own s im i _ tt tt));
-        queues = λ q hq. queued-frame s im m q (sound h .queues q hq) (queue-kept q hq);
-      }
+  keeps-sound = frame-sound k own-free h
 
   pub keeps-shape : shape-of m ≡ shape-of im
   keeps-shape = shape-is s m (sound keeps-sound .laid) ∙ sym (shape-is s im (sound h .laid))
-
--- flags that are as they were hold what they held
-pub flagged-frame : (s : Shape) (im m : List ℕ) (i : Task) → at s m (flags i) ≡ at s im (flags i) → Flagged s im i → Flagged s m i
-flagged-frame s im m i e f =
-    record {
-      cc-range = rw e (f .cc-range);
-      error-range = rw e (f .error-range);
-      pending-range = rw e (f .pending-range);
-      never-both = rw e (f .never-both);
-    }
 
 module _ (s : Shape) (im : List ℕ) (i : Task) (hi : i .0 < s .n) (h : Sound s im) (f : Flagged s im i) where
   -- registers and words of the segment are not the flags

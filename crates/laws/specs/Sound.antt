@@ -75,7 +75,7 @@ fixed Part.Ports = 0
 fixed Part.SegmentTable = 2
 fixed Part.Segments = 0
 
-fixed-queue : (q : Queue) → fixed (part-of q) ≡ lead
+pub fixed-queue : (q : Queue) → fixed (part-of q) ≡ lead
 fixed-queue Queue.Ready = refl
 fixed-queue (Queue.Input i) = refl
 fixed-queue (Queue.Output i) = refl

@@ -11,7 +11,7 @@ use Rattle.paper.specs.Calls.{built}
 use Rattle.paper.specs.Promises.{Builds}
 use Rattle.paper.specs.declared.Shape.{Shape}
 use Rattle.laws.specs.Fresh.{planned, fresh-good}
-use Rattle.laws.specs.Stays.{Lawful, lawful}
+use Rattle.laws.specs.Events.{Lawful, lawful}
 use Rattle.parts.specs.Needs.{Plan}
 
 module _ (s : Shape) (plan : List ℕ) (p : Plan s plan) where

@@ -6,7 +6,7 @@ ghost use lib.ListN.{length};
 ghost use Rattle.paper.specs.Image.{total};
 ghost use Rattle.paper.specs.Numbers.{check-plan};
 ghost use Rattle.paper.specs.declared.Verdict.the-variants.{Fine};
-ghost use Rattle.laws.specs.Stays.{Lawful};
+ghost use Rattle.laws.specs.Events.{Lawful};
 ghost use Rattle.parts.specs.Needs.{Plan};
 use builds::build;
 use feeding::EVENT_BYTES;

@@ -25,8 +25,8 @@ use Rattle.paper.specs.declared.Refusal.{Refusal}
 use Rattle.paper.specs.declared.Reply.{Reply}
 use Rattle.laws.specs.Cells.{cells}
 use Rattle.laws.specs.Sound.{Sound, appended-some}
-use Rattle.laws.specs.Apart.{Apart, apart-put}
-use Rattle.laws.specs.Moved.{moved-parts, apart-full, sent-apart, delivered-apart}
+use Rattle.laws.specs.Frame.{Apart, frame-none, frame-put, frame-appended, kept-full}
+use Rattle.laws.specs.Changes.{device-parts, moved-parts, frame-delivered}
 use Rattle.waking.specs.Room.{Room, has-room}
 use Rattle.services.specs.Done.{done}
 
@@ -186,16 +186,17 @@ module _ (s : Shape) (im m : List ℕ) (i : Task) (r : Reply) where
       → full s im Queue.Ready ≡ false → full s m Queue.Ready ≡ false
   unfolding done
   room-done l hi a em z =
-      rw (ap (λ (o : Outcome). o .image) em) (apart-full s im _ (apart-put s moved-parts im l a (flags i) _ (hi, omega arith) refl)) ∙ z
+      rw (ap (λ (o : Outcome). o .image) em) (kept-full moved-parts (frame-put a (flags i) _ (hi, omega arith) refl) Queue.Ready tt refl) ∙ z
 
   module _ (q : Queue) where
     pub room-sent : outcome r m ≡ accepted (Answer.ServiceDone i) (done s im i (appended s im q (given s im i))) → Sound s im → i .0 < s .n → Has s q
         → moved-parts (part-of q) ≡ true → (u : Bool) → u ≡ full s im Queue.Ready → u ≡ false → full s m Queue.Ready ≡ false
-    room-sent em h hi hq p u eu z = room-done _ hi (sent-apart s im h i hi q hq p _) em (sym eu ∙ z)
+    room-sent em h hi hq p u eu z = room-done _ hi (frame-appended frame-none q hq h (λ j. p) _) em (sym eu ∙ z)
 
     pub room-got : outcome r m ≡ accepted (Answer.ServiceDone i) (done s im i (delivered s im i q)) → Sound s im → i .0 < s .n → Has s q
-        → moved-parts (part-of q) ≡ true → (u : Bool) → u ≡ full s im Queue.Ready → u ≡ false → full s m Queue.Ready ≡ false
-    room-got em h hi hq p u eu z = room-done _ hi (delivered-apart s im h i hi q hq p) em (sym eu ∙ z)
+        → device-parts (part-of q) ≡ true → (u : Bool) → u ≡ full s im Queue.Ready → u ≡ false → full s m Queue.Ready ≡ false
+    room-got em h hi hq p u eu z =
+        room-done _ hi (frame-delivered frame-none h i hi (λ c t. rw t) (λ j. refl) q hq p) em (sym eu ∙ z)
 
 -- output: R3 holds more than a character, or one
 module _ (s : Shape) (im : List ℕ) (i : Task) (w : ℕ) (ew : w ≡ given s im i) where

@@ -24,8 +24,9 @@ use Rattle.paper.specs.declared.Reply.{Reply}
 use Rattle.laws.specs.Checked.{good-sound}
 use Rattle.laws.specs.Sound.{Sound, sound}
 use Rattle.laws.specs.Orders.{lies-apart}
-use Rattle.laws.specs.Stays.{Lawful, good, first-task}
-use Rattle.bound.specs.Ticks.{stays-first, tick-stays}
+use Rattle.laws.specs.Events.{Lawful, good}
+use Rattle.event_laws.specs.Stays.{first-task}
+use Rattle.event_laws.specs.First.{stays-first, tick-stays}
 use Rattle.words.specs.Names.{Rowed}
 use Rattle.words.specs.declared.Row.{Row}
 use Rattle.machine.specs.Parts.{row-length}

@@ -24,7 +24,8 @@ use Rattle.laws.specs.Cells.{at-same, at-other, put-held}
 use Rattle.laws.specs.Queues.{word-valid}
 use Rattle.laws.specs.Sound.{Sound, sound}
 use Rattle.laws.specs.Agree.{own-clock, order-agrees, after-clock}
-use Rattle.laws.specs.Stays.{Lawful, lawful, good, tick-good}
+use Rattle.laws.specs.Events.{Lawful, lawful, good}
+use Rattle.event_laws.specs.Stays.{tick-good}
 use Rattle.ticks.specs.Row.{in-a-row, row-sound, row-empty, row-first}
 
 -- the image after so many ticks

@@ -18,9 +18,9 @@ use Rattle.paper.specs.declared.Event.{Event}
 use Rattle.paper.specs.declared.Answer.{Answer}
 use Rattle.paper.specs.declared.Refusal.{Refusal}
 use Rattle.paper.specs.declared.Reply.{Reply}
-use Rattle.laws.specs.Replies.{happening-unchanged}
-use Rattle.laws.specs.Stays.{Lawful}
-use Rattle.bound.specs.Ticks.{stays-first}
+use Rattle.event_laws.specs.Walk.{happening-unchanged}
+use Rattle.event_laws.specs.First.{stays-first}
+use Rattle.laws.specs.Events.{Lawful}
 use Rattle.machine.specs.Parts.{row-length}
 use Rattle.ticks.specs.Seated.{First, part-of}
 use Rattle.ticks.specs.declared.Came.{Came}

@@ -7,7 +7,7 @@ ghost use Rattle.paper.specs.Queues.{empty as empty-of};
 ghost use Rattle.paper.specs.declared.Answer.{Answer};
 ghost use Rattle.paper.specs.declared.Reply.{Reply};
 ghost use Rattle.paper.specs.declared.Queue.the-variants.{Ready};
-ghost use Rattle.laws.specs.Stays.{Lawful};
+ghost use Rattle.laws.specs.Events.{Lawful};
 ghost use Rattle.shapes.specs.Entries.{Shapes};
 ghost use Rattle.machine.specs.Parts.{row-length};
 ghost use Rattle.ticks.specs.Seated.{First, FirstIf, part-of};

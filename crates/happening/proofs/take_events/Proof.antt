@@ -2,7 +2,7 @@
 use Prim.Native.Nat.{_-_, _≤_}
 use native.Mathlib.Omega.{arith}
 use mathlib.Core.Logic.{⊎-elim}
-use Rattle.laws.specs.Stays.{Lawful}
+use Rattle.laws.specs.Events.{Lawful}
 use Rattle.happening.specs.Lists.{TakenFrom, taken-none, taken-more, taken-refused}
 use Rattle.happening.specs.Ahead.{stopped}
 use Rattle.happening.specs.Needs.{lawful-long, event-there, Reached, ticks-reach, none-reach, ticks-end, pass-few, all-end}

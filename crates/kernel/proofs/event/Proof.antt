@@ -1,5 +1,5 @@
 -- Assumes nothing.
-use Rattle.laws.specs.Stays.{inspected-lawful}
+use Rattle.laws.specs.Events.{inspected-lawful}
 use Rattle.kernel.specs.Needs.{event-fine, event-refused}
 use borrow.Author.Needs.{needs}
 use Rattle.kernel.proofs.event.Statement.{statement}

@@ -4,7 +4,7 @@ use Prim.Native.Nat.{_+_, _*_, _≤_}
 use native.Mathlib.Omega.{arith}
 use lib.ListN.{length}
 use lib.Seq.{length-take-le}
-use Rattle.laws.specs.Stays.{Lawful}
+use Rattle.laws.specs.Events.{Lawful}
 use borrow.Author.Needs.{needs}
 use Rattle.running.proofs.run_events.Statement.{statement}
 use Rattle.running.proofs.run_events.Tie as tie

@@ -1,5 +1,5 @@
 -- `ticked` meets its contract: an image that passes the check is lawful. Assumes nothing.
-use Rattle.laws.specs.Stays.{inspected-lawful}
+use Rattle.laws.specs.Events.{inspected-lawful}
 use borrow.Author.Needs.{needs}
 use Rattle.order_cases.proofs.outcomes.ticked.Statement.{statement}
 use Rattle.order_cases.proofs.outcomes.ticked.Tie as tie

@@ -16,8 +16,8 @@ use Rattle.paper.specs.declared.Shape.{Shape}
 use Rattle.paper.specs.declared.Refusal.{Refusal}
 use Rattle.paper.specs.declared.Reply.{Reply}
 use Rattle.paper.specs.declared.Verdict.{Verdict}
 use Rattle.laws.specs.Checked.{never-fine, zero-is}
-use Rattle.laws.specs.Replies.{happening-unchanged}
+use Rattle.event_laws.specs.Walk.{happening-unchanged}
 
 -- the first n events of a list
 abbrev pub first-events : ℕ → List ℕ → List ℕ

@@ -5,15 +5,15 @@ use mathlib.Core.Logic.{_≢_}
 use Prim.Native.Nat.{ℕ, _-_, _≤_}
 use native.Mathlib.Omega.{arith}
 use lib.ListN.{getD}
-use Rattle.paper.specs.Image.{most-character, at, reg, flags, status, peer, busy, character}
-use Rattle.paper.specs.Queues.{count, capacity}
+use Rattle.paper.specs.Image.{most-character, at, reg, flags, status, peer}
 use Rattle.paper.specs.Flags.{error, pending, is-ready, waits, is-stopped}
 use Rattle.paper.specs.Services.{services}
-use Rattle.paper.specs.Rules.{Empty, Full, Peered, partner, Stands, Ported}
+use Rattle.paper.specs.Rules.{Empty, Full, Peered, partner, Stands}
 use Rattle.paper.specs.declared.Task.{Task}
 use Rattle.paper.specs.declared.Shape.{Shape}
 use Rattle.paper.specs.declared.Queue.{Queue}
 use Rattle.paper.specs.declared.Service.{Service}
+use Rattle.laws.specs.Frame.{Same, SameCount}
 
 -- what a task that waits with a service must hold
 abbrev pub Standing : Shape → List ℕ → Task → Service → Type 0
@@ -101,19 +101,7 @@ waiting-stands s im i v e st p =
     alone Service.Input a b = tt
     alone Service.Output a b = tt
 
--- the words of a task that its status' rules read
-pub record Same (s : Shape) (im im′ : List ℕ) (i : Task) : Type 0 where
-  pub of-status : at s im′ (status i) ≡ at s im (status i)
-  pub of-peer : at s im′ (peer i) ≡ at s im (peer i)
-  pub of-flags : at s im′ (flags i) ≡ at s im (flags i)
-  pub of-two : at s im′ (reg i 2) ≡ at s im (reg i 2)
-  pub of-three : at s im′ (reg i 3) ≡ at s im (reg i 3)
-
--- a queue's length and capacity
-abbrev pub SameCount : Shape → List ℕ → List ℕ → Queue → Type 0
-SameCount s im im′ q = (at s im′ (count s q) ≡ at s im (count s q)) × (at s im′ (capacity s q) ≡ at s im (capacity s q))
-
--- where those, and the buffer that it waits on, are as they were, the rules hold as they did
+-- where the words that the rules read, and the buffer that it waits on, are as they were, the rules hold as they did
 module _ (s : Shape) (im im′ : List ℕ) (i : Task) (e : Same s im im′ i) where
   standing-frame : (v : Service) → SameCount s im im′ (awaits s im i v) → Standing s im i v → Standing s im′ i v
   standing-frame Service.Send (a, b) h =
@@ -130,9 +118,3 @@ module _ (s : Shape) (im im′ : List ℕ) (i : Task) (e : Same s im im′ i) wh
       standing-frame v (f v k) (stands-as s im i h v k))
       (rw (e .of-status, e .of-flags) (h .stopped))
       (rw (e .of-status, e .of-peer) (h .peerless))
-
--- a port whose words and output buffer are as they were
-pub ported-frame : (s : Shape) (im im′ : List ℕ) (i : Task) → at s im′ (busy i) ≡ at s im (busy i) → at s im′ (character i) ≡ at s im (character i)
-    → at s im′ (count s (Queue.Output i)) ≡ at s im (count s (Queue.Output i)) → Ported s im i → Ported s im′ i
-ported-frame s im im′ i b c n p =
-    record { busy-range = rw b (p .busy-range); character-range = rw c (p .character-range); idle = rw (b, c, n) (p .idle) }

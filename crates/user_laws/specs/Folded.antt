@@ -14,10 +14,10 @@ use Rattle.paper.specs.declared.Shape.{Shape}
 use Rattle.paper.specs.declared.Refusal.{Refusal}
 use Rattle.paper.specs.declared.Reply.{Reply}
 use Rattle.paper.specs.declared.Verdict.{Verdict}
 use Rattle.laws.specs.Layout.{shape-is}
 use Rattle.laws.specs.Checked.{checked-good, good-checked, then-fine}
-use Rattle.laws.specs.Stays.{words-good}
-use Rattle.laws.specs.Replies.{happening-unchanged}
+use Rattle.event_laws.specs.Stays.{words-good}
+use Rattle.event_laws.specs.Walk.{happening-unchanged}
 
 -- events one after another, each by a call of its own, up to the first refused one
 abbrev pub each-event : List ℕ → List ℕ → Ran

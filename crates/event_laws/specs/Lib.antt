@@ -1,0 +1,11 @@
+pub mod Standing
+pub mod Kept
+pub mod Own
+pub mod Turns
+pub mod Buffers
+pub mod Moving
+pub mod Serving
+pub mod Walk
+pub mod Stays
+pub mod Touched
+pub mod First

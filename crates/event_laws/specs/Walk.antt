@@ -1,0 +1,206 @@
+-- Every outcome of an event, told apart once: what holds of each holds of the event. Assumes nothing.
+use mathlib.Core.Path.{_≡_, refl}
+use mathlib.Core.List.{List}
+use mathlib.Core.Bool.{Bool, true, false, not, cond}
+use mathlib.Core.Logic.{_≢_}
+use Prim.Native.Nat.{ℕ, zero, suc, _≤_}
+use native.Mathlib.Omega.{arith}
+use borrow.Author.Tests.{eqb-true, eqb-false, eq-eqb, ne-eqb}
+use lib.Dec.{eqb}
+use Rattle.paper.specs.Image.{at, clock, status, busy}
+use Rattle.paper.specs.Queues.{appended, empty, full}
+use Rattle.paper.specs.Flags.{error, pending, waits}
+use Rattle.paper.specs.Waking.{Outcome, accepted, refused, woken, one-if, with-woken, unless-full}
+use Rattle.paper.specs.Services.{asked, fault-of, unless-wrong, service-faulted, blocked, waiting, served, wakes, finished, service}
+use Rattle.paper.specs.Orders.{order}
+use Rattle.paper.specs.Events.{running, stopped, turned, serving, ordered, acting, turn-of, tick, input, port-next, output-done, happening}
+use Rattle.paper.specs.declared.Task.{Task}
+use Rattle.paper.specs.declared.Shape.{Shape}
+use Rattle.paper.specs.declared.Queue.{Queue}
+use Rattle.paper.specs.declared.Service.{Service}
+use Rattle.paper.specs.declared.Asked.{Asked}
+use Rattle.paper.specs.declared.Fault.{Fault}
+use Rattle.paper.specs.declared.Woken.{Woken}
+use Rattle.paper.specs.declared.Event.{Event}
+use Rattle.paper.specs.declared.Answer.{Answer}
+use Rattle.paper.specs.declared.Refusal.{Refusal}
+use Rattle.paper.specs.declared.Reply.{Reply}
+use Rattle.laws.specs.Frame.{Frame, frame-none}
+
+-- what pending asks for
+asked-for : (p : ℕ) (v : Service) → asked p ≡ Asked.For v → p ≡ waits v
+asked-for zero v e = absurd (let z : _≡_ {A = ℕ} 0 1 = cc in omega arith)
+asked-for (suc zero) v e = let z : Service.Send ≡ v = cc in rw (← z)
+asked-for (suc (suc zero)) v e = let z : Service.Receive ≡ v = cc in rw (← z)
+asked-for (suc (suc (suc zero))) v e = let z : Service.Input ≡ v = cc in rw (← z)
+asked-for (suc (suc (suc (suc zero)))) v e = let z : Service.Output ≡ v = cc in rw (← z)
+asked-for (suc (suc (suc (suc (suc k))))) v e = absurd (let z : _≡_ {A = ℕ} 0 1 = cc in omega arith)
+
+asked-waits : (v : Service) → asked (waits v) ≡ Asked.For v
+asked-waits Service.Send = refl
+asked-waits Service.Receive = refl
+asked-waits Service.Input = refl
+asked-waits Service.Output = refl
+
+pub asked-nothing : (p : ℕ) → p ≤ 4 → asked p ≡ Asked.Nothing → p ≡ 0
+asked-nothing zero l e = refl
+asked-nothing (suc zero) l e = absurd (let z : _≡_ {A = ℕ} 0 1 = cc in omega arith)
+asked-nothing (suc (suc zero)) l e = absurd (let z : _≡_ {A = ℕ} 0 1 = cc in omega arith)
+asked-nothing (suc (suc (suc zero))) l e = absurd (let z : _≡_ {A = ℕ} 0 1 = cc in omega arith)
+asked-nothing (suc (suc (suc (suc zero)))) l e = absurd (let z : _≡_ {A = ℕ} 0 1 = cc in omega arith)
+asked-nothing (suc (suc (suc (suc (suc k))))) l e = absurd (omega arith)
+
+-- what an event comes to that has made m of im, and wakes whom it wakes
+module _ (s : Shape) (im m : List ℕ) (P : Outcome → Type 0) (a : Answer) (no-room : full s im Queue.Ready ≡ true → P (refused Refusal.ReadyFull im)) where
+  wakes-any : (w : Woken) → (w ≡ Woken.Nobody → P (accepted a m)) → ((k : Task) → w ≡ Woken.One k → full s im Queue.Ready ≡ false → P (accepted a (woken s m k)))
+      → P (unless-full s im w (accepted a (with-woken s m w)))
+  unfolding unless-full with-woken
+  wakes-any Woken.Nobody alone woke = alone refl
+  wakes-any (Woken.One k) alone woke = go (full s im Queue.Ready) refl
+    where
+      go : (b : Bool) → full s im Queue.Ready ≡ b → P (cond b (refused Refusal.ReadyFull im) (accepted a (woken s m k)))
+      go true e = no-room e
+      go false e = woke k refl e
+
+  owner-any : (i : Task) (v : Service) → (at s im (status i) ≢ waits v → P (accepted a m)) → (at s im (status i) ≡ waits v → full s im Queue.Ready ≡ false → P (accepted a (woken s m i)))
+      → P (unless-full s im (one-if (eqb (at s im (status i)) (waits v)) i) (accepted a (with-woken s m (one-if (eqb (at s im (status i)) (waits v)) i))))
+  owner-any i v alone woke = go (eqb (at s im (status i)) (waits v)) refl
+    where
+      go : (b : Bool) → eqb (at s im (status i)) (waits v) ≡ b → P (unless-full s im (one-if b i) (accepted a (with-woken s m (one-if b i))))
+      go true e = wakes-any (Woken.One i) (λ f. absurd (let z : _≡_ {A = ℕ} 0 1 = cc in omega arith)) (λ k f r. let z : i ≡ k = cc in rw (← z) (woke (eqb-true _ _ e) r))
+      go false e = wakes-any Woken.Nobody (λ _. alone (eqb-false _ _ e)) (λ k f r. absurd (let z : _≡_ {A = ℕ} 0 1 = cc in omega arith))
+
+-- what a service v of task i comes to from image m: faulted, waiting, done, done with a task woken, or refused with im as it was
+pub record ServiceCases (s : Shape) (im m : List ℕ) (i : Task) (v : Service) (P : Outcome → Type 0) : Type 0 where
+  pub faults : (e : ℕ) → fault-of s m i v ≡ Fault.Error e → P (accepted (Answer.ServiceFaulted i) (service-faulted s m i e))
+  pub stuck : fault-of s m i v ≡ Fault.Nothing → blocked s m i v ≡ true → P (accepted (Answer.ServiceWaits i) (waiting s m i v))
+  pub alone : fault-of s m i v ≡ Fault.Nothing → blocked s m i v ≡ false → wakes s m i v ≡ Woken.Nobody → P (accepted (Answer.ServiceDone i) (served s m i v))
+  pub woke : (k : Task) → fault-of s m i v ≡ Fault.Nothing → blocked s m i v ≡ false → wakes s m i v ≡ Woken.One k → full s m Queue.Ready ≡ false
+      → P (accepted (Answer.ServiceDone i) (woken s (served s m i v) k))
+  pub no-room : fault-of s m i v ≡ Fault.Nothing → blocked s m i v ≡ false → full s im Queue.Ready ≡ true → P (refused Refusal.ReadyFull im)
+
+service-any : {s : Shape} {m : List ℕ} {i : Task} {v : Service} (P : Outcome → Type 0) → ServiceCases s m m i v P → P (service s m i v)
+unfolding service finished
+service-any {s} {m} {i} {v} P c = go (fault-of s m i v) refl
+  where
+    then : (b : Bool) → blocked s m i v ≡ b → fault-of s m i v ≡ Fault.Nothing → P (cond b (accepted (Answer.ServiceWaits i) (waiting s m i v)) (finished s m i v))
+    then true e f = c .stuck f e
+    then false e f = wakes-any s m (served s m i v) P (Answer.ServiceDone i) (c .no-room f e) (wakes s m i v) (c .alone f e) (λ k. c .woke k f e)
+
+    go : (x : Fault) → fault-of s m i v ≡ x
+        → P (unless-wrong x s m i (cond (blocked s m i v) (accepted (Answer.ServiceWaits i) (waiting s m i v)) (finished s m i v)))
+    go (Fault.Error e) f = c .faults e f
+    go Fault.Nothing f = then (blocked s m i v) refl f
+
+-- rule 4 does its service from an image that differs from the tick's in the clock alone: at present it takes nothing from it
+pub record Begins (s : Shape) (im m : List ℕ) : Type 0 where
+  pub but-clock : Frame s (λ c. c ≡ clock) im m
+  pub clock-is : at s m clock ≡ at s im clock
+
+serving-any : {s : Shape} {im : List ℕ} {i : Task} {v : Service} (P : Outcome → Type 0) → ((m : List ℕ) → Begins s im m → ServiceCases s im m i v P)
+    → P (serving s im i v)
+serving-any {s} {im} P c = service-any P (c im record { but-clock = frame-none; clock-is = refl })
+
+-- what a tick comes to, rule by rule
+pub record TickCases (s : Shape) (im : List ℕ) (P : Outcome → Type 0) : Type 0 where
+  pub idle : empty s im Queue.Ready ≡ true → P (accepted Answer.Idle im)
+  pub stops : empty s im Queue.Ready ≡ false → error s im (running s im) ≢ 0 → P (accepted (Answer.ErrorStop (running s im)) (stopped s im (running s im)))
+  pub turns : empty s im Queue.Ready ≡ false → P (accepted (Answer.TurnPassed (running s im)) (turned s im (running s im)))
+  pub serves : empty s im Queue.Ready ≡ false → at s im clock ≢ 0 → (v : Service) → pending s im (running s im) ≡ waits v
+      → (m : List ℕ) → Begins s im m → ServiceCases s im m (running s im) v P
+  pub orders : empty s im Queue.Ready ≡ false → error s im (running s im) ≡ 0 → at s im clock ≢ 0 → asked (pending s im (running s im)) ≡ Asked.Nothing
+      → P (ordered s im (running s im) (order s im (running s im)))
+
+pub tick-any : {s : Shape} {im : List ℕ} (P : Outcome → Type 0) → TickCases s im P → P (tick s im)
+unfolding tick turn-of
+tick-any {s} {im} P c = first-rule (empty s im Queue.Ready) refl
+  where
+    i : Task
+    i = running s im
+
+    last-rules : empty s im Queue.Ready ≡ false → error s im i ≡ 0 → at s im clock ≢ 0 → (x : Asked) → asked (pending s im i) ≡ x → P (acting s im i x)
+    last-rules some calm runs (Asked.For v) e = serving-any P (c .serves some runs v (asked-for _ v e))
+    last-rules some calm runs Asked.Nothing e = c .orders some calm runs e
+
+    third-rule : empty s im Queue.Ready ≡ false → error s im i ≡ 0 → (b : Bool) → eqb (at s im clock) 0 ≡ b
+        → P (cond b (accepted (Answer.TurnPassed i) (turned s im i)) (acting s im i (asked (pending s im i))))
+    third-rule some calm true e = c .turns some
+    third-rule some calm false e = last-rules some calm (eqb-false _ 0 e) (asked (pending s im i)) refl
+
+    second-rule : empty s im Queue.Ready ≡ false → (b : Bool) → eqb (error s im i) 0 ≡ b
+        → P (cond (not b) (accepted (Answer.ErrorStop i) (stopped s im i)) (cond (eqb (at s im clock) 0) (accepted (Answer.TurnPassed i) (turned s im i)) (acting s im i (asked (pending s im i)))))
+    second-rule some false e = c .stops some (eqb-false _ 0 e)
+    second-rule some true e = third-rule some (eqb-true _ 0 e) (eqb (at s im clock) 0) refl
+
+    first-rule : (b : Bool) → empty s im Queue.Ready ≡ b
+        → P (cond b (accepted Answer.Idle im) (cond (not (eqb (error s im i) 0)) (accepted (Answer.ErrorStop i) (stopped s im i)) (cond (eqb (at s im clock) 0) (accepted (Answer.TurnPassed i) (turned s im i)) (acting s im i (asked (pending s im i))))))
+    first-rule true e = c .idle e
+    first-rule false e = second-rule e (eqb (error s im i) 0) refl
+
+-- where a service is pending, with no error and time left, a tick is by rule 4
+pub serves-any : (s : Shape) (im : List ℕ) → empty s im Queue.Ready ≡ false → error s im (running s im) ≡ 0 → at s im clock ≢ 0
+    → (v : Service) → pending s im (running s im) ≡ waits v → (P : Outcome → Type 0) → ((m : List ℕ) → Begins s im m → ServiceCases s im m (running s im) v P) → P (tick s im)
+unfolding tick turn-of
+serves-any s im some calm runs v asks P c =
+    rw (some, eq-eqb (error s im (running s im)) 0 calm, ne-eqb (at s im clock) 0 runs, asks, asked-waits v) (serving-any P c)
+
+-- what an event of a device comes to
+module _ (s : Shape) (im : List ℕ) (i : Task) (P : Outcome → Type 0) (no-room : full s im Queue.Ready ≡ true → P (refused Refusal.ReadyFull im)) where
+  pub input-any : (c : ℕ) → (full s im (Queue.Input i) ≡ true → P (refused Refusal.InputFull im))
+      → (full s im (Queue.Input i) ≡ false → at s im (status i) ≢ waits Service.Input → P (accepted (Answer.Input i) (appended s im (Queue.Input i) c)))
+      → (full s im (Queue.Input i) ≡ false → at s im (status i) ≡ waits Service.Input → full s im Queue.Ready ≡ false → P (accepted (Answer.Input i) (woken s (appended s im (Queue.Input i) c) i)))
+      → P (input s im i c)
+  unfolding input
+  input-any c stopped alone woke = go (full s im (Queue.Input i)) refl
+    where
+      go : (b : Bool) → full s im (Queue.Input i) ≡ b
+          → P (cond b (refused Refusal.InputFull im) (unless-full s im (one-if (eqb (at s im (status i)) (waits Service.Input)) i)
+          (accepted (Answer.Input i) (with-woken s (appended s im (Queue.Input i) c) (one-if (eqb (at s im (status i)) (waits Service.Input)) i)))))
+      go true e = stopped e
+      go false e = owner-any s im (appended s im (Queue.Input i) c) P (Answer.Input i) no-room i Service.Input (alone e) (woke e)
+
+  pub done-any : (at s im (busy i) ≡ 0 → P (refused Refusal.PortIdle im))
+      → (at s im (status i) ≢ waits Service.Output → P (accepted (Answer.OutputDone i) (port-next s im i)))
+      → (at s im (status i) ≡ waits Service.Output → full s im Queue.Ready ≡ false → P (accepted (Answer.OutputDone i) (woken s (port-next s im i) i)))
+      → P (output-done s im i)
+  unfolding output-done
+  done-any idle alone woke = go (eqb (at s im (busy i)) 0) refl
+    where
+      go : (b : Bool) → eqb (at s im (busy i)) 0 ≡ b
+          → P (cond b (refused Refusal.PortIdle im) (unless-full s im (one-if (eqb (at s im (status i)) (waits Service.Output)) i)
+          (accepted (Answer.OutputDone i) (with-woken s (port-next s im i) (one-if (eqb (at s im (status i)) (waits Service.Output)) i)))))
+      go true e = idle (eqb-true _ 0 e)
+      go false e = owner-any s im (port-next s im i) P (Answer.OutputDone i) no-room i Service.Output alone woke
+
+-- and any event
+pub event-any : (s : Shape) (im : List ℕ) (P : Event → Outcome → Type 0) → P Event.Tick (tick s im) → ((i : Task) (c : ℕ) → P (Event.Input i c) (input s im i c))
+    → ((i : Task) → P (Event.OutputDone i) (output-done s im i)) → P Event.Malformed (refused Refusal.MalformedEvent im) → (e : Event) → P e (happening s im e)
+unfolding happening
+event-any s im P ticks inputs dones others Event.Tick = ticks
+event-any s im P ticks inputs dones others (Event.Input i c) = inputs i c
+event-any s im P ticks inputs dones others (Event.OutputDone i) = dones i
+event-any s im P ticks inputs dones others Event.Malformed = others
+
+-- every outcome is accepted, or refused with the image as it was
+module _ (s : Shape) (im : List ℕ) (P : Outcome → Type 0) (taken : (a : Answer) (m : List ℕ) → P (accepted a m)) (kept : (r : Refusal) → P (refused r im)) where
+  pub made-any : (e : Event) → P (happening s im e)
+  unfolding ordered
+  made-any =
+      event-any s im (λ _ o. P o)
+      (tick-any P
+      record {
+        idle = λ _. taken _ _;
+        stops = λ _ _. taken _ _;
+        turns = λ _. taken _ _;
+        serves = λ _ _ _ _ _ _.
+            record { faults = λ _ _. taken _ _; stuck = λ _ _. taken _ _; alone = λ _ _ _. taken _ _; woke = λ _ _ _ _ _. taken _ _; no-room = λ _ _ _. kept _ };
+        orders = λ _ _ _ _. taken _ _;
+      })
+      (λ i c. input-any s im i P (λ _. kept _) c (λ _. kept _) (λ _ _. taken _ _) (λ _ _ _. taken _ _))
+      (λ i. done-any s im i P (λ _. kept _) (λ _. kept _) (λ _. taken _ _) (λ _ _. taken _ _))
+      (kept _)
+
+-- so a refusal alters nothing
+pub happening-unchanged : (s : Shape) (im : List ℕ) (e : Event) (r : Refusal) → happening s im e .reply ≡ Reply.Refused r → happening s im e .image ≡ im
+happening-unchanged s im e =
+    made-any s im (λ o. (r : Refusal) → o .reply ≡ Reply.Refused r → o .image ≡ im) (λ a m r z. absurd (let y : _≡_ {A = ℕ} 0 1 = cc in omega arith)) (λ q r z. refl) e

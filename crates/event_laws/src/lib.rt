@@ -1,0 +1,1 @@
+// Laws of events: they stand in specs/, and there is no code.

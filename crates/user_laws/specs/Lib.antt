@@ -1,0 +1,5 @@
+pub mod Replies
+pub mod Folded
+pub mod Taken
+pub mod Once
+pub mod Delivery
