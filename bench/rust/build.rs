@@ -1,4 +1,4 @@
-//! Compiles the baseline in C, and links the product's archive where one is given.
+//! Compiles the baseline in C.
 use std::env;
 use std::path::{Path, PathBuf};
 use std::process::Command;
@@ -8,15 +8,11 @@ const SANITIZE: [&str; 3] = ["-fsanitize=address,undefined", "-fno-sanitize-reco
 
 fn main() {
     let folder = PathBuf::from(env::var("OUT_DIR").expect("OUT_DIR"));
-    for name in ["BENCH_CC", "BENCH_SANITIZE", "KERNEL_ARCHIVE"] {
+    for name in ["BENCH_CC", "BENCH_SANITIZE"] {
         println!("cargo:rerun-if-env-changed={name}");
     }
     println!("cargo:rerun-if-changed=../c");
-    println!("cargo:rustc-check-cfg=cfg(product)");
     compile_c(&folder);
-    if let Ok(archive) = env::var("KERNEL_ARCHIVE") {
-        link_product(Path::new(&archive));
-    }
 }
 
 /// The C compiler, clang unless another is named.
@@ -48,14 +44,6 @@ fn object(folder: &Path, name: &str, more: &[&str]) -> PathBuf {
     compile.args(["-c", "../c/kernel_baseline.c", "-o"]).arg(&object);
     run(&mut compile);
     object
-}
-
-fn link_product(archive: &Path) {
-    let archive = archive.canonicalize().expect("the product's archive");
-    println!("cargo:rerun-if-changed={}", archive.display());
-    println!("cargo:rustc-link-search=native={}", archive.parent().expect("a folder").display());
-    println!("cargo:rustc-link-lib=static=kernel_c");
-    println!("cargo:rustc-cfg=product");
 }
 
 fn run(command: &mut Command) {

@@ -1,24 +1,24 @@
-//! Finds the archive `libkernel_c.a`: in the folder that `KERNEL_LIB` names, else where `tests/library` makes it.
+//! Finds the archive of the kernel: the file that `KERNEL_ARCHIVE` names, else the one that `tools/archive` makes.
 
 use std::env;
 use std::path::PathBuf;
 
-/// The environment variable that names the archive's folder, from the file system's root on.
-const FOLDER: &str = "KERNEL_LIB";
+/// The environment variable that names the archive, from the file system's root on.
+const NAMED: &str = "KERNEL_ARCHIVE";
 
-/// Where the repository's own script makes the archive, from this package on.
-const MADE: &str = "../../target/library";
+/// Where the archive is made, from this package on.
+const MADE: &str = "../../target/library/libkernel_c.a";
 
 fn main() {
-    println!("cargo:rerun-if-env-changed={FOLDER}");
-    let named = env::var_os(FOLDER).map_or_else(|| PathBuf::from(MADE), PathBuf::from);
-    let archive = named.join("libkernel_c.a").canonicalize().unwrap_or_else(|error| {
-        panic!(
-            "no libkernel_c.a in {}: make it with tools/archive, or set {FOLDER} ({error})",
-            named.display()
-        )
+    println!("cargo:rerun-if-env-changed={NAMED}");
+    let named = env::var_os(NAMED).map_or_else(|| PathBuf::from(MADE), PathBuf::from);
+    let archive = named.canonicalize().unwrap_or_else(|error| {
+        panic!("no archive {}: make it with tools/archive, or set {NAMED} ({error})", named.display())
     });
+    let (Some(folder), Some(file)) = (archive.parent(), archive.file_name()) else {
+        panic!("{} is no file", archive.display())
+    };
     println!("cargo:rerun-if-changed={}", archive.display());
-    println!("cargo:rustc-link-search=native={}", archive.with_file_name("").display());
-    println!("cargo:rustc-link-lib=static=kernel_c");
+    println!("cargo:rustc-link-search=native={}", folder.display());
+    println!("cargo:rustc-link-lib=static:+verbatim={}", file.display());
 }

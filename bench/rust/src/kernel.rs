@@ -3,6 +3,7 @@
 use crate::layout::*;
 use crate::queues::{Buffers, Queue};
 use crate::Told;
+use ::kernel::c::NO_ANSWER;
 use std::hint::cold_path;
 
 /// The parts of a good image.
@@ -91,9 +92,6 @@ impl Turns<'_> {
         *self.clock = self.slice;
     }
 }
-
-/// The kind and the task of a refused event.
-const NO_ANSWER: u16 = 65535;
 
 #[inline(always)]
 pub fn refused(number: u16) -> Told {

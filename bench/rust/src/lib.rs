@@ -13,47 +13,12 @@ mod runs;
 mod services;
 mod texts;
 
+/// What the calls come to, as the product tells it.
+pub use ::kernel::c::{Ran, Size, Told, Translated};
 pub use check::check;
 pub use plans::{build, size};
 pub use runs::{event, run};
 pub use texts::{translate, translate_or_name, Refused};
-
-/// What one event comes to: its number, and the answer's kind and task, both
-/// 65535 where it is refused.
-#[repr(C)]
-#[derive(Clone, Copy, Debug, PartialEq, Eq)]
-pub struct Told {
-    pub number: u16,
-    pub kind: u16,
-    pub task: u16,
-}
-
-/// What a run comes to: how many events were taken, and the number.
-#[repr(C)]
-#[derive(Clone, Copy, Debug, PartialEq, Eq)]
-pub struct Ran {
-    pub taken: u64,
-    pub number: u16,
-}
-
-/// What a plan needs: how many words, 0 where it is refused, and its number.
-#[repr(C)]
-#[derive(Clone, Copy, Debug, PartialEq, Eq)]
-pub struct Measured {
-    pub words: u64,
-    pub number: u16,
-}
-
-/// What two texts come to: how many words, 0 where they are refused, the
-/// number, and which text has the refused line: 0 the names, 1 the script, 65535
-/// where none is refused.
-#[repr(C)]
-#[derive(Clone, Copy, Debug, PartialEq, Eq)]
-pub struct Translated {
-    pub words: u64,
-    pub number: u16,
-    pub text: u16,
-}
 
 /// The numbers that come back.
 mod numbers {

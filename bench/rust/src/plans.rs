@@ -3,7 +3,7 @@
 use crate::layout::*;
 use crate::numbers;
 use crate::queues::{CAPACITY, LENGTH, SLOTS};
-use crate::Measured;
+use crate::Size;
 
 /// A plan that is not refused.
 struct Accepted<'a> {
@@ -15,10 +15,10 @@ struct Accepted<'a> {
 }
 
 /// The words that a plan needs.
-pub fn size(plan: &[u16]) -> Measured {
+pub fn size(plan: &[u16]) -> Size {
     match accept(plan) {
-        Ok(accepted) => Measured { words: accepted.total as u64, number: 0 },
-        Err(number) => Measured { words: 0, number },
+        Ok(accepted) => Size { words: accepted.total as u64, number: 0 },
+        Err(number) => Size { words: 0, number },
     }
 }
 

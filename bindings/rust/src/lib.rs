@@ -14,6 +14,7 @@
 //! ```
 #![deny(missing_docs)]
 
+pub mod c;
 #[cfg(test)]
 mod tests;
 
@@ -54,83 +55,6 @@ pub struct Untranslated {
     pub number: u16,
     /// The text that the refused line stands in.
     pub text: Text,
-}
-
-/// The functions of the archive, as `include/kernel.h` declares them.
-mod c {
-    #[repr(C)]
-    pub struct Size {
-        pub words: u64,
-        pub number: u16,
-    }
-
-    #[repr(C)]
-    pub struct Told {
-        pub number: u16,
-        pub kind: u16,
-        pub task: u16,
-    }
-
-    #[repr(C)]
-    pub struct Ran {
-        pub taken: u64,
-        pub number: u16,
-    }
-
-    #[repr(C)]
-    pub struct Translated {
-        pub words: u64,
-        pub number: u16,
-        pub text: u16,
-    }
-
-    #[repr(C)]
-    pub struct Line {
-        pub start: u64,
-        pub bytes: u64,
-    }
-
-    /// The list of names, as the text of a refused line.
-    pub const NAMES: u16 = 0;
-
-    extern "C" {
-        pub fn kernel_check(image: *const u16, words: usize) -> u16;
-        pub fn kernel_size(plan: *const u16, plan_words: usize) -> Size;
-        pub fn kernel_build(
-            plan: *const u16,
-            plan_words: usize,
-            target: *mut u16,
-            target_words: usize,
-        ) -> u16;
-        pub fn kernel_event(
-            image: *mut u16,
-            words: usize,
-            kind: u16,
-            device: u16,
-            character: u16,
-        ) -> Told;
-        pub fn kernel_run(
-            image: *mut u16,
-            words: usize,
-            events: *const u16,
-            event_words: usize,
-        ) -> Ran;
-        pub fn kernel_translate(
-            names: *const u8,
-            names_bytes: usize,
-            script: *const u8,
-            script_bytes: usize,
-            target: *mut u16,
-            target_words: usize,
-        ) -> Translated;
-        pub fn kernel_refused_line(
-            names: *const u8,
-            names_bytes: usize,
-            script: *const u8,
-            script_bytes: usize,
-            room: u64,
-        ) -> Line;
-    }
 }
 
 // Why every call below is safe: a slice's pointer leads to as many words, or bytes, as its length says, of an empty one
@@ -180,8 +104,7 @@ pub fn size(plan: &[u16]) -> Result<usize, u16> {
 /// 3 or 11, as the plan is refused; 12 where the target has another length. No word of the target is changed then.
 pub fn build(plan: &[u16], target: &mut [u16]) -> Result<(), u16> {
     // SAFETY: above.
-    let number =
-        unsafe { c::kernel_build(plan.as_ptr(), plan.len(), target.as_mut_ptr(), target.len()) };
+    let number = unsafe { c::kernel_build(plan.as_ptr(), plan.len(), target.as_mut_ptr(), target.len()) };
     unless_refused(number, ())
 }
 
@@ -201,8 +124,7 @@ pub fn event(image: &mut [u16], kind: u16, device: u16, character: u16) -> Resul
 /// multiple of three words (7), is refused before any event is taken.
 pub fn run(image: &mut [u16], events: &[u16]) -> Ran {
     // SAFETY: above.
-    let ran =
-        unsafe { c::kernel_run(image.as_mut_ptr(), image.len(), events.as_ptr(), events.len()) };
+    let ran = unsafe { c::kernel_run(image.as_mut_ptr(), image.len(), events.as_ptr(), events.len()) };
     Ran { taken: count(ran.taken), number: ran.number }
 }
 
@@ -233,15 +155,8 @@ pub fn translate(names: &[u8], script: &[u8], target: &mut [u16]) -> Result<usiz
 /// ends it. Where no line is refused, the empty part at the script's start.
 pub fn refused_line<'a>(names: &'a [u8], script: &'a [u8], room: usize) -> &'a [u8] {
     // SAFETY: above.
-    let line = unsafe {
-        c::kernel_refused_line(
-            names.as_ptr(),
-            names.len(),
-            script.as_ptr(),
-            script.len(),
-            room as u64,
-        )
-    };
+    let line =
+        unsafe { c::kernel_refused_line(names.as_ptr(), names.len(), script.as_ptr(), script.len(), room as u64) };
     let start = count(line.start);
     &text_at_fault(names, script)[start..start + count(line.bytes)]
 }

@@ -1,6 +1,7 @@
 //! What the model says of a call.
 
 use crate::call::{Answer, Call};
+use kernel::c::NO_ANSWER;
 use model::check::{accept, check};
 use model::events::{self, happen};
 use model::image::Kernel;
@@ -8,9 +9,6 @@ use model::numbers::GOOD;
 use model::plan;
 use model::runs::{run, Ran};
 use model::translate::{translate, Translation};
-
-/// The kind and the task of a refused event, by include/kernel.h.
-const NO_ANSWER: u16 = 65535;
 
 /// What a call comes to.
 pub struct Outcome {
@@ -60,9 +58,7 @@ fn one_event(image: &[u16], event: [u16; 3]) -> Outcome {
             let answer = Answer::Event { number: GOOD, kind, task };
             Outcome { number: GOOD, answer, buffers: vec![kernel.encode()] }
         }
-        Err(number) => {
-            Outcome { number, answer: refused_event(number), buffers: vec![image.to_vec()] }
-        }
+        Err(number) => Outcome { number, answer: refused_event(number), buffers: vec![image.to_vec()] },
     }
 }
 

@@ -1,62 +1,8 @@
-//! The calls of the C library itself, as `include/kernel.h` declares them. The archive comes with the Rust package.
+//! The calls of the C library itself, as the Rust package declares them.
 
 use crate::call::{Answer, Call};
 use crate::lent::{Lent, Rooms};
-
-#[repr(C)]
-struct Size {
-    words: u64,
-    number: u16,
-}
-
-#[repr(C)]
-struct Told {
-    number: u16,
-    kind: u16,
-    task: u16,
-}
-
-#[repr(C)]
-struct Ran {
-    taken: u64,
-    number: u16,
-}
-
-#[repr(C)]
-struct Translated {
-    words: u64,
-    number: u16,
-    text: u16,
-}
-
-#[repr(C)]
-struct Line {
-    start: u64,
-    bytes: u64,
-}
-
-extern "C" {
-    fn kernel_check(image: *const u16, words: usize) -> u16;
-    fn kernel_size(plan: *const u16, words: usize) -> Size;
-    fn kernel_build(plan: *const u16, words: usize, target: *mut u16, target_words: usize) -> u16;
-    fn kernel_event(image: *mut u16, words: usize, kind: u16, device: u16, character: u16) -> Told;
-    fn kernel_run(image: *mut u16, words: usize, events: *const u16, event_words: usize) -> Ran;
-    fn kernel_translate(
-        names: *const u8,
-        names_bytes: usize,
-        script: *const u8,
-        script_bytes: usize,
-        target: *mut u16,
-        target_words: usize,
-    ) -> Translated;
-    fn kernel_refused_line(
-        names: *const u8,
-        names_bytes: usize,
-        script: *const u8,
-        script_bytes: usize,
-        room: u64,
-    ) -> Line;
-}
+use kernel::c::{self, Line, Ran, Size, Told, Translated};
 
 /// Makes the call with its words and bytes in the rooms that are lent.
 pub fn answer(call: &Call, lent: &mut Rooms) -> Answer {
@@ -77,40 +23,38 @@ pub fn answer(call: &Call, lent: &mut Rooms) -> Answer {
 
 fn check(image: &mut Lent<u16>) -> Answer {
     // SAFETY: above.
-    let number = unsafe { kernel_check(image.pointer(), image.len()) };
+    let number = unsafe { c::kernel_check(image.pointer(), image.len()) };
     Answer::Check { number }
 }
 
 fn size(plan: &mut Lent<u16>) -> Answer {
     // SAFETY: above.
-    let Size { words, number } = unsafe { kernel_size(plan.pointer(), plan.len()) };
+    let Size { words, number } = unsafe { c::kernel_size(plan.pointer(), plan.len()) };
     Answer::Size { number, words }
 }
 
 fn build(plan: &mut Lent<u16>, target: &mut Lent<u16>) -> Answer {
     // SAFETY: above.
-    let number =
-        unsafe { kernel_build(plan.pointer(), plan.len(), target.pointer(), target.len()) };
+    let number = unsafe { c::kernel_build(plan.pointer(), plan.len(), target.pointer(), target.len()) };
     Answer::Build { number }
 }
 
 fn one_event(image: &mut Lent<u16>, [kind, device, character]: [u16; 3]) -> Answer {
     // SAFETY: above.
-    let told = unsafe { kernel_event(image.pointer(), image.len(), kind, device, character) };
-    Answer::Event { number: told.number, kind: told.kind, task: told.task }
+    let Told { number, kind, task } = unsafe { c::kernel_event(image.pointer(), image.len(), kind, device, character) };
+    Answer::Event { number, kind, task }
 }
 
 fn run(image: &mut Lent<u16>, events: &mut Lent<u16>) -> Answer {
     // SAFETY: above.
-    let Ran { taken, number } =
-        unsafe { kernel_run(image.pointer(), image.len(), events.pointer(), events.len()) };
+    let Ran { taken, number } = unsafe { c::kernel_run(image.pointer(), image.len(), events.pointer(), events.len()) };
     Answer::Run { number, taken }
 }
 
 fn translate(names: &mut Lent<u8>, script: &mut Lent<u8>, target: &mut Lent<u16>) -> Answer {
     // SAFETY: above.
     let Translated { words, number, text } = unsafe {
-        kernel_translate(
+        c::kernel_translate(
             names.pointer(),
             names.len(),
             script.pointer(),
@@ -124,8 +68,7 @@ fn translate(names: &mut Lent<u8>, script: &mut Lent<u8>, target: &mut Lent<u16>
 
 fn refused_line(names: &mut Lent<u8>, script: &mut Lent<u8>, room: u64) -> Answer {
     // SAFETY: above.
-    let Line { start, bytes } = unsafe {
-        kernel_refused_line(names.pointer(), names.len(), script.pointer(), script.len(), room)
-    };
+    let Line { start, bytes } =
+        unsafe { c::kernel_refused_line(names.pointer(), names.len(), script.pointer(), script.len(), room) };
     Answer::RefusedLine { start, bytes }
 }

@@ -53,9 +53,7 @@ fn compare(seed: u64, count: usize) -> Result<(), String> {
         let outcome = expected::outcome(&call);
         for way in WAYS {
             let told = differences(&mut guards, &call, &outcome, way);
-            require(told.is_empty(), || {
-                format!("seed {seed}, case {case}: {}\n{}", call.title(), told.join("\n"))
-            })?;
+            require(told.is_empty(), || format!("seed {seed}, case {case}: {}\n{}", call.title(), told.join("\n")))?;
         }
         tally.count(&call, &outcome);
     }
@@ -74,9 +72,7 @@ fn differences(rng: &mut Rng, call: &Call, outcome: &Outcome, (way, make): Way) 
     if answer != outcome.answer {
         told.push(format!("{way}: the answer is {answer:?}, the model's {:?}", outcome.answer));
     }
-    for (((name, _), room), expected) in
-        call.buffers().iter().zip(&lent.words).zip(&outcome.buffers)
-    {
+    for (((name, _), room), expected) in call.buffers().iter().zip(&lent.words).zip(&outcome.buffers) {
         told.extend(room.difference(expected).map(|word| told_of(way, "word", name, word)));
     }
     for ((name, expected), room) in call.texts().iter().zip(&lent.texts) {

@@ -3,17 +3,13 @@
 use crate::call::{Answer, Call};
 use crate::expected::refused_event;
 use crate::lent::{Lent, Rooms};
+use kernel::c::{NAMES, NO_TEXT, SCRIPT};
 use kernel::{Text, Untranslated};
-
-/// The text of a translation that is not refused, by include/kernel.h.
-const NO_TEXT: u16 = 65535;
 
 /// Makes the call with its words and bytes in the rooms that are lent.
 pub fn answer(call: &Call, lent: &mut Rooms) -> Answer {
     match (call, &mut lent.words[..], &mut lent.texts[..]) {
-        (Call::Check { .. }, [image], []) => {
-            Answer::Check { number: number(kernel::check(image.words())) }
-        }
+        (Call::Check { .. }, [image], []) => Answer::Check { number: number(kernel::check(image.words())) },
         (Call::Size { .. }, [plan], []) => size(plan),
         (Call::Build { .. }, [plan, target], []) => {
             Answer::Build { number: number(kernel::build(plan.words(), target.words())) }
@@ -51,16 +47,14 @@ fn one_event(image: &mut Lent<u16>, [kind, device, character]: [u16; 3]) -> Answ
 fn translate(names: &mut Lent<u8>, script: &mut Lent<u8>, target: &mut Lent<u16>) -> Answer {
     match kernel::translate(names.words(), script.words(), target.words()) {
         Ok(words) => Answer::Translate { number: 0, text: NO_TEXT, words: words as u64 },
-        Err(Untranslated { number, text }) => {
-            Answer::Translate { number, text: text_number(text), words: 0 }
-        }
+        Err(Untranslated { number, text }) => Answer::Translate { number, text: text_number(text), words: 0 },
     }
 }
 
 fn text_number(text: Text) -> u16 {
     match text {
-        Text::Names => 0,
-        Text::Script => 1,
+        Text::Names => NAMES,
+        Text::Script => SCRIPT,
     }
 }
 

@@ -76,7 +76,6 @@ impl Tally {
 fn print_line(name: &str, of: &str, values: impl IntoIterator<Item = (u16, usize)>) {
     let values: Vec<(u16, usize)> = values.into_iter().collect();
     let total: usize = values.iter().map(|(_, cases)| cases).sum();
-    let each: Vec<String> =
-        values.iter().map(|(value, cases)| format!("{value}: {cases}")).collect();
+    let each: Vec<String> = values.iter().map(|(value, cases)| format!("{value}: {cases}")).collect();
     println!("{name}: {total} cases, {of} {}", each.join(", "));
 }

@@ -99,11 +99,7 @@ fn long(rng: &mut Rng) -> Vec<Vec<u16>> {
     let kernel = good::framed(rng, PAIR);
     let mut filled = damage::fit_only_mod_65536(&kernel).expect("the kernel has two tasks");
     filled.resize(filled.len() + 65536, 0);
-    vec![
-        damage::lengthened(&kernel, 65536 - kernel.total()),
-        damage::lengthened(&kernel, 65536),
-        filled,
-    ]
+    vec![damage::lengthened(&kernel, 65536 - kernel.total()), damage::lengthened(&kernel, 65536), filled]
 }
 
 #[cfg(test)]

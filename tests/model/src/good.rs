@@ -80,9 +80,7 @@ fn kernel_of(rng: &mut Rng, frame: Frame, lengths: &[usize]) -> Kernel {
         clock: 0,
         ready: queue(rng, n, 0, Rng::word),
         tasks: lengths.iter().map(|&length| task(rng, &frame, length)).collect(),
-        messages: (0..n)
-            .map(|_| (0..n).map(|_| buffer(rng, frame.message, Rng::word)).collect())
-            .collect(),
+        messages: (0..n).map(|_| (0..n).map(|_| buffer(rng, frame.message, Rng::word)).collect()).collect(),
     };
     let wishes: &[u16] = match rng.below(10) {
         0 => &[0],
@@ -107,11 +105,8 @@ fn assert_good(kernel: &Kernel) {
 fn task(rng: &mut Rng, frame: &Frame, length: usize) -> Task {
     let idle = rng.percent(40);
     let port = if idle { Port::default() } else { Port::printing(rng.character()) };
-    let output = if idle {
-        queue(rng, frame.output, 0, Rng::character)
-    } else {
-        buffer(rng, frame.output, Rng::character)
-    };
+    let output =
+        if idle { queue(rng, frame.output, 0, Rng::character) } else { buffer(rng, frame.output, Rng::character) };
     Task {
         registers: [(); 8].map(|()| rng.word()),
         flags: Flags { cc: word(rng.below(3)), error: 0, pending: 0 },
@@ -144,8 +139,7 @@ fn queue(rng: &mut Rng, capacity: usize, length: usize, held: fn(&mut Rng) -> u1
 /// that the rules of that status ask of its flags, peer and registers. One
 /// of the wishes is 0 or 5, which all buffers allow.
 fn settle(rng: &mut Rng, kernel: &mut Kernel, me: usize, wishes: &[u16]) {
-    let allowed: Vec<u16> =
-        wishes.iter().copied().filter(|&wish| allows(kernel, me, wish)).collect();
+    let allowed: Vec<u16> = wishes.iter().copied().filter(|&wish| allows(kernel, me, wish)).collect();
     let chosen = *rng.pick(&allowed);
     let peers = peers(kernel, me, chosen);
     let task = &mut kernel.tasks[me];

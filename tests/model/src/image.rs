@@ -105,20 +105,15 @@ impl Kernel {
     /// where a queue's leading words break a rule.
     pub fn decode(words: &[u16], layout: &Layout) -> Option<Kernel> {
         let n = layout.frame.tasks;
-        let tasks = segments(words, layout)
-            .into_iter()
-            .enumerate()
-            .map(|(i, segment)| Task::decode(words, layout, i, segment));
-        let message =
-            |from, to| Queue::decode(&words[layout.message(from, to)..], layout.frame.message);
+        let tasks =
+            segments(words, layout).into_iter().enumerate().map(|(i, segment)| Task::decode(words, layout, i, segment));
+        let message = |from, to| Queue::decode(&words[layout.message(from, to)..], layout.frame.message);
         Some(Kernel {
             slice: layout.frame.slice,
             clock: words[CLOCK],
             ready: Queue::decode(&words[layout.ready_queue..], n)?,
             tasks: tasks.collect::<Option<_>>()?,
-            messages: (0..n)
-                .map(|from| (0..n).map(|to| message(from, to)).collect())
-                .collect::<Option<_>>()?,
+            messages: (0..n).map(|from| (0..n).map(|to| message(from, to)).collect()).collect::<Option<_>>()?,
         })
     }
 

@@ -14,13 +14,8 @@ pub enum RightUpTo {
     Segments,
 }
 
-pub const DEGREES: [RightUpTo; 5] = [
-    RightUpTo::Nothing,
-    RightUpTo::Edition,
-    RightUpTo::Frame,
-    RightUpTo::Offsets,
-    RightUpTo::Segments,
-];
+pub const DEGREES: [RightUpTo; 5] =
+    [RightUpTo::Nothing, RightUpTo::Edition, RightUpTo::Frame, RightUpTo::Offsets, RightUpTo::Segments];
 
 /// A random list of words: 0 to 200 of them, save where the segments are to
 /// be right.

@@ -50,8 +50,7 @@ impl Frame {
 
     /// The five words, in the order in which they are read.
     pub fn words(&self) -> [u16; 5] {
-        let [tasks, input, output, message] =
-            [self.tasks, self.input, self.output, self.message].map(word);
+        let [tasks, input, output, message] = [self.tasks, self.input, self.output, self.message].map(word);
         [tasks, self.slice, input, output, message]
     }
 }

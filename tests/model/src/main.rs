@@ -140,8 +140,7 @@ fn text_vectors(seed: u64, count: usize, file: &str) -> Result<(), String> {
 /// Fails where one of these is rare among a great many.
 fn many_events(seed: u64, count: usize, file: &str) -> Result<(), String> {
     let mut sights = Sights::default();
-    let outcomes =
-        write_events(seed, count, file, &mut sights).map_err(|error| format!("{file}: {error}"))?;
+    let outcomes = write_events(seed, count, file, &mut sights).map_err(|error| format!("{file}: {error}"))?;
     let least = if count < A_GREAT_MANY { 0 } else { OFTEN };
     for (name, events) in sights.rows() {
         println!("{name}: {events} cases");
@@ -152,12 +151,7 @@ fn many_events(seed: u64, count: usize, file: &str) -> Result<(), String> {
 }
 
 /// Writes sequences until there are so many events, and gives their outcomes.
-fn write_events(
-    seed: u64,
-    count: usize,
-    file: &str,
-    sights: &mut Sights,
-) -> std::io::Result<Vec<Result<Answer, u16>>> {
+fn write_events(seed: u64, count: usize, file: &str, sights: &mut Sights) -> std::io::Result<Vec<Result<Answer, u16>>> {
     let mut rng = Rng::new(seed);
     let mut out = BufWriter::new(File::create(file)?);
     let mut outcomes = Vec::new();
@@ -222,9 +216,7 @@ fn tally(values: &[u16], rows: impl Iterator<Item = (u16, usize)>) -> Tally {
 
 /// Fails where there are too few cases of some value.
 fn require_each(name: &str, tally: &Tally, least: usize) -> Result<(), String> {
-    tally.iter().try_for_each(|&(value, cases)| {
-        require(cases >= least, &format!("{name} {value}: too few cases"))
-    })
+    tally.iter().try_for_each(|&(value, cases)| require(cases >= least, &format!("{name} {value}: too few cases")))
 }
 
 /// Fails with a message where a condition does not hold.

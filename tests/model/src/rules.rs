@@ -42,10 +42,7 @@ fn port_fits(task: &Task) -> bool {
 }
 
 fn flags_fit(flags: &Flags) -> bool {
-    flags.cc <= 2
-        && flags.error <= 6
-        && flags.pending <= 4
-        && (flags.error == 0 || flags.pending == 0)
+    flags.cc <= 2 && flags.error <= 6 && flags.pending <= 4 && (flags.error == 0 || flags.pending == 0)
 }
 
 /// The rules of a task's own status, its peer field included.
@@ -56,15 +53,9 @@ fn status_fits(kernel: &Kernel, me: usize) -> bool {
     let peer = named_peer(kernel, task);
     match task.status {
         status::READY => task.peer == 0,
-        status::WAITS_TO_SEND => {
-            pending == service::SEND && peer.is_some_and(|peer| buffer(me, peer).is_full())
-        }
-        status::WAITS_TO_RECEIVE => {
-            pending == service::RECEIVE && peer.is_some_and(|peer| buffer(peer, me).is_empty())
-        }
-        status::WAITS_FOR_INPUT => {
-            task.peer == 0 && pending == service::INPUT && task.input.is_empty()
-        }
+        status::WAITS_TO_SEND => pending == service::SEND && peer.is_some_and(|peer| buffer(me, peer).is_full()),
+        status::WAITS_TO_RECEIVE => pending == service::RECEIVE && peer.is_some_and(|peer| buffer(peer, me).is_empty()),
+        status::WAITS_FOR_INPUT => task.peer == 0 && pending == service::INPUT && task.input.is_empty(),
         status::WAITS_FOR_OUTPUT => {
             task.peer == 0
                 && pending == service::OUTPUT

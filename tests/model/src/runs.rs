@@ -66,8 +66,7 @@ mod tests {
     const MALFORMED: [u16; 3] = [0, 1, 0];
 
     /// The paper's eleven events, of which the last is refused.
-    const PAPERS: [[u16; 3]; 11] =
-        [TICK, TICK, TICK, LETTER, TICK, TICK, TICK, TICK, TICK, DONE, DONE];
+    const PAPERS: [[u16; 3]; 11] = [TICK, TICK, TICK, LETTER, TICK, TICK, TICK, TICK, TICK, DONE, DONE];
 
     /// The paper's image: tables at 18 27 32 34 39 44 49 51, segment at 53.
     fn papers_image() -> Vec<u16> {
@@ -91,8 +90,7 @@ mod tests {
 
     #[test]
     fn the_papers_run_takes_ten_events() {
-        let by_hand =
-            vec![(17, 0), (18, 2), (21, 65), (26, 8), (29, 0), (32, 5), (38, 65), (43, 65)];
+        let by_hand = vec![(17, 0), (18, 2), (21, 65), (26, 8), (29, 0), (32, 5), (38, 65), (43, 65)];
         assert_eq!(on_papers(&PAPERS), (10, 9, by_hand.clone()));
         assert_eq!(on_papers(&PAPERS[..10]), (10, 0, by_hand));
     }

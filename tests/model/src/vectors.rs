@@ -303,11 +303,7 @@ mod tests {
 
     #[test]
     fn the_events_of_an_image_follow_it() {
-        let step = |event, outcome, changes: &[Change]| happening::Step {
-            event,
-            outcome,
-            changes: changes.to_vec(),
-        };
+        let step = |event, outcome, changes: &[Change]| happening::Step { event, outcome, changes: changes.to_vec() };
         let steps = vec![
             step([0, 0, 0], Ok(Answer { kind: 6, task: 15 }), &[(17, 4), (18, 300)]),
             step([1, 3, 256], Err(7), &[]),
@@ -367,11 +363,8 @@ mod tests {
 
     #[test]
     fn a_refused_text_has_its_line_and_ends_with_the_script() {
-        let by_hand: [&[u16]; 3] = [
-            &[7, 14, 3, 0, 6, 0, 4, 0, 500, 1, 2, 0, 3, 0, 0, 0],
-            &[0x3D61, 0x0039],
-            &[0x0A61, 0x3B62, 0x0AFF],
-        ];
+        let by_hand: [&[u16]; 3] =
+            [&[7, 14, 3, 0, 6, 0, 4, 0, 500, 1, 2, 0, 3, 0, 0, 0], &[0x3D61, 0x0039], &[0x0A61, 0x3B62, 0x0AFF]];
         assert_eq!(text_words(b"a=9", b"a\nb;\xFF\n", 4), by_hand.concat());
     }
 }

@@ -166,12 +166,8 @@ const COUNTS: [Row; 12] = [
 
 /// L = 0, P > L, and a P that the program words do not agree with.
 const LENGTHS: [Row; 11] = [
-    ("L 0 with P 0", |rng, draft| {
-        choose(rng, draft, |pair| pair.program == 0).map(|pair| pair.length = 0)
-    }),
-    ("L 0 with a program", |rng, draft| {
-        choose(rng, draft, |pair| pair.program > 0).map(|pair| pair.length = 0)
-    }),
+    ("L 0 with P 0", |rng, draft| choose(rng, draft, |pair| pair.program == 0).map(|pair| pair.length = 0)),
+    ("L 0 with a program", |rng, draft| choose(rng, draft, |pair| pair.program > 0).map(|pair| pair.length = 0)),
     ("L one less than P", |rng, draft| {
         choose(rng, draft, |pair| pair.program > 0).map(|pair| pair.length = pair.program - 1)
     }),
@@ -186,9 +182,7 @@ const LENGTHS: [Row; 11] = [
         choose(rng, draft, |_| true).map(|pair| pair.program = pair.length + 1)
     }),
     ("P 65535", |rng, draft| choose(rng, draft, |_| true).map(|pair| pair.program = 65535)),
-    ("P more than L by 256", |rng, draft| {
-        choose(rng, draft, |_| true).map(|pair| pair.program += pair.length + 256)
-    }),
+    ("P more than L by 256", |rng, draft| choose(rng, draft, |_| true).map(|pair| pair.program += pair.length + 256)),
     ("P one more within L, its word missing", |rng, draft| {
         choose(rng, draft, |pair| pair.program < pair.length).map(|pair| pair.program += 1)
     }),
@@ -227,11 +221,7 @@ const TOTALS: [Row; 5] = [
 ];
 
 /// A random pair among those that fit.
-fn choose<'a>(
-    rng: &mut Rng,
-    draft: &'a mut Draft,
-    fits: fn(&Pair) -> bool,
-) -> Option<&'a mut Pair> {
+fn choose<'a>(rng: &mut Rng, draft: &'a mut Draft, fits: fn(&Pair) -> bool) -> Option<&'a mut Pair> {
     let mut fitting: Vec<&mut Pair> = draft.pairs.iter_mut().filter(|pair| fits(pair)).collect();
     let chosen = (!fitting.is_empty()).then(|| rng.below(fitting.len()))?;
     Some(fitting.swap_remove(chosen))

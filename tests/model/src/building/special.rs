@@ -24,20 +24,17 @@ const ONE: Frame = Frame { tasks: 1, slice: 1, input: 1, output: 1, message: 1 }
 /// Its first segment is at 94.
 const PAIR: Frame = Frame { tasks: 2, slice: 7, input: 1, output: 1, message: 1 };
 /// Its first segment is at 10646.
-const WIDEST: Frame =
-    Frame { tasks: LARGEST_TASKS, slice: 65535, input: 32, output: 32, message: 32 };
+const WIDEST: Frame = Frame { tasks: LARGEST_TASKS, slice: 65535, input: 32, output: 32, message: 32 };
 
 /// Every plan chosen by hand.
 pub fn all(rng: &mut Rng) -> Vec<Special> {
-    [targets(), cuts(), ranges(), programs(rng), largest(rng), over(rng), long(rng), orders()]
-        .concat()
+    [targets(), cuts(), ranges(), programs(rng), largest(rng), over(rng), long(rng), orders()].concat()
 }
 
 /// Good plans with targets of every kind of count; one target is over 65535.
 fn targets() -> Vec<Special> {
-    let judged = |plan: &[u16], total: usize, words: usize| {
-        (plan.to_vec(), words, if words == total { GOOD } else { TARGET })
-    };
+    let judged =
+        |plan: &[u16], total: usize, words: usize| (plan.to_vec(), words, if words == total { GOOD } else { TARGET });
     let counts = [0, 1, 17, 18, 52, 53, 54, 55, 56, 57, 58, 108, 109, 110, 114, 32768];
     let mut list = vec![(PAPERS.to_vec(), PAPERS_TOTAL + 65536, TARGET)];
     for words in counts {
@@ -50,9 +47,7 @@ fn targets() -> Vec<Special> {
 
 /// Good plans cut to each count of words below their own.
 fn cuts() -> Vec<Special> {
-    let cut = |plan: &'static [u16], total| {
-        (0..plan.len()).map(move |count| (plan[..count].to_vec(), total, PLAN))
-    };
+    let cut = |plan: &'static [u16], total| (0..plan.len()).map(move |count| (plan[..count].to_vec(), total, PLAN));
     cut(&PAPERS, PAPERS_TOTAL).chain(cut(&TWO_TASKS, TWO_TASKS_TOTAL)).collect()
 }
 

@@ -33,14 +33,10 @@ pub fn damages() -> Vec<Damage> {
         let make = move |_: &mut Rng, kernel: &Kernel| with_words(kernel, |w| w[place] = value);
         list.push(Damage::new(name, expected, make));
     }
-    list.push(Damage::new("another N in range", numbers::OFFSET, |rng, kernel| {
-        another(rng, kernel, 2, LARGEST_TASKS)
-    }));
+    list.push(Damage::new("another N in range", numbers::OFFSET, |rng, kernel| another(rng, kernel, 2, LARGEST_TASKS)));
     for place in 4..7 {
         let name = format!("another capacity in range, word {place}");
-        list.push(Damage::new(name, numbers::OFFSET, move |rng, kernel| {
-            another(rng, kernel, place, LARGEST_CAPACITY)
-        }));
+        list.push(Damage::new(name, numbers::OFFSET, move |rng, kernel| another(rng, kernel, place, LARGEST_CAPACITY)));
     }
     for place in 7..16 {
         let more = move |_: &mut Rng, kernel: &Kernel| with_words(kernel, |w| w[place] += 1);

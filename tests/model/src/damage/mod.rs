@@ -53,13 +53,7 @@ impl Damage {
 
 /// Every damage that breaks a single rule.
 pub fn all() -> Vec<Damage> {
-    let parts = [
-        header::damages(),
-        segments::damages(),
-        queues::damages(),
-        ready::damages(),
-        tasks::damages(),
-    ];
+    let parts = [header::damages(), segments::damages(), queues::damages(), ready::damages(), tasks::damages()];
     parts.into_iter().flatten().collect()
 }
 
@@ -104,8 +98,7 @@ fn with_words(kernel: &Kernel, change: impl FnOnce(&mut Vec<u16>)) -> Option<Vec
 
 /// The number of a random task among those that fit.
 fn choose(rng: &mut Rng, kernel: &Kernel, fits: impl Fn(&Task) -> bool) -> Option<usize> {
-    let fitting: Vec<usize> =
-        (0..kernel.tasks.len()).filter(|&task| fits(&kernel.tasks[task])).collect();
+    let fitting: Vec<usize> = (0..kernel.tasks.len()).filter(|&task| fits(&kernel.tasks[task])).collect();
     (!fitting.is_empty()).then(|| *rng.pick(&fitting))
 }
 

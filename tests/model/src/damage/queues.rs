@@ -55,15 +55,11 @@ const FAULTS: [(&str, Fault); 13] = [
     ("head past the capacity", |q| Some(Lead { head: q.head + q.capacity, ..q })),
     ("head at the capacity", |q| Some(Lead { head: q.capacity, ..q })),
     ("head one step on", |q| (q.capacity > 1).then(|| Lead { head: step(q.head, &q), ..q })),
-    ("head right only mod 65536", |q| {
-        (q.tail < q.length).then(|| Lead { head: q.tail.wrapping_sub(q.length), ..q })
-    }),
+    ("head right only mod 65536", |q| (q.tail < q.length).then(|| Lead { head: q.tail.wrapping_sub(q.length), ..q })),
     ("tail past the capacity", |q| Some(Lead { tail: q.tail + q.capacity, ..q })),
     ("tail at the capacity", |q| Some(Lead { tail: q.capacity, ..q })),
     ("tail one step on", |q| (q.capacity > 1).then(|| Lead { tail: step(q.tail, &q), ..q })),
-    ("length past the capacity", |q| {
-        (q.length > 0).then(|| Lead { length: q.length + q.capacity, ..q })
-    }),
+    ("length past the capacity", |q| (q.length > 0).then(|| Lead { length: q.length + q.capacity, ..q })),
     ("length one over the capacity", |q| Some(Lead { length: q.capacity + 1, ..q })),
     ("length one off", |q| {
         let length = if q.length > 0 { q.length - 1 } else { 1 };
@@ -101,27 +97,18 @@ fn with_fault(kernel: &Kernel, place: usize, fault: Fault) -> Option<Vec<u16>> {
 fn held_characters() -> Vec<Damage> {
     let mut list = Vec::new();
     for character in [256, 65535] {
-        list.push(Damage::new(
-            format!("input holds {character}"),
-            OTHER_RULE,
-            move |rng, kernel| with_held(rng, kernel, character, |task| &mut task.input),
-        ));
-        list.push(Damage::new(
-            format!("output holds {character}"),
-            OTHER_RULE,
-            move |rng, kernel| with_held(rng, kernel, character, |task| &mut task.output),
-        ));
+        list.push(Damage::new(format!("input holds {character}"), OTHER_RULE, move |rng, kernel| {
+            with_held(rng, kernel, character, |task| &mut task.input)
+        }));
+        list.push(Damage::new(format!("output holds {character}"), OTHER_RULE, move |rng, kernel| {
+            with_held(rng, kernel, character, |task| &mut task.output)
+        }));
     }
     list
 }
 
 /// The image with one held word of a random task's buffer changed.
-fn with_held(
-    rng: &mut Rng,
-    kernel: &Kernel,
-    character: u16,
-    buffer: fn(&mut Task) -> &mut Queue,
-) -> Option<Vec<u16>> {
+fn with_held(rng: &mut Rng, kernel: &Kernel, character: u16, buffer: fn(&mut Task) -> &mut Queue) -> Option<Vec<u16>> {
     let index = rng.below(32);
     let holds_any = |task: &Task| !buffer(&mut task.clone()).is_empty();
     with_task(rng, kernel, holds_any, |task| {

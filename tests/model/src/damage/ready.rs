@@ -12,9 +12,7 @@ pub fn damages() -> Vec<Damage> {
 const QUEUE_AND_CLOCK: [Row; 12] = [
     ("ready queue misses a task", |_, kernel| misses_a_task(kernel)),
     ("ready queue repeats a task", |_, kernel| appended(kernel, first(kernel)?)),
-    ("ready queue repeats a task in place of another", |_, kernel| {
-        replaced(kernel, *kernel.ready.held.get(1)?)
-    }),
+    ("ready queue repeats a task in place of another", |_, kernel| replaced(kernel, *kernel.ready.held.get(1)?)),
     ("ready queue holds a task that is not ready", |rng, kernel| {
         let other = choose(rng, kernel, |task| task.status != status::READY)?;
         appended(kernel, word(other))
@@ -24,18 +22,14 @@ const QUEUE_AND_CLOCK: [Row; 12] = [
         replaced(kernel, word(other))
     }),
     ("ready queue holds N too", |_, kernel| appended(kernel, word(kernel.tasks.len()))),
-    ("ready queue holds N in place of a task", |_, kernel| {
-        replaced(kernel, word(kernel.tasks.len()))
-    }),
+    ("ready queue holds N in place of a task", |_, kernel| replaced(kernel, word(kernel.tasks.len()))),
     ("ready queue holds a task plus 256", |_, kernel| replaced(kernel, first(kernel)? + 256)),
     ("ready queue holds 65535", |_, kernel| replaced(kernel, 65535)),
     ("clock one over S", |_, kernel| {
         let clock = kernel.slice.checked_add(1)?;
         (!kernel.ready.is_empty()).then(|| with_clock(kernel, clock))?
     }),
-    ("clock 1 over an empty ready queue", |_, kernel| {
-        kernel.ready.is_empty().then(|| with_clock(kernel, 1))?
-    }),
+    ("clock 1 over an empty ready queue", |_, kernel| kernel.ready.is_empty().then(|| with_clock(kernel, 1))?),
     ("clock S over an empty ready queue", |_, kernel| {
         kernel.ready.is_empty().then(|| with_clock(kernel, kernel.slice))?
     }),

@@ -42,9 +42,7 @@ fn totals() -> Vec<Damage> {
         ("T 65535", |_| 65535),
         ("T with its highest bit changed", |total| total ^ 32768),
     ] {
-        let make = move |_: &mut Rng, kernel: &Kernel| {
-            with_words(kernel, |words| words[TOTAL] = change(words[TOTAL]))
-        };
+        let make = move |_: &mut Rng, kernel: &Kernel| with_words(kernel, |words| words[TOTAL] = change(words[TOTAL]));
         list.push(Damage::new(name, SEGMENT_OR_TOTAL, make));
     }
     list.push(Damage::new("T counts a word of no segment", SEGMENT_OR_TOTAL, |rng, kernel| {

@@ -17,9 +17,7 @@ fn damage(
     fits: impl Fn(&Task) -> bool + 'static,
     change: impl Fn(&mut Task) + 'static,
 ) -> Damage {
-    Damage::new(name, OTHER_RULE, move |rng: &mut Rng, kernel: &Kernel| {
-        with_task(rng, kernel, &fits, &change)
-    })
+    Damage::new(name, OTHER_RULE, move |rng: &mut Rng, kernel: &Kernel| with_task(rng, kernel, &fits, &change))
 }
 
 fn idle(task: &Task) -> bool {
@@ -64,11 +62,7 @@ fn flags() -> Vec<Damage> {
         damage("pending 5", |t| t.status == 0 && !has_error(t), |t| t.flags.pending = 5),
         damage("pending right only mod 8", |t| !has_error(t), |t| t.flags.pending += 8),
         damage("highest bit of the flags", |t| !has_error(t), |t| t.flags.pending += 1024),
-        damage(
-            "ready with error and pending",
-            |t| t.status == status::READY && has_error(t),
-            |t| t.flags.pending = 1,
-        ),
+        damage("ready with error and pending", |t| t.status == status::READY && has_error(t), |t| t.flags.pending = 1),
         damage(
             "ready with pending and error",
             |t| t.status == status::READY && t.flags.pending != 0,

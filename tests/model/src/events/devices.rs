@@ -22,8 +22,7 @@ pub fn output_done(kernel: &mut Kernel, device: u16) -> Result<Answer, u16> {
     let owner = usize::from(device);
     let task = &mut kernel.tasks[owner];
     require(!task.port.is_idle(), numbers::PORT_IDLE)?;
-    task.port =
-        if task.output.is_empty() { Port::default() } else { Port::printing(task.output.take()) };
+    task.port = if task.output.is_empty() { Port::default() } else { Port::printing(task.output.take()) };
     if task.status == status::WAITS_FOR_OUTPUT {
         wake(kernel, owner)?;
     }
@@ -103,8 +102,7 @@ mod tests {
 
     #[test]
     fn output_done_wakes_nobody_who_waits_for_something_else() {
-        let scenes =
-            [Scene::of(2).waits_for_input(0), Scene::of(2).waits_to_receive(0, 1), Scene::of(2)];
+        let scenes = [Scene::of(2).waits_for_input(0), Scene::of(2).waits_to_receive(0, 1), Scene::of(2)];
         for scene in scenes {
             let before = scene.output(0, 64, &[0, 0, 0, 2, 777, 777]).kernel();
             let mut expected = before.clone();

@@ -54,9 +54,7 @@ impl Event {
         let owned = usize::from(device) < tasks;
         match kind {
             kind::TICK if device == 0 && character == 0 => Some(Event::Tick),
-            kind::INPUT if owned && character <= LARGEST_CHARACTER => {
-                Some(Event::Input { device, character })
-            }
+            kind::INPUT if owned && character <= LARGEST_CHARACTER => Some(Event::Input { device, character }),
             kind::OUTPUT_DONE if owned && character == 0 => Some(Event::OutputDone { device }),
             _ => None,
         }

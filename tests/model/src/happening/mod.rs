@@ -56,8 +56,7 @@ impl Step {
 /// All cases of a seed: those chosen by hand, and large and `count` random
 /// images, each with some events.
 pub fn collect(seed: u64, count: usize) -> Vec<Sequence> {
-    let mut sequences: Vec<Sequence> =
-        special::all().into_iter().map(special::Special::judged).collect();
+    let mut sequences: Vec<Sequence> = special::all().into_iter().map(special::Special::judged).collect();
     sequences.extend(random::all(seed, count));
     sequences
 }

@@ -51,11 +51,7 @@ fn course(rng: &mut Rng, kernel: &Kernel) -> Course {
 /// A list of so many events, at least one, for a kernel: all are taken, or one
 /// at any distance is refused and any follow it, or the last is cut.
 pub fn list(rng: &mut Rng, kernel: &Kernel, count: usize) -> Vec<u16> {
-    let mut list = if rng.percent(REFUSED) {
-        with_refusal(rng, kernel, count)
-    } else {
-        events(rng, kernel, count)
-    };
+    let mut list = if rng.percent(REFUSED) { with_refusal(rng, kernel, count) } else { events(rng, kernel, count) };
     if rng.percent(CUT) {
         list.truncate(list.len() - rng.between(1, 2));
     }

@@ -14,20 +14,8 @@ const MOST_SCRIPT: usize = 14;
 const DEPTH: usize = 8;
 
 /// Orders by what stands after their names.
-const TWO_REGISTERS: [&str; 12] = [
-    "copy",
-    "fetch",
-    "store",
-    "add",
-    "subtract",
-    "multiply",
-    "quotient",
-    "remainder",
-    "and",
-    "or",
-    "xor",
-    "compare",
-];
+const TWO_REGISTERS: [&str; 12] =
+    ["copy", "fetch", "store", "add", "subtract", "multiply", "quotient", "remainder", "and", "or", "xor", "compare"];
 const ONE_SUM: [&str; 5] = ["jump", "jumpeq", "jumplt", "jumpgt", "call"];
 const NOTHING: [&str; 5] = ["return", "send", "receive", "input", "output"];
 
@@ -77,8 +65,7 @@ impl Draft {
     pub fn random(rng: &mut Rng) -> Draft {
         let mut fresh = distinct_names(rng, MOST_NAMES + MOST_SCRIPT);
         let (names, mut known) = random_names(rng, &mut fresh);
-        let plans: Vec<Plan> =
-            (0..rng.below(MOST_SCRIPT + 1)).map(|_| Plan::random(rng, &mut fresh)).collect();
+        let plans: Vec<Plan> = (0..rng.below(MOST_SCRIPT + 1)).map(|_| Plan::random(rng, &mut fresh)).collect();
         known.extend(labels(&plans));
         let script = plans.into_iter().map(|plan| plan.line(rng, &known)).collect();
         let open = [rng.percent(20), rng.percent(20)];
@@ -113,8 +100,7 @@ impl Draft {
 /// Lines with their bytes 10. An empty last line always has its own, for
 /// without it there would be no such line.
 fn written(lines: &[Line], open: bool) -> Vec<u8> {
-    let mut bytes: Vec<u8> =
-        lines.iter().flat_map(|line| line.bytes.iter().copied().chain([b'\n'])).collect();
+    let mut bytes: Vec<u8> = lines.iter().flat_map(|line| line.bytes.iter().copied().chain([b'\n'])).collect();
     if open && lines.last().is_some_and(|line| !line.bytes.is_empty()) {
         bytes.pop();
     }
@@ -163,9 +149,7 @@ impl Plan {
         let (order, has_sum) = match rng.below(10) {
             0 => (vec![], false),
             1..=2 => (vec!["load".into(), register(rng)], true),
-            3..=4 => {
-                (vec![(*rng.pick(&TWO_REGISTERS)).into(), register(rng), register(rng)], false)
-            }
+            3..=4 => (vec![(*rng.pick(&TWO_REGISTERS)).into(), register(rng), register(rng)], false),
             5..=6 => (vec![(*rng.pick(&ONE_SUM)).into()], true),
             7 => (vec![(*rng.pick(&NOTHING)).into()], false),
             _ => (vec![], true),

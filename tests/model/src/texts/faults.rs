@@ -30,8 +30,7 @@ pub fn all() -> Vec<Fault> {
     let of = |number, rows: &[(&'static str, Change)]| -> Vec<Fault> {
         rows.iter().map(|&(name, change)| Fault { name, number, change }).collect()
     };
-    [of(GRAMMAR, &OF_BYTES), of(GRAMMAR, &OF_LINES), of(NAME, &OF_NAMES), of(VALUE, &OF_VALUES)]
-        .concat()
+    [of(GRAMMAR, &OF_BYTES), of(GRAMMAR, &OF_LINES), of(NAME, &OF_NAMES), of(VALUE, &OF_VALUES)].concat()
 }
 
 /// Every fault of a line of the grammar: those that give 14 or 15.
@@ -188,12 +187,8 @@ const OF_VALUES: [(&str, Change); 4] = [
         let row = *rng.pick(&wrong::OUT_OF_RANGE);
         with_sum(rng, draft, |_, _| tokens(row))
     }),
-    ("a sum too large", |rng, draft| {
-        with_sum(rng, draft, |_, sum| longer(sum, &["+", "65535", "+", "1"]))
-    }),
-    ("a sum under 0", |rng, draft| {
-        with_sum(rng, draft, |_, sum| longer(sum, &["-", "65535", "-", "1"]))
-    }),
+    ("a sum too large", |rng, draft| with_sum(rng, draft, |_, sum| longer(sum, &["+", "65535", "+", "1"]))),
+    ("a sum under 0", |rng, draft| with_sum(rng, draft, |_, sum| longer(sum, &["-", "65535", "-", "1"]))),
     ("a long number", |rng, draft| {
         let number = format!("{}{}", rng.between(1, 9), "0".repeat(rng.between(5, 400)));
         with_sum(rng, draft, |_, sum| longer(sum, &["*", &number]))
@@ -210,11 +205,7 @@ fn with_byte(rng: &mut Rng, draft: &mut Draft, byte: u8) -> Option<Spot> {
 }
 
 /// Changes the sum of a line that has one.
-fn with_sum(
-    rng: &mut Rng,
-    draft: &mut Draft,
-    change: impl Fn(&mut Rng, Vec<String>) -> Vec<String>,
-) -> Option<Spot> {
+fn with_sum(rng: &mut Rng, draft: &mut Draft, change: impl Fn(&mut Rng, Vec<String>) -> Vec<String>) -> Option<Spot> {
     let has_sum = |&(text, line): &Spot| !draft.text(text)[line].sum.is_empty();
     let spots = spots(draft).into_iter().filter(has_sum).collect();
     let (text, line) = one_of(rng, spots)?;

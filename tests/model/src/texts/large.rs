@@ -17,18 +17,8 @@ const MOST_LINES: usize = 4000;
 pub fn stored() -> Vec<Special> {
     vec![
         split_limit(),
-        Special {
-            names: given(0..8193, " =0 "),
-            script: vec![],
-            room: 5,
-            by_hand: refused(GRAMMAR, NAMES, 65536, 7),
-        },
-        Special {
-            names: vec![],
-            script: b"a:\n".repeat(8193),
-            room: 0,
-            by_hand: refused(GRAMMAR, SCRIPT, 24576, 2),
-        },
+        Special { names: given(0..8193, " =0 "), script: vec![], room: 5, by_hand: refused(GRAMMAR, NAMES, 65536, 7) },
+        Special { names: vec![], script: b"a:\n".repeat(8193), room: 0, by_hand: refused(GRAMMAR, SCRIPT, 24576, 2) },
         blank_lines(),
     ]
 }
@@ -69,8 +59,7 @@ fn blank_lines() -> Special {
 /// names given twice.
 fn limits() -> Vec<Special> {
     let twice = |lines: usize| [b"gaa=0\n".to_vec(), given(0..lines - 1, "=0")].concat();
-    let row =
-        |names: Vec<u8>, script: Vec<u8>, by_hand| Special { names, script, room: 0, by_hand };
+    let row = |names: Vec<u8>, script: Vec<u8>, by_hand| Special { names, script, room: 0, by_hand };
     vec![
         row(given(0..8192, "=0"), vec![], accepted(&[])),
         row(given(0..8193, "=0"), vec![], refused(GRAMMAR, NAMES, 49152, 5)),
@@ -98,12 +87,7 @@ fn limits() -> Vec<Special> {
 fn past_the_words() -> Vec<Special> {
     let zeros = |count: usize| b"0\n".repeat(count);
     let calls = |count: usize| b"call 0\n".repeat(count);
-    let row = |parts: &[&[u8]], by_hand| Special {
-        names: vec![],
-        script: parts.concat(),
-        room: 70000,
-        by_hand,
-    };
+    let row = |parts: &[&[u8]], by_hand| Special { names: vec![], script: parts.concat(), room: 70000, by_hand };
     let mut last = vec![0; 65535];
     last.extend([3584, 65535]);
     let mut many_calls = [4096, 0].repeat(32768);
@@ -126,12 +110,7 @@ fn past_the_words() -> Vec<Special> {
 
 /// More than 65535 words in targets of any size.
 fn rooms() -> Vec<Special> {
-    let row = |words: usize, room, by_hand| Special {
-        names: vec![],
-        script: b"7\n".repeat(words),
-        room,
-        by_hand,
-    };
+    let row = |words: usize, room, by_hand| Special { names: vec![], script: b"7\n".repeat(words), room, by_hand };
     vec![
         row(65536, 65536, accepted(&[7; 65536])),
         row(65537, 65537, accepted(&[7; 65537])),
@@ -195,9 +174,6 @@ mod tests {
         let mut rng = Rng::new(3);
         let numbers: Vec<u16> = (0..60).map(|_| random(&mut rng).translation.number).collect();
         let of = |number| numbers.iter().filter(|&&other| other == number).count();
-        assert!(
-            of(0) >= 10 && [13, 14, 15, 16].iter().all(|&number| of(number) >= 1),
-            "{numbers:?}"
-        );
+        assert!(of(0) >= 10 && [13, 14, 15, 16].iter().all(|&number| of(number) >= 1), "{numbers:?}");
     }
 }

@@ -47,8 +47,7 @@ impl Special {
     /// The case, where the model must give what is written by hand.
     pub fn case(self, salt: u16) -> Case {
         let case = Case::judged(self.names, self.script, self.room, salt);
-        let start =
-            |text: &[u8]| String::from_utf8_lossy(&text[..text.len().min(200)]).into_owned();
+        let start = |text: &[u8]| String::from_utf8_lossy(&text[..text.len().min(200)]).into_owned();
         assert_eq!(
             case.translation,
             self.by_hand,

@@ -13,10 +13,9 @@ const MOST_BYTES: usize = 60;
 const OF_THE_GRAMMAR: &[u8] = b"abrz019_+-*():=;; \t\r\n\n\n";
 
 const TOKENS: [&str; 44] = [
-    "a", "b", "a", "b", "r0", "r7", "r1", "r8", "0", "1", "7", "65535", "65536", "+", "-", "*",
-    "(", ")", ":", "=", "=", ":", "load", "load", "copy", "add", "or", "jump", "jumpeq", "call",
-    "return", "send", "output", "finish", "jumpby", "negate", "a:", "b:", "a=", "b=", ";", " ",
-    "\t", "\r",
+    "a", "b", "a", "b", "r0", "r7", "r1", "r8", "0", "1", "7", "65535", "65536", "+", "-", "*", "(", ")", ":", "=",
+    "=", ":", "load", "load", "copy", "add", "or", "jump", "jumpeq", "call", "return", "send", "output", "finish",
+    "jumpby", "negate", "a:", "b:", "a=", "b=", ";", " ", "\t", "\r",
 ];
 
 /// Both texts with one byte of one of them changed, put in or left out, or two
@@ -37,9 +36,8 @@ pub fn with_byte_changed(rng: &mut Rng, mut texts: [Vec<u8>; 2]) -> [Vec<u8>; 2]
 /// Both texts with a line of one of them left out, doubled, exchanged with
 /// another, or put into the other text.
 pub fn with_line_moved(rng: &mut Rng, texts: [Vec<u8>; 2]) -> [Vec<u8>; 2] {
-    let mut lines = texts.map(|bytes| -> Vec<Vec<u8>> {
-        bytes.split_inclusive(|&byte| byte == b'\n').map(<[u8]>::to_vec).collect()
-    });
+    let mut lines = texts
+        .map(|bytes| -> Vec<Vec<u8>> { bytes.split_inclusive(|&byte| byte == b'\n').map(<[u8]>::to_vec).collect() });
     let text = rng.below(2);
     let count = lines[text].len();
     if count > 0 {

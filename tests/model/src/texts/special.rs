@@ -170,12 +170,8 @@ const ORDERS: [(&str, &[u16]); 38] = [
 /// Every byte in a comment, after an order, and after a number of the names.
 fn comments() -> Vec<Special> {
     let any: Vec<u8> = (0..=255).filter(|&byte| byte != 10).collect();
-    let row = |names: &[u8], script: &[u8], by_hand| Special {
-        names: names.into(),
-        script: script.into(),
-        room: 2,
-        by_hand,
-    };
+    let row =
+        |names: &[u8], script: &[u8], by_hand| Special { names: names.into(), script: script.into(), room: 2, by_hand };
     let mut list = vec![
         row(&[b"a=1;", &any[..]].concat(), &[b"return;", &any[..]].concat(), accepted(&[4352])),
         row(b"a=1;\nb=2", b"return;\nb", accepted(&[4352, 2])),
@@ -233,12 +229,8 @@ fn long_names() -> Vec<Special> {
         let [b, c, longer] = ["b", "c", "bb"].map(|end| format!("{}{end}", "a".repeat(bytes)));
         let shorter = "a".repeat(bytes);
         let names = format!("{b} = 5\n{c} = 6\n");
-        let row = |script: String, by_hand| Special {
-            names: names.clone().into(),
-            script: script.into(),
-            room: 2,
-            by_hand,
-        };
+        let row =
+            |script: String, by_hand| Special { names: names.clone().into(), script: script.into(), room: 2, by_hand };
         list.push(row(format!("{c}\n{b}"), accepted(&[6, 5])));
         list.push(row(format!("{longer}: {c}\n{longer}"), accepted(&[6, 0])));
         list.push(row(format!("{b}\n{shorter}"), refused(NAME, SCRIPT, bytes + 2, bytes)));

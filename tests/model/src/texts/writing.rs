@@ -4,13 +4,12 @@ use crate::rng::Rng;
 use crate::translate::table::is_name;
 
 /// Bytes outside the grammar, wherever they stand before a comment.
-pub const OUTSIDE: &[u8] =
-    b"\0\x01\x08\x0B\x0C\x1F!\"#$%&',./<>?@AFRZ[\\]^`{|}~\x7F\x80\xA0\xB2\xFF";
+pub const OUTSIDE: &[u8] = b"\0\x01\x08\x0B\x0C\x1F!\"#$%&',./<>?@AFRZ[\\]^`{|}~\x7F\x80\xA0\xB2\xFF";
 
 /// Words that are nearly kept ones, or are tokens of another kind nearly.
 const NEARLY_KEPT: [&str; 20] = [
-    "r", "r8", "r9", "r00", "r10", "r0_", "rr0", "loads", "loa", "jumpe", "jumpeqs", "return_",
-    "in", "negates", "finis", "jump_by", "o", "x", "xo", "z_9",
+    "r", "r8", "r9", "r00", "r10", "r0_", "rr0", "loads", "loa", "jumpe", "jumpeqs", "return_", "in", "negates",
+    "finis", "jump_by", "o", "x", "xo", "z_9",
 ];
 
 const LETTERS: &[u8] = b"abcdefghijklmnopqrstuvwxyz";

@@ -45,17 +45,8 @@ const ORDERS: [(&str, u16, Operands); 23] = [
 ];
 
 /// Names of orders that only later editions have; they are kept all the same.
-pub const LATER: [&str; 9] = [
-    "finish",
-    "comparesigned",
-    "jumpby",
-    "jumpbyeq",
-    "jumpbylt",
-    "jumpbygt",
-    "shiftleft",
-    "shiftright",
-    "negate",
-];
+pub const LATER: [&str; 9] =
+    ["finish", "comparesigned", "jumpby", "jumpbyeq", "jumpbylt", "jumpbygt", "shiftleft", "shiftright", "negate"];
 
 const REGISTERS: [&str; 8] = ["r0", "r1", "r2", "r3", "r4", "r5", "r6", "r7"];
 

@@ -1,6 +1,6 @@
 //! The kernels side by side, each behind the same calls.
 
-use baseline::{Measured, Ran, Told, Translated};
+use baseline::{Ran, Size, Told, Translated};
 
 /// Translates names and a script to words in a target.
 pub type Translate = fn(&[u8], &[u8], &mut [u16]) -> Translated;
@@ -10,7 +10,7 @@ pub type Translate = fn(&[u8], &[u8], &mut [u16]) -> Translated;
 pub struct Kernel {
     pub name: &'static str,
     pub check: fn(&[u16]) -> u16,
-    pub size: fn(&[u16]) -> Measured,
+    pub size: fn(&[u16]) -> Size,
     pub build: fn(&[u16], &mut [u16]) -> u16,
     pub event: fn(&mut [u16], [u16; 3]) -> Told,
     pub run: fn(&mut [u16], &[u16]) -> Ran,
@@ -18,26 +18,34 @@ pub struct Kernel {
     pub translate: Option<Translate>,
 }
 
-/// Calls into a kernel's archive, as safe functions on slices.
-macro_rules! archive_calls {
-    ($module:ident, $check:ident, $size:ident, $build:ident, $event:ident, $run:ident) => {
-        mod $module {
-            use baseline::{Measured, Ran, Told};
+/// Declares the calls of a baseline in C.
+macro_rules! baseline_in_c {
+    ($check:ident, $size:ident, $build:ident, $event:ident, $run:ident) => {
+        extern "C" {
+            fn $check(image: *const u16, words: usize) -> u16;
+            fn $size(plan: *const u16, words: usize) -> Size;
+            fn $build(plan: *const u16, plan_words: usize, target: *mut u16, words: usize) -> u16;
+            fn $event(image: *mut u16, words: usize, kind: u16, device: u16, character: u16) -> Told;
+            fn $run(image: *mut u16, words: usize, list: *const u16, list_words: usize) -> Ran;
+        }
+    };
+}
 
-            extern "C" {
-                fn $check(image: *const u16, words: usize) -> u16;
-                fn $size(plan: *const u16, words: usize) -> Measured;
-                fn $build(plan: *const u16, plan_words: usize, target: *mut u16, words: usize) -> u16;
-                fn $event(image: *mut u16, words: usize, kind: u16, device: u16, character: u16) -> Told;
-                fn $run(image: *mut u16, words: usize, list: *const u16, list_words: usize) -> Ran;
-            }
+baseline_in_c!(c_check, c_size, c_build, c_event, c_run);
+baseline_in_c!(switch_check, switch_size, switch_build, switch_event, switch_run);
+
+/// Calls on pointers, as safe functions on slices.
+macro_rules! on_slices {
+    ($module:ident, $check:path, $size:path, $build:path, $event:path, $run:path) => {
+        mod $module {
+            use baseline::{Ran, Size, Told};
 
             // SAFETY, for each call: pointer and count are those of one slice.
             pub fn check(image: &[u16]) -> u16 {
                 unsafe { $check(image.as_ptr(), image.len()) }
             }
 
-            pub fn size(plan: &[u16]) -> Measured {
+            pub fn size(plan: &[u16]) -> Size {
                 unsafe { $size(plan.as_ptr(), plan.len()) }
             }
 
@@ -56,34 +64,36 @@ macro_rules! archive_calls {
     };
 }
 
-archive_calls!(c, c_check, c_size, c_build, c_event, c_run);
-archive_calls!(switch, switch_check, switch_size, switch_build, switch_event, switch_run);
-#[cfg(product)]
-archive_calls!(product, kernel_check, kernel_size, kernel_build, kernel_event, kernel_run);
+on_slices!(c, super::c_check, super::c_size, super::c_build, super::c_event, super::c_run);
+on_slices!(
+    switch,
+    super::switch_check,
+    super::switch_size,
+    super::switch_build,
+    super::switch_event,
+    super::switch_run
+);
+on_slices!(
+    product,
+    kernel::c::kernel_check,
+    kernel::c::kernel_size,
+    kernel::c::kernel_build,
+    kernel::c::kernel_event,
+    kernel::c::kernel_run
+);
 
-#[cfg(product)]
 fn translate_in_product(names: &[u8], script: &[u8], target: &mut [u16]) -> Translated {
-    extern "C" {
-        fn kernel_translate(
-            names: *const u8,
-            names_bytes: usize,
-            script: *const u8,
-            script_bytes: usize,
-            target: *mut u16,
-            target_words: usize,
-        ) -> Translated;
-    }
     let (words, room) = (target.as_mut_ptr(), target.len());
     // SAFETY: pointer and count are those of one slice, three times.
-    unsafe { kernel_translate(names.as_ptr(), names.len(), script.as_ptr(), script.len(), words, room) }
+    unsafe { kernel::c::kernel_translate(names.as_ptr(), names.len(), script.as_ptr(), script.len(), words, room) }
 }
 
 fn event_in_rust(image: &mut [u16], [kind, device, character]: [u16; 3]) -> Told {
     baseline::event(image, kind, device, character)
 }
 
-#[cfg(product)]
-const PRODUCT: Option<Kernel> = Some(Kernel {
+/// The proved kernel.
+const PRODUCT: Kernel = Kernel {
     name: "product",
     check: product::check,
     size: product::size,
@@ -91,9 +101,7 @@ const PRODUCT: Option<Kernel> = Some(Kernel {
     event: product::event,
     run: product::run,
     translate: Some(translate_in_product),
-});
-#[cfg(not(product))]
-const PRODUCT: Option<Kernel> = None;
+};
 
 /// The kernel in safe Rust.
 pub const RUST: Kernel = Kernel {
@@ -128,9 +136,9 @@ const SWITCH: Kernel = Kernel {
     translate: None,
 };
 
-/// The product where it is linked, then the two baselines, then the switch form of one of them.
+/// The product, then the two baselines, then the switch form of one of them.
 pub fn all() -> Vec<Kernel> {
-    PRODUCT.into_iter().chain([RUST, C, SWITCH]).collect()
+    vec![PRODUCT, RUST, C, SWITCH]
 }
 
 /// Those of them that translate: the last is the baseline in Rust.

@@ -1,7 +1,7 @@
 //! The model's vectors, compared with what each kernel does.
 
 use crate::kernels::Kernel;
-use baseline::Measured;
+use baseline::Size;
 use std::fs;
 
 type Outcome = Result<(), String>;
@@ -80,7 +80,7 @@ impl<'a> Reader<'a> {
         let (plan_words, target_words) = (self.count(), self.count());
         let salt = usize::from(self.word());
         let number = self.word();
-        let size = Measured { words: self.count() as u64, number };
+        let size = Size { words: self.count() as u64, number };
         let plan = self.words(plan_words).to_vec();
         let mut target: Vec<u16> = (0..target_words).map(|k| (31 * k + salt) as u16).collect();
         let after = if expected == 0 { self.words(target_words).to_vec() } else { target.clone() };

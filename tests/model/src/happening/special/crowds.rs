@@ -3,9 +3,7 @@
 use super::cell::Cell::{Character, Clock, Flags, Message, Output, Peer, Ready, Status, R};
 use super::cell::{Cell, HEAD, LENGTH, SLOT, TAIL};
 use super::Special;
-use crate::events::answer::{
-    ERROR_STOP, IDLE, ORDER_DONE, SERVICE_DONE, SERVICE_FAULTED, SERVICE_WAITS,
-};
+use crate::events::answer::{ERROR_STOP, IDLE, ORDER_DONE, SERVICE_DONE, SERVICE_FAULTED, SERVICE_WAITS};
 use crate::events::Event;
 use crate::happening::scene::Scene;
 use crate::image::service::{RECEIVE, SEND};
@@ -38,8 +36,7 @@ fn full_messages() -> Scene {
 /// Each task sends to the next, finds the buffer full, and waits.
 fn all_wait_to_send() -> Special {
     let next = |task: usize| word((task + 1) % LARGEST_TASKS);
-    let asking = (0..LARGEST_TASKS)
-        .fold(full_messages(), |scene, task| scene.asks(task, SEND, next(task), 7));
+    let asking = (0..LARGEST_TASKS).fold(full_messages(), |scene, task| scene.asks(task, SEND, next(task), 7));
     let mut special = Special::on(asking);
     for task in 0..LAST {
         let left = [
@@ -58,8 +55,7 @@ fn all_wait_to_send() -> Special {
 /// another until all are ready; then from itself, which wakes nobody, and
 /// then from task 16, which there is not.
 fn all_are_woken() -> Special {
-    let waiting =
-        (0..LAST).fold(full_messages(), |scene, task| scene.waits_to_send(task, word(LAST)));
+    let waiting = (0..LAST).fold(full_messages(), |scene, task| scene.waits_to_send(task, word(LAST)));
     let ready = [&[15, 0, 1, 16][..], &[777; 15], &[15]].concat();
     let first = waiting.asks(LAST, RECEIVE, 0, 9).register(LAST, 0, 2).register(LAST, 4, 1);
     let mut special = Special::on(first.ready(&ready).clock(100));
@@ -71,14 +67,11 @@ fn all_are_woken() -> Special {
         special = special.tick(SERVICE_DONE, word(LAST), &changes);
         special = next_source(special);
     }
-    special
-        .tick(SERVICE_FAULTED, word(LAST), &[(Flags(LAST), 4 * 5)])
-        .answers(ERROR_STOP, word(LAST))
-        .tick(
-            SERVICE_DONE,
-            0,
-            &[(Flags(0), 0), (Message(0, LAST, LENGTH), 1), (Message(0, LAST, SLOT), 0)],
-        )
+    special.tick(SERVICE_FAULTED, word(LAST), &[(Flags(LAST), 4 * 5)]).answers(ERROR_STOP, word(LAST)).tick(
+        SERVICE_DONE,
+        0,
+        &[(Flags(0), 0), (Message(0, LAST, LENGTH), 1), (Message(0, LAST, SLOT), 0)],
+    )
 }
 
 /// What a receive of the last task changes by waking its source, which goes
@@ -125,8 +118,8 @@ fn inputs() -> Special {
 
 /// All tasks wait for output, and come back from the last to the first.
 fn outputs() -> Special {
-    let scene = (0..LARGEST_TASKS)
-        .fold(crowd(), |scene, task| scene.waits_for_output(task, 66).output(task, 64, &FULL));
+    let scene =
+        (0..LARGEST_TASKS).fold(crowd(), |scene, task| scene.waits_for_output(task, 66).output(task, 64, &FULL));
     let mut special = Special::on(scene);
     for woken in 0..LARGEST_TASKS {
         let task = LAST - woken;

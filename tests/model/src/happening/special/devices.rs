@@ -28,12 +28,9 @@ pub fn all() -> Vec<Special> {
 /// An input delivers a character or waits, and does not look at R2.
 fn input_services() -> Vec<Special> {
     let mut list = Vec::new();
-    for (buffer, head, character) in
-        [(SINGLE, 1, 65), ([1, 0, 1, 2, 65, 0], 0, 0), ([1, 0, 1, 2, 65, 255], 0, 255)]
-    {
+    for (buffer, head, character) in [(SINGLE, 1, 65), ([1, 0, 1, 2, 65, 0], 0, 0), ([1, 0, 1, 2, 65, 255], 0, 255)] {
         let scene = Scene::of(2).asks(0, INPUT, 65535, 9).input(0, &buffer);
-        let changes =
-            [(Flags(0), 0), (R(0, 3), character), (Input(0, HEAD), head), (Input(0, LENGTH), 0)];
+        let changes = [(Flags(0), 0), (R(0, 3), character), (Input(0, HEAD), head), (Input(0, LENGTH), 0)];
         list.push(Special::on(scene).tick(SERVICE_DONE, 0, &changes));
     }
     let empty = Scene::of(2).asks(0, INPUT, 65535, 9).input(0, &EMPTY).clock(2);
@@ -45,8 +42,7 @@ fn input_services() -> Vec<Special> {
 /// Inputs until the buffer is full, of a ready task and of others.
 fn inputs() -> Vec<Special> {
     let refused = |device| Event::Input { device, character: 1 }.words();
-    let stored =
-        |character| [(Input(1, TAIL), 1), (Input(1, LENGTH), 1), (Input(1, SLOT), character)];
+    let stored = |character| [(Input(1, TAIL), 1), (Input(1, LENGTH), 1), (Input(1, SLOT), character)];
     let mut list = Vec::new();
     for character in [0, 1, 255] {
         let special = Special::on(Scene::of(2).input(1, &EMPTY).clock(2))
@@ -75,11 +71,7 @@ fn inputs() -> Vec<Special> {
 fn inputs_that_wake() -> Vec<Special> {
     let stored = [(Input(0, TAIL), 1), (Input(0, LENGTH), 1), (Input(0, SLOT), 65), (Status(0), 0)];
     let behind = [(Ready(TAIL), 0), (Ready(LENGTH), 3), (Ready(SLOT + 2), 0)];
-    let of_three = Special::on(Scene::of(3).waits_for_input(0).clock(2)).input(
-        0,
-        65,
-        &[&stored[..], &behind].concat(),
-    );
+    let of_three = Special::on(Scene::of(3).waits_for_input(0).clock(2)).input(0, 65, &[&stored[..], &behind].concat());
     let all_wait = Scene::of(2).waits_for_input(0).waits_for_input(1).register(0, 3, 9);
     let first = [(Clock, 5), (Ready(TAIL), 1), (Ready(LENGTH), 1), (Ready(SLOT), 0)];
     let second = [
@@ -92,10 +84,11 @@ fn inputs_that_wake() -> Vec<Special> {
         (Input(1, SLOT), 66),
     ];
     let served = [(Flags(0), 0), (R(0, 3), 65), (Input(0, HEAD), 1), (Input(0, LENGTH), 0)];
-    let one_by_one = Special::on(all_wait)
-        .input(0, 65, &[&stored[..], &first].concat())
-        .input(1, 66, &second)
-        .tick(SERVICE_DONE, 0, &served);
+    let one_by_one = Special::on(all_wait).input(0, 65, &[&stored[..], &first].concat()).input(1, 66, &second).tick(
+        SERVICE_DONE,
+        0,
+        &served,
+    );
     vec![of_three, one_by_one]
 }
 
@@ -136,13 +129,8 @@ fn output_services() -> Vec<Special> {
     let zero = [(Output(0, HEAD), 1), (Output(0, TAIL), 1), (Output(0, SLOT), 0), (Busy(0), 1)];
     list.push(printed(Scene::of(2).idle_output(0, &EMPTY), 0, &zero));
     let last_slot = Scene::of(2).idle_output(0, &[1, 1, 0, 2, 777, 778]);
-    let wrapped = [
-        (Output(0, HEAD), 0),
-        (Output(0, TAIL), 0),
-        (Output(0, SLOT + 1), 67),
-        (Busy(0), 1),
-        (Character(0), 67),
-    ];
+    let wrapped =
+        [(Output(0, HEAD), 0), (Output(0, TAIL), 0), (Output(0, SLOT + 1), 67), (Busy(0), 1), (Character(0), 67)];
     list.push(printed(last_slot, 67, &wrapped));
     let last_room = [(Output(0, TAIL), 0), (Output(0, LENGTH), 2), (Output(0, SLOT + 1), 67)];
     list.push(printed(Scene::of(2).output(0, 64, &SINGLE), 67, &last_room));
@@ -199,13 +187,8 @@ fn outputs_done_that_wake() -> Vec<Special> {
     let behind = [(Ready(TAIL), 0), (Ready(LENGTH), 3), (Ready(SLOT + 2), 0)];
     let of_three = Special::on(waits(3).clock(2)).output_done(0, &[&moved[..], &behind].concat());
     let first = [(Clock, 5), (Ready(LENGTH), 1), (Ready(SLOT), 0)];
-    let printed =
-        [(Flags(0), 0), (Output(0, TAIL), 1), (Output(0, LENGTH), 2), (Output(0, SLOT), 67)];
-    let alone = Special::on(waits(1)).output_done(0, &[&moved[..], &first].concat()).tick(
-        SERVICE_DONE,
-        0,
-        &printed,
-    );
+    let printed = [(Flags(0), 0), (Output(0, TAIL), 1), (Output(0, LENGTH), 2), (Output(0, SLOT), 67)];
+    let alone = Special::on(waits(1)).output_done(0, &[&moved[..], &first].concat()).tick(SERVICE_DONE, 0, &printed);
     vec![of_three, alone]
 }
 

@@ -3,9 +3,7 @@
 use super::cell::Cell::{Clock, Flags, Message, Peer, Ready, Status, R};
 use super::cell::{Cell, HEAD, LENGTH, SLOT, TAIL};
 use super::{Special, EMPTY, FULL, SINGLE};
-use crate::events::answer::{
-    ERROR_STOP, IDLE, ORDER_DONE, SERVICE_DONE, SERVICE_FAULTED, SERVICE_WAITS,
-};
+use crate::events::answer::{ERROR_STOP, IDLE, ORDER_DONE, SERVICE_DONE, SERVICE_FAULTED, SERVICE_WAITS};
 use crate::happening::scene::Scene;
 use crate::image::service::{RECEIVE, SEND};
 use crate::layout::Frame;
@@ -38,12 +36,7 @@ fn sends() -> Vec<Special> {
     let changes = [(Flags(0), 0), (Message(0, 1, LENGTH), 1), (Message(0, 1, SLOT), 7)];
     list.push(Special::on(scene).tick(SERVICE_DONE, 0, &changes));
     let stopped = Scene::of(2).stopped(1, 4).asks(0, SEND, 1, 7);
-    let changes = [
-        (Flags(0), 0),
-        (Message(0, 1, TAIL), 1),
-        (Message(0, 1, LENGTH), 1),
-        (Message(0, 1, SLOT), 7),
-    ];
+    let changes = [(Flags(0), 0), (Message(0, 1, TAIL), 1), (Message(0, 1, LENGTH), 1), (Message(0, 1, SLOT), 7)];
     list.push(Special::on(stopped).tick(SERVICE_DONE, 0, &changes));
     list
 }
@@ -130,19 +123,10 @@ fn to_itself() -> Vec<Special> {
         .tick(
             SERVICE_DONE,
             0,
-            &[
-                (Flags(0), 0),
-                (Message(0, 0, TAIL), 1),
-                (Message(0, 0, LENGTH), 1),
-                (Message(0, 0, SLOT), 65535),
-            ],
+            &[(Flags(0), 0), (Message(0, 0, TAIL), 1), (Message(0, 0, LENGTH), 1), (Message(0, 0, SLOT), 65535)],
         )
         .tick(ORDER_DONE, 0, &[(Clock, 3), (R(0, 0), 2), (Flags(0), 64)])
-        .tick(
-            SERVICE_DONE,
-            0,
-            &[(Flags(0), 0), (Message(0, 0, HEAD), 1), (Message(0, 0, LENGTH), 0)],
-        )
+        .tick(SERVICE_DONE, 0, &[(Flags(0), 0), (Message(0, 0, HEAD), 1), (Message(0, 0, LENGTH), 0)])
         .tick(ORDER_DONE, 0, &[(Clock, 2), (R(0, 0), 3), (Flags(0), 64)])
         .tick(SERVICE_WAITS, 0, &[(Clock, 0), (Ready(LENGTH), 0), (Status(0), 2)])
         .tick(IDLE, 0, &[]);
@@ -172,17 +156,9 @@ fn passed_on() -> Vec<Special> {
         .answers(ORDER_DONE, 0)
         .answers(SERVICE_WAITS, 0)
         .answers(ORDER_DONE, 1)
-        .tick(
-            SERVICE_DONE,
-            1,
-            &[(Flags(1), 0), (R(1, 3), 0), (Message(0, 1, HEAD), 1), (Message(0, 1, LENGTH), 1)],
-        )
+        .tick(SERVICE_DONE, 1, &[(Flags(1), 0), (R(1, 3), 0), (Message(0, 1, HEAD), 1), (Message(0, 1, LENGTH), 1)])
         .answers(ORDER_DONE, 1)
-        .tick(
-            SERVICE_DONE,
-            1,
-            &[(Flags(1), 0), (R(1, 3), 9), (Message(0, 1, HEAD), 0), (Message(0, 1, LENGTH), 0)],
-        )
+        .tick(SERVICE_DONE, 1, &[(Flags(1), 0), (R(1, 3), 9), (Message(0, 1, HEAD), 0), (Message(0, 1, LENGTH), 0)])
         .answers(ORDER_DONE, 1)
         .tick(SERVICE_WAITS, 1, &[(Clock, 0), (Ready(HEAD), 0), (Ready(LENGTH), 0), (Status(1), 2)])
         .tick(IDLE, 0, &[]);

@@ -65,13 +65,7 @@ impl Special {
         self.accepted(event, answer::OUTPUT_DONE, device, Some(changes.to_vec()))
     }
 
-    fn accepted(
-        mut self,
-        event: Event,
-        kind: u16,
-        task: u16,
-        changes: Option<Vec<(Cell, u16)>>,
-    ) -> Special {
+    fn accepted(mut self, event: Event, kind: u16, task: u16, changes: Option<Vec<(Cell, u16)>>) -> Special {
         let outcome = Ok(Answer { kind, task });
         self.steps.push(Expected { event: event.words(), outcome, changes });
         self
@@ -100,22 +94,12 @@ impl Special {
 
 /// Named words as places of a kernel's image, in ascending order.
 fn placed(kernel: &Kernel, changes: &[(Cell, u16)]) -> Vec<Change> {
-    let mut places: Vec<Change> =
-        changes.iter().map(|&(cell, new)| (word(cell.place(kernel)), new)).collect();
+    let mut places: Vec<Change> = changes.iter().map(|&(cell, new)| (word(cell.place(kernel)), new)).collect();
     places.sort_unstable();
     places
 }
 
 /// Every sequence chosen by hand, the paper's run first.
 pub fn all() -> Vec<Special> {
-    [
-        runs::all(),
-        ticks::all(),
-        messages::all(),
-        wakes::all(),
-        devices::all(),
-        refusals::all(),
-        crowds::all(),
-    ]
-    .concat()
+    [runs::all(), ticks::all(), messages::all(), wakes::all(), devices::all(), refusals::all(), crowds::all()].concat()
 }

@@ -28,10 +28,7 @@ fn refused(scene: Scene, tasks: u16) -> Special {
 
 /// Ticks with a device or a character.
 fn ticks() -> Vec<[u16; 3]> {
-    NOT_ZERO
-        .iter()
-        .flat_map(|&some| [[TICK, some, 0], [TICK, 0, some], [TICK, some, some]])
-        .collect()
+    NOT_ZERO.iter().flat_map(|&some| [[TICK, some, 0], [TICK, 0, some], [TICK, some, some]]).collect()
 }
 
 /// Inputs of no device, of no character, and of neither.

@@ -3,9 +3,7 @@
 use super::cell::Cell::{Clock, Flags, Input, Ready, Status, R};
 use super::cell::{HEAD, LENGTH, SLOT, TAIL};
 use super::{Expected, Special};
-use crate::events::answer::{
-    ERROR_STOP, IDLE, ORDER_DONE, ORDER_FAULTED, SERVICE_DONE, SERVICE_WAITS, TURN_PASSED,
-};
+use crate::events::answer::{ERROR_STOP, IDLE, ORDER_DONE, ORDER_FAULTED, SERVICE_DONE, SERVICE_WAITS, TURN_PASSED};
 use crate::events::Answer;
 use crate::happening::scene::Scene;
 use crate::image::service::{INPUT, RECEIVE};
@@ -63,11 +61,7 @@ fn emptied_and_filled_again() -> Special {
         .tick(SERVICE_WAITS, 0, &gone)
         .tick(IDLE, 0, &[])
         .input(0, 65, &[&back[..], &came].concat())
-        .tick(
-            SERVICE_DONE,
-            0,
-            &[(Flags(0), 0), (R(0, 3), 65), (Input(0, HEAD), 1), (Input(0, LENGTH), 0)],
-        )
+        .tick(SERVICE_DONE, 0, &[(Flags(0), 0), (R(0, 3), 65), (Input(0, HEAD), 1), (Input(0, LENGTH), 0)])
         .tick(ORDER_DONE, 0, &[(Clock, 4), (R(0, 0), 2), (Flags(0), 96)])
         .tick(SERVICE_WAITS, 0, &gone)
         .tick(IDLE, 0, &[])
@@ -96,14 +90,13 @@ fn behind_the_others() -> Special {
 /// An input is taken and wakes none of them.
 fn ring(tasks: usize) -> Special {
     let next = |task| word((task + 1) % tasks);
-    let asking =
-        (0..tasks).fold(Scene::of(tasks), |scene, task| scene.asks(task, RECEIVE, next(task), 9));
-    let waiting = (0..tasks)
-        .fold(Special::on(asking), |special, task| special.answers(SERVICE_WAITS, word(task)));
-    waiting
-        .tick(IDLE, 0, &[])
-        .input(1, 65, &[(Input(1, TAIL), 1), (Input(1, LENGTH), 1), (Input(1, SLOT), 65)])
-        .tick(IDLE, 0, &[])
+    let asking = (0..tasks).fold(Scene::of(tasks), |scene, task| scene.asks(task, RECEIVE, next(task), 9));
+    let waiting = (0..tasks).fold(Special::on(asking), |special, task| special.answers(SERVICE_WAITS, word(task)));
+    waiting.tick(IDLE, 0, &[]).input(1, 65, &[(Input(1, TAIL), 1), (Input(1, LENGTH), 1), (Input(1, SLOT), 65)]).tick(
+        IDLE,
+        0,
+        &[],
+    )
 }
 
 /// Three tasks with S 2, each of which has two orders at a turn.
@@ -111,8 +104,7 @@ fn round_robin() -> Special {
     let mut special = Special::on(Scene::running(3, &[0x0245; 6]).slice(2));
     for turn in 0..6 {
         let task = turn % 3;
-        special =
-            special.answers(ORDER_DONE, task).answers(ORDER_DONE, task).answers(TURN_PASSED, task);
+        special = special.answers(ORDER_DONE, task).answers(ORDER_DONE, task).answers(TURN_PASSED, task);
     }
     special.answers(ORDER_DONE, 0)
 }

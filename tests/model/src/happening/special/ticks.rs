@@ -3,9 +3,7 @@
 use super::cell::Cell::{Clock, Flags, Input, Message, Ready, Status, R};
 use super::cell::{HEAD, LENGTH, SLOT, TAIL};
 use super::Special;
-use crate::events::answer::{
-    ERROR_STOP, IDLE, ORDER_DONE, ORDER_FAULTED, SERVICE_DONE, TURN_PASSED,
-};
+use crate::events::answer::{ERROR_STOP, IDLE, ORDER_DONE, ORDER_FAULTED, SERVICE_DONE, TURN_PASSED};
 use crate::happening::scene::Scene;
 use crate::image::service::{INPUT, OUTPUT, SEND};
 
@@ -62,11 +60,7 @@ fn turns() -> Vec<Special> {
         &[(Clock, 5), (Ready(HEAD), 0), (Ready(TAIL), 1), (Ready(SLOT), 1)],
     );
     let two_of_three = Special::on(Scene::of(3).waits_for_input(1).clock(0))
-        .tick(
-            TURN_PASSED,
-            0,
-            &[(Clock, 5), (Ready(HEAD), 1), (Ready(TAIL), 0), (Ready(SLOT + 2), 0)],
-        )
+        .tick(TURN_PASSED, 0, &[(Clock, 5), (Ready(HEAD), 1), (Ready(TAIL), 0), (Ready(SLOT + 2), 0)])
         .tick(ORDER_DONE, 2, &[(Clock, 4), (R(2, 0), 1)]);
     let full = Special::on(Scene::of(3).clock(0))
         .tick(TURN_PASSED, 0, &[(Clock, 5), (Ready(HEAD), 1), (Ready(TAIL), 1)])
@@ -92,11 +86,7 @@ fn turns_before_services() -> Vec<Special> {
     }
     let alone = Scene::of(1).asks(0, INPUT, 0, 9).input(0, &[0, 1, 1, 2, 65, 0]).clock(0);
     let served = [(Input(0, HEAD), 1), (Input(0, LENGTH), 0), (Flags(0), 0), (R(0, 3), 65)];
-    list.push(Special::on(alone).tick(TURN_PASSED, 0, &[(Clock, 5)]).tick(
-        SERVICE_DONE,
-        0,
-        &served,
-    ));
+    list.push(Special::on(alone).tick(TURN_PASSED, 0, &[(Clock, 5)]).tick(SERVICE_DONE, 0, &served));
     list
 }
 
@@ -117,11 +107,7 @@ fn orders() -> Vec<Special> {
         let scene = Scene::running(2, &[first_word]).clock(1);
         Special::on(scene)
             .tick(ORDER_FAULTED, 0, &[(Clock, 0), (Flags(0), 4 * error)])
-            .tick(
-                ERROR_STOP,
-                0,
-                &[(Clock, 5), (Ready(HEAD), 1), (Ready(LENGTH), 1), (Status(0), 5)],
-            )
+            .tick(ERROR_STOP, 0, &[(Clock, 5), (Ready(HEAD), 1), (Ready(LENGTH), 1), (Status(0), 5)])
             .tick(ORDER_FAULTED, 1, &[(Clock, 4), (Flags(1), 4 * error)])
     };
     [vec![loads, asks], faults.map(fault).to_vec()].concat()
@@ -130,12 +116,7 @@ fn orders() -> Vec<Special> {
 /// A service leaves the clock, an order uses it, and at 0 the turn passes:
 /// from S 1 and clock 1 that is the third tick, and so it is from larger S.
 fn clocks() -> Vec<Special> {
-    let sent = [
-        (Flags(0), 0),
-        (Message(0, 1, TAIL), 1),
-        (Message(0, 1, LENGTH), 1),
-        (Message(0, 1, SLOT), 7),
-    ];
+    let sent = [(Flags(0), 0), (Message(0, 1, TAIL), 1), (Message(0, 1, LENGTH), 1), (Message(0, 1, SLOT), 7)];
     let turned = |slice| [(Clock, slice), (Ready(HEAD), 1), (Ready(TAIL), 1)];
     let of_slice = |slice: u16| {
         let scene = Scene::of(2).slice(slice).asks(0, SEND, 1, 7).clock(1);

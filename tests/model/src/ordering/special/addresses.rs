@@ -12,10 +12,8 @@ type Rows<'a> = &'a [(u16, &'a [Change])];
 /// and jumps, whose address is not looked at.
 pub fn all() -> Vec<Special> {
     let used = [first_words(), second_words(), fetches(), stores(), calls(), returns()].concat();
-    let between = |special: &Special| Special {
-        scene: special.scene.clone().between(),
-        outcome: special.outcome.clone(),
-    };
+    let between =
+        |special: &Special| Special { scene: special.scene.clone().between(), outcome: special.outcome.clone() };
     let of_three = used.iter().map(between).collect();
     [used, of_three, jumps()].concat()
 }
