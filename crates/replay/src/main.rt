@@ -1,4 +1,4 @@
-// Replays the stored test vectors and prints how many cases each number has and how many differ.
+// Replays the stored test vectors and prints how many cases each number has, how many differ, and how many of those that are wrong on purpose were told.
 mod building;
 
 use building::build_answer;
@@ -18,6 +18,7 @@ use vectors::tally::empty;
 use vectors::tally::listed;
 use vectors::tally::print_tally;
 use vectors::tally::spoiled;
+use vectors::tally::with_wrong;
 
 // The most words of an image, a plan or a target.
 const MOST_WORDS: usize = 70000;
@@ -71,8 +72,8 @@ fn answer_to(fd: i32, kind: Kind, words: &mut [u16], target: &mut [u16], head: H
     }
 }
 
-// The tally with one more record replayed.
-fn replay_one(
+// The tally with one more record, as it stands.
+fn record_tally(
     fd: i32,
     kind: Kind,
     words: &mut [u16],
@@ -85,6 +86,22 @@ fn replay_one(
     }
     let answer = answer_to(fd, kind, words, target, head);
     answered(tally, head.number, answer)
+}
+
+// The tally with one more record replayed: alone where it is wrong on purpose.
+fn replay_one(
+    fd: i32,
+    kind: Kind,
+    words: &mut [u16],
+    target: &mut [u16],
+    head: Head,
+    tally: Tally,
+) -> Tally {
+    if !head.wrong {
+        return record_tally(fd, kind, words, target, head, tally);
+    }
+    let alone = record_tally(fd, kind, words, target, head, empty());
+    with_wrong(tally, alone)
 }
 
 // The tally of a file's records up to its end or a bad one.

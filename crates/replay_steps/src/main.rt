@@ -1,4 +1,4 @@
-// Replays the stored orders, events and runs and prints how many cases each number has and how many differ.
+// Replays the stored orders, events and runs and prints how many cases each number has, how many differ, and how many of those that are wrong on purpose were told.
 use event_cases::cases::event_tally;
 use order_cases::cases::orders_tally;
 use run_cases::cases::run_tally;
@@ -16,8 +16,10 @@ use vectors::tally::EVENT_NUMBERS;
 use vectors::tally::ORDER_NUMBERS;
 use vectors::tally::RUN_NUMBERS;
 use vectors::tally::Tally;
+use vectors::tally::empty;
 use vectors::tally::print_tally;
 use vectors::tally::spoiled;
+use vectors::tally::with_wrong;
 ghost use mathlib.Core.Path.{_≡_};
 ghost use Prim.Native.Nat.{_≤_};
 ghost use lib.ListN.{length};
@@ -32,7 +34,7 @@ const KIND_EVENT: u16 = 5;
 // The kind of a record that has a run on the image to go by.
 const KIND_RUN: u16 = 6;
 
-// The tally with a record on the image to go by.
+// The tally with a record on the image to go by, as it stands.
 fn record_tally(
     fd: i32,
     shapes: &[u16; 256],
@@ -56,6 +58,25 @@ fn record_tally(
     spoiled(tally)
 }
 
+// The tally with a record on the image to go by: alone where it is wrong on purpose.
+fn marked_tally(
+    fd: i32,
+    shapes: &[u16; 256],
+    trial: &mut [u16],
+    image: &mut [u16],
+    head: Head,
+    tally: Tally,
+) -> Tally
+    requires { ⌜ Shapes (now shapes) ⌝ }
+    requires { ⌜ length (now trial) ≡ length (now image) ⌝ }
+{
+    if !head.wrong {
+        return record_tally(fd, shapes, trial, image, head, tally);
+    }
+    let alone = record_tally(fd, shapes, trial, image, head, empty());
+    with_wrong(tally, alone)
+}
+
 // One more record replayed.
 fn replay_one(
     fd: i32,
@@ -75,7 +96,7 @@ fn replay_one(
     if head.kind == KIND_IMAGE {
         return replay_image(fd, image, head, tally);
     }
-    let more = record_tally(
+    let more = marked_tally(
         fd,
         shapes,
         &mut trial[..held],

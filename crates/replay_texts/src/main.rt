@@ -1,4 +1,4 @@
-// Replays the stored translations of texts and prints how many cases each number has and how many differ.
+// Replays the stored translations of texts and prints how many cases each number has, how many differ, and how many of those that are wrong on purpose were told.
 mod translating;
 
 use translating::translate_answer;
@@ -13,6 +13,7 @@ use vectors::tally::empty;
 use vectors::tally::listed;
 use vectors::tally::print_tally;
 use vectors::tally::spoiled;
+use vectors::tally::with_wrong;
 
 // A text has fewer bytes than this.
 const TEXT_END: usize = 70000;
@@ -23,8 +24,8 @@ const MOST_WORDS: usize = 4096;
 // The kind of a record that translates a script with its names.
 const KIND_TEXTS: u16 = 7;
 
-// The tally with one more record replayed.
-fn replay_one(
+// The tally with one more record, as it stands.
+fn record_tally(
     fd: i32,
     names: &mut [u8],
     script: &mut [u8],
@@ -37,6 +38,22 @@ fn replay_one(
     }
     let answer = translate_answer(fd, names, script, target, head);
     answered(tally, head.number, answer)
+}
+
+// The tally with one more record replayed: alone where it is wrong on purpose.
+fn replay_one(
+    fd: i32,
+    names: &mut [u8],
+    script: &mut [u8],
+    target: &mut [u16],
+    head: Head,
+    tally: Tally,
+) -> Tally {
+    if !head.wrong {
+        return record_tally(fd, names, script, target, head, tally);
+    }
+    let alone = record_tally(fd, names, script, target, head, empty());
+    with_wrong(tally, alone)
 }
 
 // The tally of a file's records up to its end or a bad one.

@@ -33,6 +33,9 @@ const LOW_AT: usize = 2;
 // The place of the high word of the count.
 const HIGH_AT: usize = 3;
 
+// Added to the kind of a record that is wrong on purpose.
+const WRONG: u16 = 256;
+
 // A file with this many records or more is bad.
 pub const RECORDS_END: u64 = 4294967296;
 
@@ -43,9 +46,10 @@ pub enum Found {
     Nothing,
 }
 
-// The words that each record starts with: the count is that of the words under test.
+// The words that each record starts with: the kind, whether it is wrong on purpose, the expected number, and the count of the words under test.
 pub struct Head {
     pub kind: u16,
+    pub wrong: bool,
     pub number: u16,
     pub count: usize,
 }
@@ -126,16 +130,24 @@ pub fn read_text(fd: i32, bytes: &mut [u8], count: usize) -> Found
     if got == size { Found::All } else { Found::Part }
 }
 
+// The head of a record from its words.
+fn head_of(words: &[u16; HEAD_WORDS]) -> Head {
+    let first = words[KIND_AT];
+    let wrong = first >= WRONG;
+    Head {
+        kind: if wrong { first - WRONG } else { first },
+        wrong: wrong,
+        number: words[NUMBER_AT],
+        count: wide(words[LOW_AT], words[HIGH_AT]),
+    }
+}
+
 // Reads the head of the next record.
 pub fn read_head(fd: i32) -> Next {
     let mut words = [0u16; HEAD_WORDS];
     let found = read_words(fd, &mut words, HEAD_WORDS);
     match found {
-        Found::All => Next::Record(Head {
-            kind: words[KIND_AT],
-            number: words[NUMBER_AT],
-            count: wide(words[LOW_AT], words[HIGH_AT]),
-        }),
+        Found::All => Next::Record(head_of(&words)),
         Found::Part => Next::Bad,
         Found::Nothing => Next::End,
     }

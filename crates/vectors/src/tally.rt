@@ -47,10 +47,12 @@ pub enum Answer {
     Bad,
 }
 
-// The cases replayed so far, by expected number; those that differ; whether a record was bad.
+// The cases replayed so far, by expected number; those that differ; the records that are wrong on purpose, and those of them that were told to differ; whether a record was bad.
 pub struct Tally {
     pub cases: [u64; NUMBERS],
     pub differ: u64,
+    pub wrong: u64,
+    pub told: u64,
     pub bad: bool,
 }
 
@@ -91,6 +93,8 @@ pub fn empty() -> Tally {
     Tally {
         cases: [0; NUMBERS],
         differ: 0,
+        wrong: 0,
+        told: 0,
         bad: false,
     }
 }
@@ -121,6 +125,18 @@ pub fn answered(tally: Tally, number: u16, answer: Answer) -> Tally {
         Answer::Differs => counted(tally, number, true),
         Answer::Bad => spoiled(tally),
     }
+}
+
+// The tally with one more record that is wrong on purpose, and what replaying it alone came to.
+pub fn with_wrong(mut tally: Tally, alone: Tally) -> Tally {
+    if alone.bad {
+        return spoiled(tally);
+    }
+    tally.wrong = more(tally.wrong);
+    if alone.differ > 0 {
+        tally.told = more(tally.told);
+    }
+    tally
 }
 
 // How many cases a number has.
@@ -158,4 +174,8 @@ pub fn print_tally(name: &[u8], numbers: &[u16], tally: Tally) {
     print_numbers(name, numbers, tally);
     io::print_decimal(STDOUT_FILENO, tally.differ);
     io::write_all(STDOUT_FILENO, b" differ\n");
+    io::print_decimal(STDOUT_FILENO, tally.wrong);
+    io::write_all(STDOUT_FILENO, b" wrong ones, ");
+    io::print_decimal(STDOUT_FILENO, tally.told);
+    io::write_all(STDOUT_FILENO, b" told\n");
 }

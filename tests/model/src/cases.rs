@@ -15,6 +15,7 @@ pub const CROWD: Frame = Frame { tasks: 16, slice: 5, input: 1, output: 2, messa
 pub const LARGEST: Frame = Frame { tasks: 16, slice: 65535, input: 32, output: 32, message: 32 };
 
 /// A list of words and the number that the check must give for it.
+#[derive(Clone, Debug, PartialEq, Eq)]
 pub struct Case {
     pub expected: u16,
     pub words: Vec<u16>,

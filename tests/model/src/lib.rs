@@ -32,3 +32,4 @@ pub mod runs;
 pub mod texts;
 pub mod translate;
 pub mod vectors;
+pub mod wrong;

@@ -5,7 +5,7 @@
 use model::events::Answer;
 use model::happening::many::{self, Sights};
 use model::rng::Rng;
-use model::{building, cases, happening, ordering, runner_files, running, texts, vectors};
+use model::{building, cases, happening, ordering, runner_files, running, texts, vectors, wrong};
 use std::fs::{self, File};
 use std::io::{BufWriter, Write};
 use std::path::Path;
@@ -74,7 +74,7 @@ fn make_file(command: &str, seed: u64, count: usize, file: &str) -> Result<(), S
 /// Writes the check's vectors and prints how many there are of each number.
 fn check_vectors(seed: u64, count: usize, file: &str) -> Result<(), String> {
     let cases = cases::collect(seed, count);
-    write(file, &vectors::encode(&cases, vectors::check_record))?;
+    write(file, &cases, vectors::check_record, &wrong::checks())?;
     let rows = cases.iter().map(|case| (case.expected, 1));
     report("number", &tally(&[0, 1, 2, 3, 4, 5, 6], rows));
     total(cases.len());
@@ -84,7 +84,7 @@ fn check_vectors(seed: u64, count: usize, file: &str) -> Result<(), String> {
 /// Writes the build's vectors and prints how many there are of each number.
 fn build_vectors(seed: u64, count: usize, file: &str) -> Result<(), String> {
     let cases = building::collect(seed, count);
-    write(file, &vectors::encode(&cases, vectors::build_record))?;
+    write(file, &cases, vectors::build_record, &wrong::builds())?;
     report("number", &tally(&[0, 3, 11, 12], cases.iter().map(|case| (case.expected, 1))));
     total(cases.len());
     Ok(())
@@ -93,7 +93,7 @@ fn build_vectors(seed: u64, count: usize, file: &str) -> Result<(), String> {
 /// Writes the vectors of orders and prints how many there are of each outcome.
 fn order_vectors(seed: u64, count: usize, file: &str) -> Result<(), String> {
     let groups = ordering::collect(seed, count);
-    write(file, &vectors::encode(&groups, vectors::order_records))?;
+    write(file, &groups, vectors::order_records, &wrong::orders())?;
     let cases = groups.iter().flat_map(|group| &group.cases);
     let rows = cases.clone().map(|case| (case.expected, case.span));
     report("number", &tally(&[0, 1, 2, 3, 4], rows));
@@ -105,7 +105,7 @@ fn order_vectors(seed: u64, count: usize, file: &str) -> Result<(), String> {
 /// and of each number; fails where there is none of one.
 fn event_vectors(seed: u64, count: usize, file: &str) -> Result<(), String> {
     let sequences = happening::collect(seed, count);
-    write(file, &vectors::encode(&sequences, vectors::event_records))?;
+    write(file, &sequences, vectors::event_records, &wrong::events())?;
     let steps = sequences.iter().flat_map(|sequence| &sequence.steps);
     let outcomes: Vec<_> = steps.map(|step| step.outcome).collect();
     report_outcomes(&outcomes, 1)
@@ -115,7 +115,7 @@ fn event_vectors(seed: u64, count: usize, file: &str) -> Result<(), String> {
 /// how many events they take; fails where there is none of a number.
 fn run_vectors(seed: u64, count: usize, file: &str) -> Result<(), String> {
     let courses = running::collect(seed, count);
-    write(file, &vectors::encode(&courses, vectors::run_records))?;
+    write(file, &courses, vectors::run_records, &wrong::runs())?;
     let cases = courses.iter().flat_map(|course| &course.cases);
     let numbers = tally(&RUN_NUMBERS, cases.clone().map(|case| (case.number, 1)));
     report("number", &numbers);
@@ -128,7 +128,7 @@ fn run_vectors(seed: u64, count: usize, file: &str) -> Result<(), String> {
 /// fails where there are too few of one.
 fn text_vectors(seed: u64, count: usize, file: &str) -> Result<(), String> {
     let cases = texts::collect(seed, count);
-    write(file, &vectors::encode(&cases, vectors::text_record))?;
+    write(file, &cases, vectors::text_record, &wrong::translations())?;
     let numbers = tally(&TEXT_NUMBERS, cases.iter().map(|case| (case.translation.number, 1)));
     report("number", &numbers);
     total(cases.len());
@@ -182,10 +182,13 @@ fn runner_cases(folder: &Path) -> Result<(), String> {
     Ok(())
 }
 
-/// Writes a file and prints its size.
-fn write(file: &str, bytes: &[u8]) -> Result<(), String> {
-    fs::write(file, bytes).map_err(|error| format!("{file}: {error}"))?;
+/// Writes a file of cases and of wrong records, and prints its size and how many
+/// are wrong.
+fn write<C>(file: &str, cases: &[C], record: fn(&C) -> Vec<u16>, wrong: &[Vec<u16>]) -> Result<(), String> {
+    let bytes = vectors::encode_with(cases, record, wrong);
+    fs::write(file, &bytes).map_err(|error| format!("{file}: {error}"))?;
     println!("{} bytes", bytes.len());
+    println!("{} wrong ones", wrong.len());
     Ok(())
 }
 

@@ -1,6 +1,9 @@
 //! The file of vectors: little-endian 16-bit words, one record after another
 //! until the end of the file. A count is two words, low and high 16 bits.
 //!
+//! A record that is wrong on purpose has 256 more in its first word. After one
+//! on an image comes another image, or the end.
+//!
 //! A record of kind 1, the check of an image:
 //!
 //! | word of a record | holds |
@@ -110,15 +113,38 @@ pub const RUN: u16 = 6;
 /// The kind of record that holds a script, its names and their translation.
 pub const TEXT: u16 = 7;
 
+/// Added to the kind of a record that is wrong on purpose.
+const WRONG: u16 = 256;
+
+/// Where an event's record has the answer's kind and its task.
+pub const ANSWER_KIND_AT: usize = 7;
+pub const ANSWER_TASK_AT: usize = 8;
+
 /// The most changes of one order or one event.
 pub const MOST_CHANGES: usize = 16;
 
 /// What stands for both words of the answer that a refused event has not.
 const NO_ANSWER: u16 = 65535;
 
-/// The bytes of a file that holds these cases, each as its record.
+/// The bytes of these cases, each as its record.
 pub fn encode<C>(cases: &[C], record: fn(&C) -> Vec<u16>) -> Vec<u8> {
     cases.iter().flat_map(record).flat_map(u16::to_le_bytes).collect()
+}
+
+/// The bytes of a file that holds these cases, and then the wrong records.
+pub fn encode_with<C>(cases: &[C], record: fn(&C) -> Vec<u16>, wrong: &[Vec<u16>]) -> Vec<u8> {
+    [encode(cases, record), encode(wrong, Vec::clone)].concat()
+}
+
+/// The record with the mark of one that is wrong on purpose.
+pub fn marked(mut record: Vec<u16>) -> Vec<u16> {
+    record[0] += WRONG;
+    record
+}
+
+/// A record of kind 3, and one on its image.
+pub fn after_image(image: &[u16], record: Vec<u16>) -> Vec<u16> {
+    [image_record(image), record].concat()
 }
 
 /// The words of a record of kind 1.
@@ -173,7 +199,7 @@ fn image_record(image: &[u16]) -> Vec<u16> {
 }
 
 /// The words of a record of kind 4.
-fn order_record(case: &ordering::Case) -> Vec<u16> {
+pub fn order_record(case: &ordering::Case) -> Vec<u16> {
     let mut words = vec![ORDER, case.expected];
     words.extend(count(case.span));
     words.extend([word(case.place), case.first, word(case.changes.len())]);
@@ -182,7 +208,7 @@ fn order_record(case: &ordering::Case) -> Vec<u16> {
 }
 
 /// The words of a record of kind 5.
-fn event_record(step: &happening::Step) -> Vec<u16> {
+pub fn event_record(step: &happening::Step) -> Vec<u16> {
     let mut words = vec![EVENT, step.outcome.err().unwrap_or(numbers::GOOD)];
     words.extend(count(step.changes.len()));
     words.extend(step.event);
@@ -192,7 +218,7 @@ fn event_record(step: &happening::Step) -> Vec<u16> {
 }
 
 /// The words of a record of kind 6.
-fn run_record(case: &running::Case) -> Vec<u16> {
+pub fn run_record(case: &running::Case) -> Vec<u16> {
     let mut words = vec![RUN, case.number];
     words.extend(count(case.list.len()));
     words.extend(count(case.taken));

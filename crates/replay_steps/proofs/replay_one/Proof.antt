@@ -6,14 +6,14 @@ use borrow.Author.Needs.{needs}
 use Rattle.replay_steps.proofs.replay_one.Statement.{statement}
 use Rattle.replay_steps.proofs.replay_one.Tie as tie
 
-slice-aggregate-record-tally : tie.Need-slice-aggregate-record-tally
-slice-aggregate-record-tally c = sym (length-take-le _ _ (search needs))
+slice-aggregate-marked-tally : tie.Need-slice-aggregate-marked-tally
+slice-aggregate-marked-tally c = sym (length-take-le _ _ (search needs))
 
-slice-aggregate-record-tally-2 : tie.Need-slice-aggregate-record-tally-2
-slice-aggregate-record-tally-2 c = sym (length-take-le _ _ (search needs))
+slice-aggregate-marked-tally-2 : tie.Need-slice-aggregate-marked-tally-2
+slice-aggregate-marked-tally-2 c = sym (length-take-le _ _ (search needs))
 
-record-tally-requires : tie.Need-record-tally-requires
-record-tally-requires c κs = (search needs, simp (length-take, c .before .before .before .before .before .before .before .pre .1 .0))
+marked-tally-requires : tie.Need-marked-tally-requires
+marked-tally-requires c κs = (search needs, simp (length-take, c .before .before .before .before .before .before .before .pre .1 .0))
 
 pub replay-one-spec : {M : Type 1} → statement M
 replay-one-spec =
@@ -23,10 +23,10 @@ replay-one-spec =
     (λ c. search needs)
     (λ c. search needs)
     (λ c. search needs)
-    slice-aggregate-record-tally
+    slice-aggregate-marked-tally
     (λ c. search needs)
-    slice-aggregate-record-tally-2
-    record-tally-requires
+    slice-aggregate-marked-tally-2
+    marked-tally-requires
     (λ c. search needs)
     (λ c. search needs)
     (λ c. search needs))

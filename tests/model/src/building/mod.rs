@@ -18,6 +18,7 @@ const LARGEST_RANDOM_TOTAL: usize = 2000;
 
 /// A plan, what its size call gives, what its build gives, and the target's
 /// words after the build. Before it they are those of `filled`.
+#[derive(Clone, Debug, PartialEq, Eq)]
 pub struct Case {
     pub plan: Vec<u16>,
     pub size: Result<usize, u16>,

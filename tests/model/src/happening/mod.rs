@@ -44,7 +44,7 @@ impl Sequence {
 
 impl Step {
     /// Carries out an event on a kernel, which must stay good.
-    fn judged(kernel: &mut Kernel, event: [u16; 3]) -> Step {
+    pub fn judged(kernel: &mut Kernel, event: [u16; 3]) -> Step {
         let before = kernel.encode();
         let outcome = happen(kernel, event);
         let after = kernel.encode();

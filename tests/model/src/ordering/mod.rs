@@ -23,6 +23,7 @@ pub struct Group {
 
 /// Neighbouring words for one place of an image, with each of which the order
 /// of the first task has the same outcome and changes the same words.
+#[derive(Clone, Debug, PartialEq, Eq)]
 pub struct Case {
     pub expected: u16,
     pub span: usize,
@@ -34,7 +35,7 @@ pub struct Case {
 
 impl Group {
     /// An image with one case for each of these words at a place.
-    fn judged(kernel: &Kernel, place: usize, words: impl IntoIterator<Item = u16>) -> Group {
+    pub fn judged(kernel: &Kernel, place: usize, words: impl IntoIterator<Item = u16>) -> Group {
         let mut group = Group { image: kernel.encode(), cases: Vec::new() };
         words.into_iter().for_each(|word| group.judge(place, word));
         group

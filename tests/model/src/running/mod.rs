@@ -31,14 +31,14 @@ pub struct Case {
 
 impl Course {
     /// An image, good or bad, before any run.
-    fn on(image: Vec<u16>) -> Course {
+    pub fn on(image: Vec<u16>) -> Course {
         assert!(image.len() <= LARGEST_TOTAL, "an image of {} words", image.len());
         Course { stands: image.clone(), image, cases: Vec::new() }
     }
 
     /// Adds the run of a list on the image that stands, with what the model
     /// gives. The check's number of the image must stay what it is.
-    fn judge(&mut self, list: Vec<u16>) -> &Case {
+    pub fn judge(&mut self, list: Vec<u16>) -> &Case {
         let before = check(&self.stands);
         let ran = run(&self.stands, &list);
         assert_eq!(check(&ran.image), before, "a run does not keep {:?}", self.stands);

@@ -1,0 +1,252 @@
+//! Records that are wrong on purpose: in each, one thing that the model says is
+//! said otherwise. What replays the vectors must tell that each differs.
+
+use crate::changes::Change;
+use crate::events::Answer;
+use crate::happening::scene::Scene;
+use crate::image::Kernel;
+use crate::numbers;
+use crate::translate::SCRIPT;
+use crate::vectors::{self, marked};
+use crate::{building, cases, happening, ordering, running, texts};
+
+/// The paper's plan, the words of its image, and a word that none of them is.
+const PLAN: [u16; 9] = [1, 2, 1, 1, 1, 4, 2, 4656, 4672];
+const IMAGE_WORDS: usize = 57;
+const LAST: u16 = 56;
+const OTHER: u16 = 51966;
+
+/// A plan whose image is compared in more than one part, and that image's words.
+const LONG_PLAN: [u16; 7] = [1, 2, 1, 1, 1, 9000, 0];
+const LONG_WORDS: usize = 9053;
+
+/// N out of range.
+const PLAN_OF_NONE: [u16; 5] = [0, 2, 1, 1, 1];
+
+/// More than the low word of a count holds.
+const HIGH: usize = 65536;
+
+const TICK: [u16; 3] = [0, 0, 0];
+const LETTER: [u16; 3] = [1, 0, 65];
+const DONE: [u16; 3] = [2, 0, 0];
+
+/// First words of orders that follow one another: two that fault, and two that
+/// leave 1 in R0.
+const NEIGHBOURS: std::ops::RangeInclusive<u16> = 0x01FE..=0x0201;
+
+/// Says one thing otherwise.
+type Slip<C> = fn(&mut C);
+
+/// The words that are changed, said otherwise: another word for the first and
+/// for the last, either left out, the image's first word and its last too.
+const CHANGES: [Slip<Vec<Change>>; 6] = [
+    |changes| changes[0].1 = OTHER,
+    |changes| changes.last_mut().expect("a last change").1 = OTHER,
+    |changes| *changes = changes.split_off(1),
+    |changes| changes.truncate(changes.len() - 1),
+    |changes| changes.insert(0, (0, OTHER)),
+    |changes| changes.push((LAST, OTHER)),
+];
+
+/// A right case with each of these slips.
+fn each<C: Clone + PartialEq, const N: usize>(right: &C, slips: [Slip<C>; N]) -> Vec<C> {
+    slips.map(|slip| slipped(right, slip)).into()
+}
+
+/// A right case with each slip in what it changes.
+fn each_change<C: Clone + PartialEq>(right: &C, changes: fn(&mut C) -> &mut Vec<Change>) -> Vec<C> {
+    CHANGES.map(|slip| slipped(right, |case| slip(changes(case)))).into()
+}
+
+fn slipped<C: Clone + PartialEq>(right: &C, slip: impl Fn(&mut C)) -> C {
+    let mut case = right.clone();
+    slip(&mut case);
+    assert!(case != *right, "a slip that is none");
+    case
+}
+
+/// The paper's image, fresh.
+fn papers() -> Kernel {
+    Scene::planned(&PLAN).kernel()
+}
+
+/// The records of checks: of each number an image that is said to have another.
+pub fn checks() -> Vec<Vec<u16>> {
+    let changed = |place: usize, word: u16| {
+        let mut image = papers().encode();
+        image[place] = word;
+        image
+    };
+    let lists =
+        [papers().encode(), vec![], changed(0, 0), changed(2, 0), changed(7, 0), changed(16, 0), changed(17, 3)];
+    let wrong = (0..).zip(lists).map(|(number, words)| {
+        let right = cases::Case::judged(words);
+        assert_eq!(right.expected, number);
+        cases::Case { expected: (number + 1) % 7, ..right }
+    });
+    wrong.map(|case| marked(vectors::check_record(&case))).collect()
+}
+
+/// The records of builds: the size, the numbers, and a word of the target.
+pub fn builds() -> Vec<Vec<u16>> {
+    let judged = |plan: &[u16], words| building::Case::judged(plan.to_vec(), words, OTHER);
+    let wrong = [
+        each(
+            &judged(&PLAN, IMAGE_WORDS),
+            [
+                |case| case.size = Ok(IMAGE_WORDS + 1),
+                |case| case.size = Ok(IMAGE_WORDS + HIGH),
+                |case| case.target[0] = OTHER,
+                |case| case.target[IMAGE_WORDS / 2] = OTHER,
+                |case| case.target[IMAGE_WORDS - 1] = OTHER,
+            ],
+        ),
+        each(
+            &judged(&LONG_PLAN, LONG_WORDS),
+            [
+                |case| case.target[0] = OTHER,
+                |case| case.target[LONG_WORDS / 2] = OTHER,
+                |case| case.target[LONG_WORDS - 1] = OTHER,
+            ],
+        ),
+        each(
+            &judged(&PLAN_OF_NONE, IMAGE_WORDS),
+            [|case| case.expected = numbers::PLAN, |case| case.size = Err(numbers::PLAN)],
+        ),
+        each(&judged(&PLAN, IMAGE_WORDS + 1), [|case| case.expected = numbers::PLAN]),
+    ];
+    wrong.iter().flatten().map(|case| marked(vectors::build_record(case))).collect()
+}
+
+/// The records of orders, each after its image: the outcome, each word that is
+/// changed or not, and one word of a span.
+pub fn orders() -> Vec<Vec<u16>> {
+    let kernel = Scene::planned(&PLAN).register(0, 1, 1).kernel();
+    let group = ordering::Group::judged(&kernel, kernel.base(0), NEIGHBOURS);
+    let [faulted, copied] = &group.cases[..] else { panic!("two outcomes") };
+    let wrong = [
+        each_change(faulted, |case| &mut case.changes),
+        each(faulted, [|case| case.expected = 3, |case| case.span += 1]),
+        each(
+            copied,
+            [
+                |case| case.expected = 2,
+                |case| {
+                    case.first -= 1;
+                    case.span += 1;
+                },
+            ],
+        ),
+    ];
+    let record = |case| vectors::after_image(&group.image, marked(vectors::order_record(case)));
+    wrong.iter().flatten().map(record).collect()
+}
+
+/// The records of events, each after its image: number, kind and task, and each
+/// word that is changed or not.
+pub fn events() -> Vec<Vec<u16>> {
+    let image = papers().encode();
+    let judged = |event| happening::Step::judged(&mut papers(), event);
+    let wrong = [
+        each_change(&judged(TICK), |step| &mut step.changes),
+        each(&judged(TICK), [|step| answer(step).kind = 7, |step| answer(step).task = 1]),
+        each(
+            &judged(DONE),
+            [|step| step.outcome = Err(numbers::INPUT_FULL), |step| step.outcome = Err(numbers::EVENT)],
+        ),
+    ];
+    let records = wrong.iter().flatten().map(vectors::event_record);
+    let unanswered = [vectors::ANSWER_KIND_AT, vectors::ANSWER_TASK_AT].map(|at| {
+        let mut words = vectors::event_record(&judged(DONE));
+        words[at] = 0;
+        words
+    });
+    records.chain(unanswered).map(|words| vectors::after_image(&image, marked(words))).collect()
+}
+
+/// The answer of an event that is accepted.
+fn answer(step: &mut happening::Step) -> &mut Answer {
+    step.outcome.as_mut().expect("an accepted event")
+}
+
+/// The records of runs, each after its image: the number, the count of events
+/// taken, and each word that is changed or not.
+pub fn runs() -> Vec<Vec<u16>> {
+    let list = [TICK, TICK, TICK, LETTER, TICK, TICK, TICK, TICK, TICK, DONE, DONE].concat();
+    let mut good = running::Course::on(papers().encode());
+    let right = good.judge(list.clone());
+    let counted =
+        each(right, [|case| case.number = numbers::INPUT_FULL, |case| case.taken += 1, |case| case.taken += HIGH]);
+    let ran = [each_change(right, |case| &mut case.changes), counted].concat();
+    let mut bad = running::Course::on(vec![]);
+    let refused = each(bad.judge(list), [|case| case.number = numbers::MARK_OR_EDITION, |case| case.taken = 1]);
+    let records = |image: &[u16], cases: &[running::Case]| {
+        let record = |case| vectors::after_image(image, marked(vectors::run_record(case)));
+        cases.iter().map(record).collect::<Vec<_>>()
+    };
+    [records(&good.image, &ran), records(&bad.image, &refused)].concat()
+}
+
+/// The records of texts: the number, each part of the refused line, and the
+/// count of words and each word.
+pub fn translations() -> Vec<Vec<u16>> {
+    let judged = |names: &[u8], script: &[u8]| texts::Case::judged(names.into(), script.into(), 6, OTHER);
+    let wrong = [
+        // The same refused line stands in both texts, and twice in each.
+        each(
+            &judged(b"1 1\n1 1\n", b"1 1\n1 1\n"),
+            [
+                |case| case.translation.number = numbers::NAME,
+                |case| case.translation.text = SCRIPT,
+                |case| case.translation.start = 4,
+                |case| case.translation.start += HIGH,
+                |case| case.translation.bytes -= 1,
+                |case| case.translation.bytes += 1,
+                |case| case.translation.bytes += HIGH,
+            ],
+        ),
+        each(
+            &judged(b"", b"7\n8\n9\n"),
+            [
+                |case| case.translation.text = SCRIPT,
+                |case| case.translation.start = 2,
+                |case| case.translation.bytes = 1,
+                |case| case.translation.words[0] = OTHER,
+                |case| case.translation.words[1] = OTHER,
+                |case| case.translation.words[2] = OTHER,
+                |case| case.translation.words.push(building::filled(4, OTHER)[3]),
+            ],
+        ),
+    ];
+    wrong.iter().flatten().map(|case| marked(vectors::text_record(case))).collect()
+}
+
+#[cfg(test)]
+mod tests {
+    use super::*;
+
+    #[test]
+    fn a_wrong_record_is_marked_and_stands_after_its_own_image() {
+        let image = papers().encode().len();
+        for (kind, records) in [(1, checks()), (2, builds()), (7, translations())] {
+            assert!(records.iter().all(|words| words[0] == 256 + kind));
+        }
+        for (kind, records) in [(4, orders()), (5, events())] {
+            assert!(records.iter().all(|words| (words[0], words[4 + image]) == (3, 256 + kind)));
+        }
+        assert!(runs().iter().all(|words| (words[0], words[4 + usize::from(words[2])]) == (3, 256 + 6)));
+    }
+
+    /// One word more that is right: only the count is wrong.
+    #[test]
+    fn the_word_past_a_script_is_the_targets_own() {
+        let records = translations();
+        let [.., three, four] = &records[..] else { panic!("two records") };
+        assert_eq!((three[14], four[14]), (3, 4));
+        assert_eq!(four.last(), Some(&word_of_target(3)));
+    }
+
+    fn word_of_target(place: usize) -> u16 {
+        ((31 * place + usize::from(OTHER)) % 65536) as u16
+    }
+}
