@@ -1,6 +1,6 @@
 //! Long runs of several tasks, chosen by a seed.
 
-use super::{bytes, Case};
+use super::{buffers, bytes, Case};
 use crate::layout::{Frame, LARGEST_TASKS};
 use crate::lively;
 use crate::plan;
@@ -8,7 +8,7 @@ use crate::rng::Rng;
 use crate::running::events;
 
 /// A run of which the runner reads its events in many parts.
-const EVENTS: usize = 20_000;
+const EVENTS: usize = 8 * buffers::EVENTS + 232;
 const SEVERAL: Frame = Frame { tasks: 5, slice: 4, input: 2, output: 3, message: 2 };
 const SEVERAL_SEED: u64 = 1984;
 

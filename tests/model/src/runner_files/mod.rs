@@ -1,6 +1,7 @@
 //! The runner's files: plans and events, each pair with the lines that the
 //! runner prints for it.
 
+mod buffers;
 mod events;
 mod long;
 mod plans;
@@ -41,7 +42,7 @@ impl Case {
 
 /// Every case, the paper's first.
 pub fn all() -> Vec<Case> {
-    [events::all(), plans::all(), long::all()].into_iter().flatten().collect()
+    [events::all(), plans::all(), buffers::all(), long::all()].into_iter().flatten().collect()
 }
 
 /// The bytes of words, low byte first.
