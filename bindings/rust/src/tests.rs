@@ -1,6 +1,6 @@
 //! Each call on the paper's example or the example of the text form, on what is refused, and on empty slices.
 
-use crate::{build, check, event, refused_line, run, size, translate};
+use crate::{build, c, check, event, refused_line, run, size, translate};
 use crate::{Ran, Text, Untranslated, INPUT, OUTPUT_DONE, TICK};
 
 const PLAN: [u16; 9] = [1, 2, 1, 1, 1, 4, 2, 4656, 4672];
@@ -166,4 +166,49 @@ fn a_call_on_texts_needs_little_of_the_stack() {
     let call = || (translated(NAMES, b"((((((((last))))))))"), refused_line(NAMES, b"b", 16));
     let thread = std::thread::Builder::new().stack_size(MOST_STACK).spawn(call).unwrap();
     assert_eq!(thread.join().unwrap(), (Ok(1), &b"b"[..]));
+}
+
+/// A plan of three tasks, its image's words, and events of which the last but one is refused.
+const CROWD: [u16; 14] = [3, 5, 2, 1, 4, 4, 2, 2, 1, 3, 0, 4656, 4672, 4656];
+const CROWD_WORDS: usize = 184;
+const CROWD_EVENTS: [u16; 15] = [TICK, 0, 0, TICK, 0, 0, INPUT, 1, 66, OUTPUT_DONE, 2, 0, TICK, 0, 0];
+
+// The archive's own functions: no two arguments of a call are the same, and no two fields of an accepted answer. The
+// calls are safe as those of the package are.
+
+#[test]
+fn each_field_of_an_answer_on_words_stands_where_it_is_declared() {
+    let mut image = [UNTOUCHED; CROWD_WORDS];
+    let (words, at) = (CROWD_WORDS, image.as_mut_ptr());
+    unsafe {
+        assert_eq!(c::kernel_size(CROWD.as_ptr(), CROWD.len()), c::Size { words: 184, number: 0 });
+        assert_eq!(c::kernel_size([17, 5, 2, 1, 4].as_ptr(), 5), c::Size { words: 0, number: 3 });
+        assert_eq!(c::kernel_build(CROWD.as_ptr(), CROWD.len(), at, words - 1), 12);
+        assert_eq!(c::kernel_build(CROWD.as_ptr(), CROWD.len(), at, words), 0);
+        assert_eq!(c::kernel_check(at, words), 0);
+        assert_eq!(c::kernel_event(at, words, INPUT, 2, 65), c::Told { number: 0, kind: 8, task: 2 });
+        let ran = c::kernel_run(at, words, CROWD_EVENTS.as_ptr(), CROWD_EVENTS.len());
+        assert_eq!(ran, c::Ran { taken: 3, number: 9 });
+        let refused = c::Told { number: 7, kind: c::NO_ANSWER, task: c::NO_ANSWER };
+        assert_eq!(c::kernel_event(at, words, INPUT, 3, 65), refused);
+    }
+}
+
+#[test]
+fn each_field_of_an_answer_on_texts_stands_where_it_is_declared() {
+    let told = |names: &[u8], script: &[u8], room: usize| unsafe {
+        let mut target = vec![UNTOUCHED; room];
+        let (names_at, script_at, target_at) = (names.as_ptr(), script.as_ptr(), target.as_mut_ptr());
+        (
+            c::kernel_translate(names_at, names.len(), script_at, script.len(), target_at, room),
+            c::kernel_refused_line(names_at, names.len(), script_at, script.len(), room as u64),
+        )
+    };
+    let translated = |words, number, text| c::Translated { words, number, text };
+    let line = |start, bytes| c::Line { start, bytes };
+    let script = b"size\nsize + 1\n  size * 2\n";
+    assert_eq!(told(b"size = 4\n", script, 4), (translated(3, 0, c::NO_TEXT), line(0, 0)));
+    assert_eq!(told(b"size = 4\n", script, 2), (translated(0, 16, c::SCRIPT), line(14, 10)));
+    assert_eq!(told(b"size = 4\n", b"size\nother\n", 4), (translated(0, 14, c::SCRIPT), line(5, 5)));
+    assert_eq!(told(b"size = 4\nb = \n", script, 4), (translated(0, 13, c::NAMES), line(9, 4)));
 }
