@@ -1,7 +1,8 @@
 // What is said to one event on an image, in the paper's numbers.
-use kernel::event;
+ghost use mathlib.Core.Path.{_≡_};
+ghost use mathlib.Core.Bool.{true};
 use kernel_c::Told;
-use kernel_c::tell;
+use kernel_c::kernel_event;
 
 // The number of an event that is accepted.
 pub const ACCEPTED: u16 = 0;
@@ -13,12 +14,20 @@ pub struct EventWords {
     pub character: u16,
 }
 
-// Whether the same is said twice.
-pub fn are_same(a: Told, b: Told) -> bool {
-    a.number == b.number && a.kind == b.kind && a.task == b.task
+// Whether the same is said twice: a yes means that all three numbers are the same.
+pub fn are_same(a: Told, b: Told) -> bool
+    ensures { λ r. ⌜ (r ≡ true → (a .number ≡ b .number) × ((a .kind ≡ b .kind) × (a .task ≡ b .task))) ⌝ }
+{
+    if a.number != b.number {
+        return false;
+    }
+    if a.kind != b.kind {
+        return false;
+    }
+    a.task == b.task
 }
 
 // Has one event happen on an image, and answers what is said to it.
 pub fn said_to(im: &mut [u16], words: EventWords) -> Told {
-    tell(event(im, words.kind, words.device, words.character))
+    kernel_event(im, words.kind, words.device, words.character)
 }

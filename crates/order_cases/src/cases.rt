@@ -9,13 +9,14 @@ use vectors::changes::CHANGE_WORDS;
 use vectors::changes::MOST_CHANGES;
 use vectors::changes::are_places;
 use vectors::changes::as_count;
-use vectors::changes::is_changed;
 use vectors::changes::read_changes;
-use vectors::files::Found;
-use vectors::files::Head;
-use vectors::files::WORD_END;
-use vectors::files::read_words;
+use vectors::changes::take_back;
+use vectors::images::are_same;
 use vectors::images::lay_out;
+use vectors::records::Found;
+use vectors::records::Head;
+use vectors::records::WORD_END;
+use vectors::records::read_words;
 use vectors::tally::Answer;
 use vectors::tally::ORDER_NUMBERS;
 use vectors::tally::Tally;
@@ -83,8 +84,8 @@ fn order_answer(
     let outcome = outcome_of(trial, shapes);
     match outcome {
         Outcome::Number(n) => {
-            let same = is_changed(trial, image, changes, case.changes);
-            compared(n == case.number && same)
+            let made = take_back(trial, image, changes, case.changes);
+            compared(n == case.number && made && are_same(trial, image))
         }
         Outcome::Bad => Answer::Bad,
     }

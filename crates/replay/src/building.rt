@@ -1,10 +1,13 @@
 // Replays the record of a build.
+ghost use mathlib.Core.Path.{_≡_};
+ghost use mathlib.Core.Bool.{true};
+ghost use Rattle.paper.specs.Calls.{size-number, size-value};
 use numbers::number_of;
 use paper::Size;
-use vectors::files::Found;
-use vectors::files::Head;
-use vectors::files::read_words;
-use vectors::files::wide;
+use vectors::records::Found;
+use vectors::records::Head;
+use vectors::records::read_words;
+use vectors::records::wide;
 use vectors::tally::Answer;
 use vectors::tally::compared;
 use vectors::tally::worse;
@@ -78,7 +81,9 @@ fn target_answer(fd: i32, target: &[u16], case: Case) -> Answer {
 }
 
 // The words that a plan needs, or 0 where it is refused.
-fn size_words(size: Size) -> usize {
+fn size_words(size: Size) -> usize
+    ensures { λ r. ⌜ r ≡ size-value size ⌝ }
+{
     match size {
         Size::Words(n) => n,
         Size::Refused(_) => 0,
@@ -86,17 +91,23 @@ fn size_words(size: Size) -> usize {
 }
 
 // The number of a plan's refusal, or 0.
-fn size_number(size: Size) -> u16 {
+fn size_number(size: Size) -> u16
+    ensures { λ r. ⌜ r ≡ size-number size ⌝ }
+{
     match size {
         Size::Words(_) => 0,
         Size::Refused(r) => number_of(r),
     }
 }
 
-// Whether the size of a plan is the one expected.
-fn is_sized(plan: &[u16], case: Case) -> bool {
-    let size = plans::size(plan);
-    size_number(size) == case.size_number && size_words(size) == case.size
+// Whether a plan's size is the one expected: a yes means that words and number are.
+fn is_sized(size: Size, case: Case) -> bool
+    ensures { λ r. ⌜ (r ≡ true → (size-number size ≡ case .«size_number») × (size-value size ≡ case .size)) ⌝ }
+{
+    if size_number(size) != case.size_number {
+        return false;
+    }
+    size_words(size) == case.size
 }
 
 // The answer to a plan and a target of the lengths that the record gives.
@@ -104,7 +115,7 @@ fn built_answer(fd: i32, plan: &[u16], target: &mut [u16], case: Case) -> Answer
     salt_words(target, case.salt);
     let number = builds::build(plan, target);
     let left = target_answer(fd, target, case);
-    let sized = is_sized(plan, case);
+    let sized = is_sized(plans::size(plan), case);
     worse(left, compared(number == case.number && sized))
 }
 

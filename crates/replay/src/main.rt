@@ -2,12 +2,12 @@
 mod building;
 
 use building::build_answer;
-use vectors::files::Found;
-use vectors::files::Head;
-use vectors::files::Next;
-use vectors::files::RECORDS_END;
-use vectors::files::read_head;
-use vectors::files::read_words;
+use vectors::records::Found;
+use vectors::records::Head;
+use vectors::records::Next;
+use vectors::records::RECORDS_END;
+use vectors::records::read_head;
+use vectors::records::read_words;
 use vectors::tally::Answer;
 use vectors::tally::BUILD_NUMBERS;
 use vectors::tally::CHECK_NUMBERS;

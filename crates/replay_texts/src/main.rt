@@ -2,10 +2,10 @@
 mod translating;
 
 use translating::translate_answer;
-use vectors::files::Head;
-use vectors::files::Next;
-use vectors::files::RECORDS_END;
-use vectors::files::read_head;
+use vectors::records::Head;
+use vectors::records::Next;
+use vectors::records::RECORDS_END;
+use vectors::records::read_head;
 use vectors::tally::TEXT_NUMBERS;
 use vectors::tally::Tally;
 use vectors::tally::answered;

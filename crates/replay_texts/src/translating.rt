@@ -1,15 +1,17 @@
 // Replays the record of a translation.
+ghost use mathlib.Core.Path.{_≡_};
+ghost use mathlib.Core.Bool.{true};
 ghost use Prim.Native.Nat.{_<_, _≤_};
-ghost use lib.ListN.{length};
+ghost use lib.ListN.{length, take, drop};
 use kernel_c::scripts::Translated;
 use kernel_c::scripts::kernel_refused_line;
 use kernel_c::scripts::kernel_translate;
 use texts::refused_line;
-use vectors::files::Found;
-use vectors::files::Head;
-use vectors::files::read_text;
-use vectors::files::read_words;
-use vectors::files::wide;
+use vectors::records::Found;
+use vectors::records::Head;
+use vectors::records::read_text;
+use vectors::records::read_words;
+use vectors::records::wide;
 use vectors::tally::Answer;
 use vectors::tally::compared;
 use vectors::tally::worse;
@@ -68,13 +70,13 @@ struct Named {
 
 // What a record of a translation says before its names: counts of bytes and words, and what is expected.
 struct Case {
-    number: u16,
     names: usize,
     script: usize,
     target: usize,
     salt: u16,
     named: Named,
     words: usize,
+    told: Translated,
 }
 
 // The case of a record, or that its words end too early.
@@ -100,19 +102,27 @@ fn read_case(fd: i32, head: Head) -> Asked {
         return Asked::Bad;
     };
     let named = named_in(&words);
-    Asked::Replay(Case {
+    let count = wide(words[WORDS_LOW_AT], words[WORDS_HIGH_AT]);
+    let told = Translated {
+        words: count as u64,
         number: head.number,
+        text: named.text,
+    };
+    Asked::Replay(Case {
         names: head.count,
         script: wide(words[SCRIPT_LOW_AT], words[SCRIPT_HIGH_AT]),
         target: wide(words[TARGET_LOW_AT], words[TARGET_HIGH_AT]),
         salt: words[SALT_AT],
         named: named,
-        words: wide(words[WORDS_LOW_AT], words[WORDS_HIGH_AT]),
+        words: count,
+        told: told,
     })
 }
 
-// Whether a part is what a text has from a start on.
-fn is_part(part: &[u8], text: &[u8], start: usize) -> bool {
+// Whether a part is what a text has from a start on: a yes means that all its bytes are.
+fn is_part(part: &[u8], text: &[u8], start: usize) -> bool
+    ensures { λ r. ⌜ (r ≡ true → take (length (now (part .entry))) (drop start (now (text .entry))) ≡ now (part .entry)) ⌝ }
+{
     if start > text.len() {
         return false;
     }
@@ -143,10 +153,17 @@ fn is_line<'a>(names: &'a [u8], script: &'a [u8], room: usize, named: Named) -> 
     is_part(part, script, named.start)
 }
 
-// Whether a translation tells what a case expects.
-fn is_told(told: Translated, case: Case) -> bool {
-    let named = case.named;
-    told.number == case.number && told.text == named.text && told.words == case.words as u64
+// Whether the same is told of two translations: a yes means that words, number and text are the same.
+fn are_same(a: Translated, b: Translated) -> bool
+    ensures { λ r. ⌜ (r ≡ true → (a .words ≡ b .words) × ((a .number ≡ b .number) × (a .text ≡ b .text))) ⌝ }
+{
+    if a.words != b.words {
+        return false;
+    }
+    if a.number != b.number {
+        return false;
+    }
+    a.text == b.text
 }
 
 // Compares a target with the next words of the file, and its other words with those that it had.
@@ -174,7 +191,7 @@ fn text_answer<'a>(
     let told = kernel_translate(names, script, target);
     let left = target_answer(fd, target, words, case.salt);
     let lined = is_line(names, script, target.len(), named);
-    worse(left, compared(is_told(told, case) && lined))
+    worse(left, compared(are_same(told, case.told) && lined))
 }
 
 // Reads the texts of a case.

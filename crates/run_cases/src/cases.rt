@@ -1,15 +1,16 @@
 // Replays a record of a run on the image that stands.
 ghost use mathlib.Core.Path.{_≡_};
+ghost use mathlib.Core.Bool.{true};
 ghost use Prim.Native.Nat.{_≤_};
 ghost use lib.ListN.{length};
-use kernel::run;
-use numbers::number_of_verdict;
+use kernel_c::Ran;
+use kernel_c::kernel_run;
 use vectors::changes::changed_answer;
-use vectors::files::Found;
-use vectors::files::Head;
-use vectors::files::read_words;
-use vectors::files::wide;
 use vectors::images::lay_out;
+use vectors::records::Found;
+use vectors::records::Head;
+use vectors::records::read_words;
+use vectors::records::wide;
 use vectors::tally::RUN_NUMBERS;
 use vectors::tally::Tally;
 use vectors::tally::answered;
@@ -34,11 +35,10 @@ const CHANGES_LOW_AT: usize = 2;
 // The place of its high word.
 const CHANGES_HIGH_AT: usize = 3;
 
-// What a record of a run says before its list: the words of the list, how many events are taken, the number, and how many changes follow the list.
+// What a record of a run says before its list: the words of the list, how the run ends, and how many changes follow the list.
 struct Case {
     words: usize,
-    taken: usize,
-    number: u16,
+    ended: Ran,
     changes: usize,
 }
 
@@ -55,19 +55,25 @@ fn read_case(fd: i32, head: Head) -> Asked {
     let Found::All = found else {
         return Asked::Bad;
     };
+    let ended = Ran {
+        taken: wide(words[TAKEN_LOW_AT], words[TAKEN_HIGH_AT]) as u64,
+        number: head.number,
+    };
     Asked::Replay(Case {
         words: head.count,
-        taken: wide(words[TAKEN_LOW_AT], words[TAKEN_HIGH_AT]),
-        number: head.number,
+        ended: ended,
         changes: wide(words[CHANGES_LOW_AT], words[CHANGES_HIGH_AT]),
     })
 }
 
-// Whether a run over a list on an image takes as many events as a case says, and ends with its number.
-fn ends_so(im: &mut [u16], list: &[u16], case: Case) -> bool {
-    let ended = run(im, list);
-    let stop = ended.stop;
-    ended.taken == case.taken && number_of_verdict(stop) == case.number
+// Whether two runs end in the same way: a yes means that they take as many events and have the same number.
+fn are_same(a: Ran, b: Ran) -> bool
+    ensures { λ r. ⌜ (r ≡ true → (a .taken ≡ b .taken) × (a .number ≡ b .number)) ⌝ }
+{
+    if a.taken != b.taken {
+        return false;
+    }
+    a.number == b.number
 }
 
 // The tally with a case whose list is read. The image takes the changes that follow in the file.
@@ -82,9 +88,9 @@ fn list_tally(
     requires { ⌜ length (now trial) ≡ length (now image) ⌝ }
 {
     lay_out(trial, image);
-    let same = ends_so(trial, list, case);
+    let same = are_same(kernel_run(trial, list), case.ended);
     let answer = changed_answer(fd, trial, image, case.changes, same);
-    answered(tally, case.number, answer)
+    answered(tally, case.ended.number, answer)
 }
 
 // The tally with a case, its list read from the file, unless the record is bad.
@@ -92,7 +98,7 @@ fn case_tally(fd: i32, trial: &mut [u16], image: &mut [u16], case: Case, tally: 
     requires { ⌜ length (now trial) ≡ length (now image) ⌝ }
 {
     let words = case.words;
-    if words > MOST_LIST || !listed(&RUN_NUMBERS, case.number) {
+    if words > MOST_LIST || !listed(&RUN_NUMBERS, case.ended.number) {
         return spoiled(tally);
     }
     let mut list = [0u16; MOST_LIST];

@@ -2,10 +2,10 @@
 ghost use mathlib.Core.Path.{_≡_};
 ghost use Prim.Native.Nat.{_<_, _≤_};
 ghost use lib.ListN.{length};
-use crate::files::Found;
-use crate::files::WORD_END;
-use crate::files::read_words;
-use crate::images::is_image;
+use crate::images::are_same;
+use crate::records::Found;
+use crate::records::WORD_END;
+use crate::records::read_words;
 use crate::tally::Answer;
 use crate::tally::compared;
 
@@ -53,29 +53,23 @@ pub fn are_places(changes: &[u16; CHANGE_WORDS], count: usize, words: usize) -> 
     true
 }
 
-// The word at a place of an image after count changes.
-fn after(image: &[u16], changes: &[u16; CHANGE_WORDS], count: usize, at: usize) -> u16
-    requires { ⌜ at < length (now image) ⌝ }
+// Takes count changes back in the words of an image, and answers whether each was made; a place is the image's own again then.
+pub fn take_back(
+    words: &mut [u16],
+    image: &[u16],
+    changes: &[u16; CHANGE_WORDS],
+    count: usize,
+) -> bool
+    requires { ⌜ length (now words) ≡ length (now image) ⌝ }
     requires { do ⌜ count ≤ (← ⟦MOST_CHANGES⟧) ⌝ }
 {
     for i in 0..count {
         let low = CHANGE_SIZE * i;
-        if as_count(changes[low]) == at {
-            return changes[low + WORD_AT];
-        }
-    }
-    image[at]
-}
-
-// Whether the words are those of an image after count changes.
-pub fn is_changed(words: &[u16], image: &[u16], changes: &[u16; CHANGE_WORDS], count: usize) -> bool
-    requires { ⌜ length (now words) ≡ length (now image) ⌝ }
-    requires { do ⌜ count ≤ (← ⟦MOST_CHANGES⟧) ⌝ }
-{
-    for i in 0..words.len() {
-        if words[i] != after(image, changes, count, i) {
+        let place = as_count(changes[low + PLACE_AT]);
+        if place >= words.len() || words[place] != changes[low + WORD_AT] {
             return false;
         }
+        words[place] = image[place];
     }
     true
 }
@@ -106,5 +100,5 @@ pub fn changed_answer(fd: i32, words: &[u16], image: &mut [u16], count: usize, s
     if !make_changes(fd, image, count) {
         return Answer::Bad;
     }
-    compared(same && is_image(words, image))
+    compared(same && are_same(words, image))
 }

@@ -1,10 +1,11 @@
 // The image that cases go by.
 ghost use mathlib.Core.Path.{_≡_};
+ghost use mathlib.Core.Bool.{true};
 ghost use Prim.Native.Nat.{_≤_};
 ghost use lib.ListN.{length};
-use crate::files::Found;
-use crate::files::Head;
-use crate::files::read_words;
+use crate::records::Found;
+use crate::records::Head;
+use crate::records::read_words;
 use crate::tally::Tally;
 use crate::tally::empty;
 use crate::tally::spoiled;
@@ -58,18 +59,20 @@ pub fn replay_image(fd: i32, image: &mut [u16], head: Head, tally: Tally) -> Rep
 // Lays out the words of an image.
 pub fn lay_out(trial: &mut [u16], image: &[u16])
     requires { ⌜ length (now trial) ≡ length (now image) ⌝ }
+    ensures { λ _. ⌜ now (trial .exit) ≡ now (image .entry) ⌝ }
 {
     for i in 0..trial.len() {
         trial[i] = image[i];
     }
 }
 
-// Whether the words are those of an image.
-pub fn is_image(words: &[u16], image: &[u16]) -> bool
-    requires { ⌜ length (now words) ≡ length (now image) ⌝ }
+// Whether some words are the same as others: a yes means that all are.
+pub fn are_same(words: &[u16], others: &[u16]) -> bool
+    requires { ⌜ length (now words) ≡ length (now others) ⌝ }
+    ensures { λ r. ⌜ (r ≡ true → now (words .entry) ≡ now (others .entry)) ⌝ }
 {
     for i in 0..words.len() {
-        if words[i] != image[i] {
+        if words[i] != others[i] {
             return false;
         }
     }

@@ -1,19 +1,15 @@
 // Reads words and the heads of records from a file.
 ghost use mathlib.Core.Path.{_≡_};
-ghost use Prim.Native.Nat.{_+_, _<_, _≤_, min};
+ghost use Prim.Native.Nat.{_+_, _*_, _<_, _≤_, min};
 ghost use lib.ListN.{length};
-
-// The bytes of a word.
-const WORD_BYTES: usize = 2;
+use files::WORD_BYTES;
+use files::put_words;
 
 // The most words that are read at a time.
 pub const CHUNK_WORDS: usize = 4096;
 
 // The most bytes that are read at a time.
 const CHUNK_BYTES: usize = WORD_BYTES * CHUNK_WORDS;
-
-// A byte is less than this.
-const BYTE_END: u16 = 256;
 
 // A word is less than this.
 pub const WORD_END: usize = 65536;
@@ -61,11 +57,6 @@ pub enum Next {
     Bad,
 }
 
-// A word from its two bytes.
-fn word(low: u8, high: u8) -> u16 {
-    low as u16 + BYTE_END * (high as u16)
-}
-
 // A count from its two words.
 pub fn wide(low: u16, high: u16) -> usize {
     low as usize + WORD_END * (high as usize)
@@ -78,14 +69,15 @@ pub fn least(a: usize, b: usize) -> usize
     if a < b { a } else { b }
 }
 
-// Puts the words of the first bytes into words from place at on.
-fn unpack(bytes: &[u8; CHUNK_BYTES], words: &mut [u16], at: usize, count: usize)
-    requires { do ⌜ (count ≤ (← ⟦CHUNK_WORDS⟧)) × (at + count ≤ length (now words)) ⌝ }
+// Reads as many bytes as there are words for, and answers how many were found; the words are theirs where all were.
+fn fill(fd: i32, bytes: &mut [u8], words: &mut [u16]) -> usize
+    requires { ⌜ length (now bytes) < 2 * length (now words) + 2 ⌝ }
 {
-    for i in 0..count {
-        let low = WORD_BYTES * i;
-        words[at + i] = word(bytes[low], bytes[low + 1]);
+    let got = io::read_full(fd, bytes);
+    if got == bytes.len() {
+        put_words(bytes, words);
     }
+    got
 }
 
 // Reads count words into words from place at on, and answers how many bytes were found.
@@ -94,11 +86,7 @@ fn read_part(fd: i32, words: &mut [u16], at: usize, count: usize) -> usize
 {
     let mut bytes = [0u8; CHUNK_BYTES];
     let size = WORD_BYTES * count;
-    let got = io::read_full(fd, &mut bytes[..size]);
-    if got == size {
-        unpack(&bytes, words, at, count);
-    }
-    got
+    fill(fd, &mut bytes[..size], &mut words[at..at + count])
 }
 
 // Reads count words.

@@ -3,8 +3,8 @@ use Prim.Native.Nat.{_≤_, _-_}
 use mathlib.Core.Path.{_≡_}
 use lib.ListN.{length}
 use borrow.Author.Needs.{needs}
-use Rattle.vectors.proofs.files.read_words.Statement.{statement}
-use Rattle.vectors.proofs.files.read_words.Tie as tie
+use Rattle.vectors.proofs.records.read_words.Statement.{statement}
+use Rattle.vectors.proofs.records.read_words.Tie as tie
 
 abbrev Inv-loop : tie.InvT-loop
 Inv-loop fd words₀ count at₀ words at = (at ≤ count) × (length words ≡ length words₀)

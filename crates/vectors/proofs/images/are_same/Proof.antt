@@ -1,0 +1,46 @@
+-- The words up to the place are the same, and the last place is the end of both. Assumes nothing.
+use mathlib.Core.Path.{_≡_, sym}
+use mathlib.Core.Bool.{true≢false}
+use Prim.Native.Nat.{_≤_, _-_}
+use native.Mathlib.Omega.{arith}
+use lib.ListN.{take}
+use Rattle.vectors.specs.Words.{same-more, same-all}
+use borrow.Author.Needs.{needs}
+use Rattle.vectors.proofs.images.are_same.Statement.{statement}
+use Rattle.vectors.proofs.images.are_same.Tie as tie
+
+abbrev Inv-loop : tie.InvT-loop
+Inv-loop words others i₀ i-end i = (i ≤ i-end) × (take i words ≡ take i others)
+
+abbrev μ-loop : tie.MeasureT-loop
+μ-loop words others i₀ i-end i = i-end - i
+
+returns : tie.Need-returns Inv-loop μ-loop
+returns c = λ e. absurd (true≢false (sym e))
+
+loop-again : tie.Need-loop-again Inv-loop μ-loop
+loop-again c =
+    let b = c .before .before .before .before in
+    (search needs, same-more (b .before .args .words .now) (b .before .args .others .now) (b .loop .i) (b .loop .inv .1) (search needs) (search needs) (c .if1 .left))
+
+returns-2 : tie.Need-returns-2 Inv-loop μ-loop
+returns-2 c =
+    let b = c .before in
+    λ _. same-all (b .before .args .words .now) (b .before .args .others .now) (b .loop .i) (b .loop .inv .1) (omega arith) (omega arith)
+
+pub are-same-spec : {M : Type 1} → statement M
+are-same-spec =
+    tie.close
+    (tie.spec
+    Inv-loop
+    μ-loop
+    (λ c. search needs)
+    (λ c. search needs)
+    (λ c. search needs)
+    (λ c. search needs)
+    (λ c. search needs)
+    returns
+    (λ c. search needs)
+    (λ c. search needs)
+    loop-again
+    returns-2)

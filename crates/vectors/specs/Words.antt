@@ -1,0 +1,67 @@
+-- Words that are the same up to a place, and words that are as salted. Assumes nothing.
+use mathlib.Core.Path.{_≡_, refl, _∙_}
+use mathlib.Core.Bool.{Bool, true, false}
+use mathlib.Core.List.{List}
+use Prim.Native.Nat.{ℕ, _+_, _*_, _-_, _%_, _<_, _≤_}
+use borrow.Author.Tests.{ltb-true, ltb-false}
+use lib.Dec.{ltb}
+use native.Mathlib.Numerals.{add-one}
+use native.Mathlib.Omega.{arith}
+use lib.ListN.{length, getD, take, drop, set, length-take, length-drop}
+use native.Mathlib.Nat.{min-le-left}
+use lib.Seq.{length-take-le, take-suc, take-suc-set, take-all, getD-set-same, getD-set-other}
+
+module _ (a b : List ℕ) (i : ℕ) (e : take i a ≡ take i b) where
+  -- one word more is the same
+  pub same-more : i < length a → i < length b → getD a i 0 ≡ getD b i 0 → take (i + 1) a ≡ take (i + 1) b
+  same-more ha hb g = rw (add-one, take-suc a i 0 ha, take-suc b i 0 hb, e, g)
+
+  -- one word more is laid out
+  pub laid-more : i < length a → i < length b → take (i + 1) (set a i (getD b i 0)) ≡ take (i + 1) b
+  laid-more ha hb = rw (add-one, take-suc-set a i (getD b i 0) ha, take-suc b i 0 hb, e)
+
+  -- all of the first are the first of the second
+  pub same-first : length a ≤ i → i ≤ length a → take (length a) b ≡ a
+  same-first ha ia =
+      let l : length a ≡ i = omega arith in
+      rw (l, ← e) (take-all i a ha)
+
+  -- all of them are
+  pub same-all : length a ≤ i → length b ≤ i → a ≡ b
+  same-all ha hb = rw (take-all i a ha, take-all i b hb) at e
+
+-- the first bytes of a buffer are not more than the words of a part have
+pub part-room : (bytes words : List ℕ) (size at end : ℕ) → at ≤ end → end ≤ length words → size ≡ 2 * (end - at)
+    → length (take size bytes) < 2 * length (take (end - at) (drop at words)) + 2
+part-room bytes words size at end below inside e =
+    let few : length (take size bytes) ≤ size = rw length-take (min-le-left size (length bytes)) in
+    let many : length (take (end - at) (drop at words)) ≡ end - at = length-take-le (end - at) (drop at words) (rw length-drop (omega arith)) in
+    omega (arith, few, many)
+
+-- the word at a place of a salted target
+unfoldable pub salted-word : ℕ → ℕ → ℕ
+salted-word place salt = (place % 65536 * 31 + salt) % 65536
+
+-- the words from a place on, and up to another, are as salted
+abbrev pub SaltedTo : ℕ → ℕ → List ℕ → ℕ → Type 0
+SaltedTo from salt words end = (k : ℕ) → from ≤ k → k < end → getD words k 0 ≡ salted-word k salt
+
+abbrev pub Salted : ℕ → ℕ → List ℕ → Type 0
+Salted from salt words = SaltedTo from salt words (length words)
+
+-- one word more is
+pub salted-more : (from salt : ℕ) (words : List ℕ) (i : ℕ) → SaltedTo from salt words i → getD words i 0 ≡ salted-word i salt → SaltedTo from salt words (i + 1)
+salted-more from salt words i h e k a b = go (ltb k i) refl
+  where
+    go : (t : Bool) → ltb k i ≡ t → getD words k 0 ≡ salted-word k salt
+    go true q = h k a (ltb-true k i q)
+    go false q =
+        let same : k ≡ i = omega (arith, ltb-false k i q, b) in
+        rw same e
+
+-- one word more is made so
+pub salt-more : (salt : ℕ) (words : List ℕ) (i v : ℕ) → SaltedTo 0 salt words i → i < length words → v ≡ salted-word i salt → SaltedTo 0 salt (set words i v) (i + 1)
+salt-more salt words i v h l e = salted-more 0 salt (set words i v) i kept (getD-set-same words i v 0 l ∙ e)
+  where
+    kept : SaltedTo 0 salt (set words i v) i
+    kept k a b = getD-set-other words i k v 0 (λ q. omega (arith, b, q)) ∙ h k a b
