@@ -7,7 +7,7 @@ use Prim.Native.Nat.{ℕ, suc, _+_, _%_, _<_, _≤_}
 use native.Mathlib.Nat.{add-zero, zero-add}
 use native.Mathlib.Omega.{arith}
 use borrow.Author.Tests.{ltb-true, ltb-false}
-use lib.Dec.{ltb}
+use lib.Dec.{ltb, leb}
 use lib.ListN.{length, getD, drop, length-append, length-drop}
 use lib.Seq.{drop-cons}
 use Rattle.paper.specs.Events.{event-of, happening}
@@ -132,10 +132,10 @@ module _ (o out : List ℕ) (text taken : ℕ) (all : Printed) where
   joins-last n r im j =
       record { made = j .made; counted = j .counted; number = omega (arith, j .number); stops = j .stops; leaves = j .leaves }
 
--- where it stopped, a refusal
-abbrev pub is-refusal : Verdict → Bool
-is-refusal Verdict.Fine = false
-is-refusal (Verdict.Refused r) = true
+-- a buffer is followed by more of its file where it was filled and no event of it was refused
+abbrev pub is-followed : ℕ → ℕ → Verdict → Bool
+is-followed found asked Verdict.Fine = leb asked found
+is-followed found asked (Verdict.Refused r) = false
 
 -- what is printed for one buffer, followed by what is printed for the next
 abbrev pub followed : Printed → Printed → Printed

@@ -7,7 +7,7 @@ ghost use Rattle.paper.specs.Events.{happening};
 ghost use Rattle.laws.specs.Events.{Lawful};
 ghost use Rattle.shapes.specs.Entries.{Shapes};
 ghost use Rattle.lines.specs.Lines.{most-line};
-ghost use Rattle.feeding.specs.Printing.{event-bytes, event-at, ForAnyRest, is-refusal};
+ghost use Rattle.feeding.specs.Printing.{event-bytes, event-at, ForAnyRest, is-followed};
 ghost use Rattle.feeding.specs.Needs.{number-end, text-room, FeedsShort, Feeds, Buffered};
 use files::word;
 use happening::step;
@@ -112,12 +112,12 @@ pub fn feed_buffer(
     feed(s, im, shapes, &buffer[..found], n, out)
 }
 
-// Whether a run ends with a refusal.
-pub fn is_refused(stop: Verdict) -> bool
-    ensures { λ r. ⌜ r ≡ is-refusal stop ⌝ }
+// Whether more of a file is to be read after a buffer: all that was asked for was found, and no event was refused.
+pub fn is_followed(found: usize, asked: usize, stop: Verdict) -> bool
+    ensures { λ r. ⌜ r ≡ is-followed found asked stop ⌝ }
 {
     match stop {
-        Verdict::Fine => false,
-        Verdict::Refused(_) => true,
+        Verdict::Fine => found >= asked,
+        Verdict::Refused(_) => false,
     }
 }

@@ -11,7 +11,7 @@ ghost use Rattle.parts.specs.Needs.{Plan};
 use builds::build;
 use feeding::EVENT_BYTES;
 use feeding::feed_buffer;
-use feeding::is_refused;
+use feeding::is_followed;
 use files::WORD_BYTES;
 use files::is_odd;
 use files::read_plan;
@@ -74,7 +74,7 @@ fn run_events(s: Shape, im: &mut [u16], fd: i32)
         if !io::write_all(STDOUT_FILENO, &text[..end]) {
             return;
         }
-        if found < EVENTS_BYTES || is_refused(stop) {
+        if !is_followed(found, EVENTS_BYTES, stop) {
             return;
         }
         n += fed.taken as u64;

@@ -20,13 +20,22 @@ loop-holds : tie.Need-loop-holds Inv-loop μ-loop
 loop-holds c = ((c .before .before .pre, refl), (search needs, search needs), omega arith)
 
 feed-buffer-requires : tie.Need-feed-buffer-requires Inv-loop μ-loop
-feed-buffer-requires c κs = (c .before .before .before .before .before .before .before .before .loop .inv .0 .0, (c .before .before .before .before .before .before .before .before .before .order-shapes .ensures, record { inside = c .before .before .before .before .before .read-full .ensures .0; whole = search needs; numbers = omega (arith, c .before .before .before .before .before .before .before .before .loop .inv .1, c .before .before .before .before .before .before .before .before .loop .inv .2); room = omega (arith, c .before .before .before .before .before .before .before .before .loop .inv .1) }))
+feed-buffer-requires c κs =
+    let r = c .before .before .before .before .before in
+    let l = r .before .before .before in
+    (l .loop .inv .0 .0, (l .before .order-shapes .ensures, record { inside = r .read-full .ensures .0; whole = search needs; numbers = omega (arith, l .loop .inv .1, l .loop .inv .2); room = omega (arith, l .loop .inv .1) }))
 
 slice-aggregate-write-all : tie.Need-slice-aggregate-write-all Inv-loop μ-loop
 slice-aggregate-write-all c = sym (length-take-le _ _ (omega (arith, c .before .before .before .before .feed-buffer .ensures .0 .fits)))
 
 loop-again : tie.Need-loop-again Inv-loop μ-loop
-loop-again c = ((c .before .before .before .before .before .before .before .before .before .feed-buffer .ensures .0 .good, c .before .before .before .before .before .before .before .before .before .feed-buffer .kept .1 .0 ∙ c .before .before .before .before .before .before .before .before .before .before .before .before .before .before .before .before .before .before .loop .inv .0 .1), (search needs, search needs), omega (arith, c .before .before .before .before .before .before .before .before .before .feed-buffer .ensures .0 .few, c .before .before .before .before .before .before .before .before .before .before .before .before .before .before .before .read-full .ensures .0, c .before .before .before .before .before .before .before .before .before .before .before .before .before .before .before .read-full .ensures .1, c .before .before .before .before .before .before .before .before .before .before .before .before .before .before .before .before .before .before .loop .inv .1, c .before .before .before .before .before .before .before .before .before .before .before .before .before .before .before .before .before .before .loop .inv .2))
+loop-again c =
+    let w = c .before .before .before .before in
+    let f = w .before .before .before .before in
+    let x = f .before .before .before .before .before in
+    let r = x .before in
+    let l = r .before .before .before in
+    ((f .feed-buffer .ensures .0 .good, f .feed-buffer .kept .1 .0 ∙ l .loop .inv .0 .1), (search needs, search needs), omega (arith, f .feed-buffer .ensures .0 .few, r .read-full .ensures .0, r .read-full .ensures .1, l .loop .inv .1, l .loop .inv .2))
 
 pub run-events-spec : {M : Type 1} → statement M
 run-events-spec =
