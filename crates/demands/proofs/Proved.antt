@@ -1,0 +1,183 @@
+-- The three demands hold. Assumes nothing.
+use mathlib.Core.Path.{_≡_, refl, sym, ap, _∙_}
+use mathlib.Core.List.{List}
+use mathlib.Core.Logic.{_≢_}
+use Prim.Native.Nat.{ℕ}
+use Rattle.paper.specs.Image.{total, shape-of}
+use Rattle.paper.specs.Waking.{Outcome}
+use Rattle.paper.specs.Events.{event-of, tick, happening}
+use Rattle.paper.specs.Plans.{plan-shape, fresh}
+use Rattle.paper.specs.Rules.{Good}
+use Rattle.paper.specs.Numbers.{verdict-number, reply-number, check, check-plan, check-build}
+use Rattle.paper.specs.Calls.{Ran, size-as, plan-size, size-number, built-as, built, event-if, event, stopped-at, check-run, run}
+use Rattle.paper.specs.Promises.{Checks}
+use Rattle.paper.specs.declared.Shape.{Shape}
+use Rattle.paper.specs.declared.Service.{Service}
+use Rattle.paper.specs.declared.Refusal.{Refusal}
+use Rattle.paper.specs.declared.Reply.{Reply}
+use Rattle.paper.specs.declared.Size.{Size}
+use Rattle.paper.specs.declared.Verdict.{Verdict}
+use Rattle.laws.specs.Checked.{checked-good, good-checked, never-fine, zero-is, then-fine, check-zero}
+use Rattle.laws.specs.Fresh.{fresh-checked}
+use Rattle.event_laws.specs.Stays.{words-good}
+use Rattle.user_laws.specs.Folded.{event-is, event-unchanged, run-refused}
+use Rattle.user_laws.specs.Delivery.{Tells, receive-waits, waits-untouched, sent-kind, sent-held, received-kind, received-word, received-held, word-arrives}
+use Rattle.demands.specs.Demands.{due, run-tests, Demand1, Asks, Demand2, Demand3, Demands}
+use Rattle.demands.proofs.Numbers.{image-due, plan-due, build-due, run-due, event-due, call-due}
+use Rattle.demands.proofs.Runs.{is-calls, took-whole, stopped-at as stops}
+use Rattle.demands.proofs.Turns.{turn}
+
+-- a refused build leaves the target, a refused event the image, a refused run the image
+build-unchanged : (plan target : List ℕ) → verdict-number (check-build plan target) ≢ 0 → built plan target ≡ target
+unfolding built
+build-unchanged plan target = go (check-build plan target)
+  where
+    go : (v : Verdict) → verdict-number v ≢ 0 → built-as v plan target ≡ target
+    go Verdict.Fine ne = absurd (ne refl)
+    go (Verdict.Refused r) ne = refl
+
+refused-unchanged : (im : List ℕ) (k d c : ℕ) → reply-number (event im k d c .reply) ≢ 0 → event im k d c .image ≡ im
+refused-unchanged im k d c = go (event im k d c .reply) refl
+  where
+    go : (r : Reply) → event im k d c .reply ≡ r → reply-number r ≢ 0 → event im k d c .image ≡ im
+    go (Reply.Accepted a) e ne = absurd (ne refl)
+    go (Reply.Refused r) e ne = event-unchanged im k d c r e
+
+run-unchanged : (im events : List ℕ) → verdict-number (check-run im events) ≢ 0 → run im events ≡ stopped-at (check-run im events) im
+run-unchanged im events = go (check-run im events) refl
+  where
+    go : (v : Verdict) → check-run im events ≡ v → verdict-number v ≢ 0 → run im events ≡ stopped-at v im
+    go Verdict.Fine e ne = absurd (ne refl)
+    go (Verdict.Refused r) e ne = run-refused im events r e
+
+-- where the tests of a run show no fault it is not refused as a whole
+run-fine : (im events : List ℕ) → due (run-tests im events) ≡ 0 → check-run im events ≡ Verdict.Fine
+run-fine im events e = zero-is (check-run im events) .0 (run-due im events ∙ e)
+
+-- the number of a plan's size
+size-numbered : (plan : List ℕ) → size-number (plan-size plan) ≡ verdict-number (check-plan plan)
+unfolding plan-size
+size-numbered plan = go (check-plan plan)
+  where
+    go : (v : Verdict) → size-number (size-as v plan) ≡ verdict-number v
+    go Verdict.Fine = refl
+    go (Verdict.Refused r) = refl
+
+demand1 : Demand1
+demand1 =
+    record {
+      checks = λ im number p. p .answered ∙ image-due im;
+      measures = λ plan answer p. p .numbered ∙ size-numbered plan ∙ plan-due plan;
+      builds = λ plan target number after p.
+          (p .answered ∙ build-due plan target, λ ne. p .left ∙ build-unchanged plan target (rw (p .answered) at ne));
+      happens = λ im k d c answer after p.
+          (p .numbered ∙ call-due im k d c, λ ne. p .left ∙ refused-unchanged im k d c (rw (p .numbered) at ne));
+      runs = λ im events answer after p ne.
+          let r = run-unchanged im events (λ e. ne (sym (run-due im events) ∙ e)) in
+          (p .numbered ∙ ap (λ (x : Ran). verdict-number (x .stop)) r ∙ run-due im events, p .counted ∙ ap (λ (x : Ran). x .taken) r, p .left ∙ ap (λ (x : Ran). x .image) r);
+      keeps = λ im events answer after p e ne.
+          let f = run-fine im events e in
+          let l = stops im events answer after p f ne in
+          (is-calls im events answer after p f, l .0, l .1 ∙ call-due after _ _ _);
+    }
+
+-- a plan without fault gives its size and the fresh image
+plan-words : (plan : List ℕ) → check-plan plan ≡ Verdict.Fine → plan-size plan ≡ Size.Words (total (plan-shape plan))
+unfolding plan-size
+plan-words plan e = rw e
+
+build-fresh : (plan target : List ℕ) → check-build plan target ≡ Verdict.Fine → (built plan target ≡ fresh plan) × (check-plan plan ≡ Verdict.Fine)
+unfolding built check-build
+build-fresh plan target e = (rw e, then-fine (check-plan plan) _ e .0)
+
+-- an image on which an event is accepted passes the check
+accepted-checked : (im : List ℕ) (k d c : ℕ) → reply-number (event im k d c .reply) ≡ 0 → check im ≡ Verdict.Fine
+unfolding event
+accepted-checked im k d c = go (check im)
+  where
+    go : (v : Verdict) → reply-number (event-if v im k d c .reply) ≡ 0 → v ≡ Verdict.Fine
+    go Verdict.Fine e = refl
+    go (Verdict.Refused r) e = zero-is (Verdict.Refused r) .0 e
+
+passing : (im : List ℕ) → check im ≡ Verdict.Fine → Checks im 0
+passing im e = record { answered = rw e }
+
+-- a tick whose first task asks for a service
+module _ (s : Shape) (im : List ℕ) (v : Service) (answer : Reply) (after : List ℕ) (w : Asks s im v answer after) where
+  good : Good s im
+  good = rw (w .shape) (check-zero im .0 (sym (w .passes .answered)))
+
+  ticks : event im 0 0 0 ≡ tick s im
+  unfolding event-of happening
+  ticks = event-is s im good 0 0 0
+
+  told : answer ≡ tick s im .reply
+  told = w .ticks .answered ∙ ap (λ (o : Outcome). o .reply) ticks
+
+  left : after ≡ tick s im .image
+  left = w .ticks .left ∙ ap (λ (o : Outcome). o .image) ticks
+
+  taken-up : reply-number answer ≡ 0 → (r : Refusal) → tick s im .reply ≢ Reply.Refused r
+  taken-up e r f = never-fine r (zero-is (Verdict.Refused r) .0 (rw (told ∙ f) at e))
+
+demand2 : Demand2
+demand2 =
+    record {
+      passes = λ im number p. rw (p .answered) (check-zero im);
+      refused = λ im k d c answer after w p.
+          let g = check-zero im .0 (sym (w .answered)) in
+          p .numbered ∙ ap (λ (o : Outcome). reply-number (o .reply)) (event-is (shape-of im) im g k d c) ∙
+          event-due (shape-of im) im (event-of (shape-of im) k d c);
+      measured = λ plan answer p e. p .answered ∙ plan-words plan (zero-is (check-plan plan) .0 (plan-due plan ∙ e));
+      built = λ plan target number after p e.
+          let f = build-fresh plan target (zero-is (check-build plan target) .0 (build-due plan target ∙ e)) in
+          (p .answered ∙ build-due plan target ∙ e, p .left ∙ f .0, rw (p .left, f .0) (passing (fresh plan) (fresh-checked plan (f .1))));
+      happened = λ im k d c answer after p e.
+          let g = checked-good im (accepted-checked im k d c (call-due im k d c ∙ e)) in
+          let o = event-is (shape-of im) im g k d c in (
+            p .answered ∙ ap (λ (x : Outcome). x .reply) o,
+            p .left ∙ ap (λ (x : Outcome). x .image) o,
+            rw (p .left, o) (passing _ (good-checked (shape-of im) _ (words-good (shape-of im) im g k d c))),
+          );
+      ran = λ im events answer after p e none.
+          let f = run-fine im events e in
+          (is-calls im events answer after p f, took-whole im events answer after p f none);
+      received-nothing = λ s im answer after w small none.
+          let g = good s im Service.Receive answer after w in
+          let e : Tells (tick s im .reply) 4 = receive-waits s im g (w .some) (w .runs) (w .asks) .1 (small, none) in
+          rw (told s im Service.Receive answer after w, left s im Service.Receive answer after w)
+          (e, waits-untouched s im g (w .some) (w .runs) Service.Receive (w .asks) e);
+      sent-word = λ s im answer after w e small room.
+          let g = good s im Service.Send answer after w in
+          let n = taken-up s im Service.Send answer after w e in
+          rw (told s im Service.Send answer after w, left s im Service.Send answer after w)
+          (sent-kind s im g (w .some) (w .runs) small n (w .asks) room, sent-held s im g (w .some) (w .runs) small n (w .asks) room);
+      received-word = λ s im answer after w e small x later holds.
+          let g = good s im Service.Receive answer after w in
+          let n = taken-up s im Service.Receive answer after w e in
+          rw (told s im Service.Receive answer after w, left s im Service.Receive answer after w) (
+            received-kind s im g (w .some) (w .runs) small n (w .asks) x later holds,
+            received-word s im g (w .some) (w .runs) small n (w .asks) x later holds,
+            received-held s im g (w .some) (w .runs) small n (w .asks) x later holds,
+          );
+      arrived-word = λ s im later a b after end v w up up′ to from none between.
+          let g = good s im Service.Send a after v in
+          let g′ = good s later Service.Receive b end w in
+          let kept = rw (left s im Service.Send a after v) at between in
+          let r = word-arrives s im later g g′ (v .some) (w .some) (v .runs) (w .runs) (v .asks) (w .asks) to from
+          (taken-up s im Service.Send a after v up) (taken-up s later Service.Receive b end w up′) (rw to at none) (rw to at kept) in
+          rw (told s later Service.Receive b end w, left s later Service.Receive b end w) (r .1, r .0);
+    }
+
+demand3 : Demand3
+demand3 =
+    record {
+      formula = λ S c k. refl;
+      in-calls = turn;
+      in-run = λ im events answer after p e i k w.
+          let r = is-calls im events answer after p (run-fine im events e) in
+          (r, turn events (answer .taken) (r .calls) i k (rw (r .starts) w));
+    }
+
+pub demands : Demands
+demands = record { first = demand1; second = demand2; third = demand3 }

@@ -1,0 +1,214 @@
+-- The three demands, in the user's order and words, of whatever any program may do that keeps the promises of the public calls:
+-- the records Checks, Measures, Builds, Happens and Runs (crates/paper/specs/Promises.antt), which the contracts of crates/kernel name.
+-- What stands in quotes is the user's or the paper's. All of it is proved, in proofs/Proved.antt, and nothing is assumed.
+use mathlib.Core.Path.{_≡_}
+use mathlib.Core.List.{List, [], _∷_, _++_}
+use mathlib.Core.Bool.{Bool, true, false, not, cond}
+use mathlib.Core.Logic.{_≢_, _↔_}
+use Prim.Native.Nat.{ℕ, zero, suc, _+_, _-_, _*_, _%_, _<_, _≤_}
+use lib.Dec.{eqb}
+use lib.ListN.{length, getD}
+use Rattle.paper.specs.Image.{total, shape-of, at, clock, reg, busy}
+use Rattle.paper.specs.Queues.{held, empty, full}
+use Rattle.paper.specs.Flags.{pending, waits}
+use Rattle.paper.specs.Services.{other}
+use Rattle.paper.specs.Events.{event-of, running, happening}
+use Rattle.paper.specs.Plans.{plan-shape, fresh}
+use Rattle.paper.specs.Rules.{Empty, Good}
+use Rattle.paper.specs.Tests.{rules-hold}
+use Rattle.paper.specs.Numbers.{verdict-number, reply-number, too-short, not-marked, out-of-range, not-packed, wrong-segments, plan-short, plan-broken}
+use Rattle.paper.specs.Calls.{size-number}
+use Rattle.paper.specs.Promises.{Checks, Measures, Builds, Happens, Runs}
+use Rattle.paper.specs.declared.Task.{Task}
+use Rattle.paper.specs.declared.Shape.{Shape}
+use Rattle.paper.specs.declared.Queue.{Queue}
+use Rattle.paper.specs.declared.Service.{Service}
+use Rattle.paper.specs.declared.Event.{Event}
+use Rattle.paper.specs.declared.Reply.{Reply}
+use Rattle.paper.specs.declared.Size.{Size}
+use Rattle.paper.specs.declared.Ended.{Ended}
+use Rattle.user_laws.specs.Taken.{first-events}
+use Rattle.user_laws.specs.Delivery.{Tells}
+use Rattle.bound.specs.Bound.{Behind, bound, IsFirst, Untouched, tick-count, if-accepted}
+use Rattle.demands.specs.Wakes.{wake-finds-full}
+
+-- "NUMBERS THAT COME BACK"
+
+-- tests in their order, each with its number and whether it shows a fault; due is the number of the first that does, and 0 where none does
+abbrev pub due : List (ℕ × Bool) → ℕ
+due [] = 0
+due (test ∷ later) = cond (test .1) (test .0) (due later)
+
+-- "Images are tested 1 to 6"
+abbrev pub image-tests : List ℕ → List (ℕ × Bool)
+image-tests im =
+    (1, too-short im) ∷ (2, not-marked im) ∷ (3, out-of-range (shape-of im)) ∷ (4, not-packed (shape-of im)) ∷
+    (5, wrong-segments (shape-of im) im) ∷ (6, not (rules-hold (shape-of im) im)) ∷ []
+
+-- 7 "event malformed", 8 "input for a full input buffer", 9 "output done on an idle port", 10 "a wake finds the ready queue full"
+abbrev pub event-tests : Shape → List ℕ → Event → List (ℕ × Bool)
+event-tests s im Event.Malformed = (7, true) ∷ []
+event-tests s im (Event.Input i c) = (8, full s im (Queue.Input i)) ∷ (10, wake-finds-full s im (Event.Input i c)) ∷ []
+event-tests s im (Event.OutputDone i) = (9, eqb (at s im (busy i)) 0) ∷ (10, wake-finds-full s im (Event.OutputDone i)) ∷ []
+event-tests s im Event.Tick = (10, wake-finds-full s im Event.Tick) ∷ []
+
+-- "Images are tested 1 to 6, then the event 7 to 10"
+abbrev pub call-tests : List ℕ → ℕ → ℕ → ℕ → List (ℕ × Bool)
+call-tests im k d c = image-tests im ++ event-tests (shape-of im) im (event-of (shape-of im) k d c)
+
+-- "A run checks the image and its list's length first"
+abbrev pub run-tests : List ℕ → List ℕ → List (ℕ × Bool)
+run-tests im events = image-tests im ++ ((7, not (eqb (length events % 3) 0)) ∷ [])
+
+-- "A plan: under 5 words (11), then 3, then the rest of 11"
+abbrev pub plan-tests : List ℕ → List (ℕ × Bool)
+plan-tests plan = (11, plan-short plan) ∷ (3, out-of-range (plan-shape plan)) ∷ (11, plan-broken plan) ∷ []
+
+-- "then 12"
+abbrev pub build-tests : List ℕ → List ℕ → List (ℕ × Bool)
+build-tests plan target = plan-tests plan ++ ((12, not (eqb (length target) (total (plan-shape plan)))) ∷ [])
+
+-- DEMAND 1
+-- "Every call ends and stays in its memory on ALL inputs." That is no proposition but the checker's verdict on every function, and no public one
+-- requires anything; the gate, `.ci/run`, asks for it from nothing.
+-- "A bad image, plan or event gets exactly the paper's refusal number and changes no word of any lent buffer.
+-- A run stopped by a bad event keeps the events before it."
+
+-- word j of event n of a list
+abbrev pub word-of : List ℕ → ℕ → ℕ → ℕ
+word-of events n j = getD events (3 * n + j) 0
+
+-- calls of event one after another, three words of a list a call: call n finds image n, gives reply n, leaves image n + 1, and keeps its promise
+pub record Calls (events : List ℕ) (count : ℕ) : Type 0 where
+  pub image : ℕ → List ℕ
+  pub reply : ℕ → Reply
+  pub kept : (n : ℕ) → n < count → Happens (image n) (word-of events n 0) (word-of events n 1) (word-of events n 2) (reply n) (image (suc n))
+
+-- a run is such calls, as many as it took, all accepted, and leaves the image that they leave; a run over the first n of them takes n and leaves image n
+pub record IsCalls (im events : List ℕ) (answer : Ended) (after : List ℕ) : Type 0 where
+  pub calls : Calls events (answer .taken)
+  pub starts : calls .image 0 ≡ im
+  pub accepted : (n : ℕ) → n < answer .taken → reply-number (calls .reply n) ≡ 0
+  pub ends : after ≡ calls .image (answer .taken)
+  pub parts : (n : ℕ) → n ≤ answer .taken → (a : Ended) (m : List ℕ) → Runs im (first-events n events) a m
+      → (a .taken ≡ n) × (verdict-number (a .stop) ≡ 0) × (m ≡ calls .image n)
+
+pub record Demand1 : Type 0 where
+  -- an image and a plan that are only read
+  pub checks : (im : List ℕ) (number : ℕ) → Checks im number → number ≡ due (image-tests im)
+  pub measures : (plan : List ℕ) (answer : Size) → Measures plan answer → size-number answer ≡ due (plan-tests plan)
+  -- a target, and an image, that are written where nothing is refused
+  pub builds : (plan target : List ℕ) (number : ℕ) (after : List ℕ) → Builds plan target number after
+      → (number ≡ due (build-tests plan target)) × (number ≢ 0 → after ≡ target)
+  pub happens : (im : List ℕ) (k d c : ℕ) (answer : Reply) (after : List ℕ) → Happens im k d c answer after
+      → (reply-number answer ≡ due (call-tests im k d c)) × (reply-number answer ≢ 0 → after ≡ im)
+  -- a run of a bad image, or over a list that is not of whole events, takes nothing
+  pub runs : (im events : List ℕ) (answer : Ended) (after : List ℕ) → Runs im events answer after → due (run-tests im events) ≢ 0
+      → (verdict-number (answer .stop) ≡ due (run-tests im events)) × (answer .taken ≡ 0) × (after ≡ im)
+  -- a run stopped by an event: its image is that of the events before, and there a call on this event is refused with the run's number
+  pub keeps : (im events : List ℕ) (answer : Ended) (after : List ℕ) → Runs im events answer after → due (run-tests im events) ≡ 0
+      → verdict-number (answer .stop) ≢ 0
+      → IsCalls im events answer after × (3 * answer .taken < length events) × (verdict-number (answer .stop) ≡
+      due (call-tests after (word-of events (answer .taken) 0) (word-of events (answer .taken) 1) (word-of events (answer .taken) 2)))
+
+-- DEMAND 2
+-- "Nothing else is refused. A plan gives the paper's fresh image; each accepted event gives exactly the paper's image and answer, word for word.
+-- A receive on an empty queue waits and delivers nothing; a sent zero arrives as a zero."
+
+-- a tick on an image that passes the check, whose first task asks for service v with time left on the clock
+pub record Asks (s : Shape) (im : List ℕ) (v : Service) (answer : Reply) (after : List ℕ) : Type 0 where
+  pub passes : Checks im 0
+  pub shape : s ≡ shape-of im
+  pub some : empty s im Queue.Ready ≡ false
+  pub runs : at s im clock ≢ 0
+  pub asks : pending s im (running s im) ≡ waits v
+  pub ticks : Happens im 0 0 0 answer after
+
+-- the message buffers between it and the task that its R2 names
+abbrev pub outgoing : Shape → List ℕ → Queue
+outgoing s im = Queue.Message (running s im) (other s im (running s im))
+
+abbrev pub incoming : Shape → List ℕ → Queue
+incoming s im = Queue.Message (other s im (running s im)) (running s im)
+
+pub record Demand2 : Type 0 where
+  -- an image passes exactly when it keeps every rule, and there an event is refused exactly for a fault of its own
+  pub passes : (im : List ℕ) (number : ℕ) → Checks im number → (number ≡ 0) ↔ Good (shape-of im) im
+  pub refused : (im : List ℕ) (k d c : ℕ) (answer : Reply) (after : List ℕ) → Checks im 0 → Happens im k d c answer after
+      → reply-number answer ≡ due (event-tests (shape-of im) im (event-of (shape-of im) k d c))
+  -- a plan without fault gives its size and the fresh image, which passes the check
+  pub measured : (plan : List ℕ) (answer : Size) → Measures plan answer → due (plan-tests plan) ≡ 0 → answer ≡ Size.Words (total (plan-shape plan))
+  pub built : (plan target : List ℕ) (number : ℕ) (after : List ℕ) → Builds plan target number after → due (build-tests plan target) ≡ 0
+      → (number ≡ 0) × (after ≡ fresh plan) × Checks after 0
+  -- an event without fault gives what the paper says happens, and an image that passes the check again
+  pub happened : (im : List ℕ) (k d c : ℕ) (answer : Reply) (after : List ℕ) → Happens im k d c answer after → due (call-tests im k d c) ≡ 0
+      → (answer ≡ happening (shape-of im) im (event-of (shape-of im) k d c) .reply) ×
+      (after ≡ happening (shape-of im) im (event-of (shape-of im) k d c) .image) × Checks after 0
+  -- a run with number 0 is calls on all of its events
+  pub ran : (im events : List ℕ) (answer : Ended) (after : List ℕ) → Runs im events answer after → due (run-tests im events) ≡ 0
+      → verdict-number (answer .stop) ≡ 0 → IsCalls im events answer after × (3 * answer .taken ≡ length events)
+  -- a receive on an empty queue: kind 4, and no register and no flags of any task change
+  pub received-nothing : (s : Shape) (im : List ℕ) (answer : Reply) (after : List ℕ) → Asks s im Service.Receive answer after
+      → other s im (running s im) .0 < s .n → Empty s im (incoming s im)
+      → Tells answer 4 × ((i : Task) (r : ℕ) → i .0 < s .n → r < 9 → at s after (reg i r) ≡ at s im (reg i r))
+  -- any word, 0 among them: a send puts that in R3 behind the words held; a receive takes the first word held to R3; both answer kind 3
+  pub sent-word : (s : Shape) (im : List ℕ) (answer : Reply) (after : List ℕ) → Asks s im Service.Send answer after → reply-number answer ≡ 0
+      → other s im (running s im) .0 < s .n → full s im (outgoing s im) ≡ false
+      → Tells answer 3 × (held s after (outgoing s im) ≡ held s im (outgoing s im) ++ (at s im (reg (running s im) 3) ∷ []))
+  pub received-word : (s : Shape) (im : List ℕ) (answer : Reply) (after : List ℕ) → Asks s im Service.Receive answer after → reply-number answer ≡ 0
+      → other s im (running s im) .0 < s .n → (w : ℕ) (later : List ℕ) → held s im (incoming s im) ≡ w ∷ later
+      → Tells answer 3 × (at s after (reg (running s im) 3) ≡ w) × (held s after (incoming s im) ≡ later)
+  -- so the word that was sent is the word that arrives: where the buffer was empty, and held the same at the receive as after the send
+  pub arrived-word : (s : Shape) (im later : List ℕ) (a b : Reply) (after end : List ℕ) → Asks s im Service.Send a after → Asks s later Service.Receive b end
+      → reply-number a ≡ 0 → reply-number b ≡ 0 → other s im (running s im) ≡ running s later → other s later (running s later) ≡ running s im
+      → held s im (outgoing s im) ≡ [] → held s later (outgoing s im) ≡ held s after (outgoing s im)
+      → Tells b 3 × (at s end (reg (running s later) 3) ≡ at s im (reg (running s im) 3))
+
+-- DEMAND 3
+-- "From an image that passes the check, slice S, c left on the clock, a ready task with k >= 1 others ahead: whatever mix of events comes, it stands
+-- first no later than accepted tick (2c + 1) + (k - 1)(2S + 1), and until then no word of its registers or segment has changed."
+
+-- a ready task with k others ahead, in an image that passes the check
+pub record ReadyBehind (im : List ℕ) (i : Task) (k : ℕ) : Type 0 where
+  pub passes : Checks im 0
+  pub behind : Behind (shape-of im) im i k
+  pub others : 1 ≤ k
+
+module _ {events : List ℕ} {count : ℕ} (c : Calls events count) where
+  -- how many of the first n calls were ticks, and accepted
+  abbrev pub ticks-in : ℕ → ℕ
+  ticks-in zero = 0
+  ticks-in (suc n) = ticks-in n + if-accepted (c .reply n) (tick-count (word-of events n 0) (word-of events n 1) (word-of events n 2))
+
+  -- after n calls task i stands first
+  abbrev pub FirstAfter : Task → ℕ → Type 0
+  FirstAfter i n = IsFirst (shape-of (c .image 0)) (c .image n) i
+
+  -- and after no fewer
+  abbrev pub NotBefore : Task → ℕ → Type 0
+  NotBefore i n = (m : ℕ) → m < n → ¬ FirstAfter i m
+
+  -- the bound, where the calls begin
+  abbrev pub latest : ℕ → ℕ
+  latest k = bound (shape-of (c .image 0) .slice) (at (shape-of (c .image 0)) (c .image 0) clock) k
+
+  pub record TurnComes (i : Task) (k : ℕ) : Type 0 where
+    -- where so many ticks are accepted, it stands first no later
+    pub first : latest k ≤ ticks-in count → (n : ℕ) × (n ≤ count) × (ticks-in n ≤ latest k) × FirstAfter i n × NotBefore i n
+    -- however few they are, after each call up to the first after which it stands first, no word of it has changed
+    pub untouched : (n : ℕ) → n ≤ count → NotBefore i n → Untouched (shape-of (c .image 0)) (c .image 0) (c .image n) i
+
+pub record Demand3 : Type 0 where
+  -- the bound
+  pub formula : (S c k : ℕ) → bound S c k ≡ (2 * c + 1) + (k - 1) * (2 * S + 1)
+  -- of any calls of event, refused ones among them
+  pub in-calls : (events : List ℕ) (count : ℕ) (c : Calls events count) (i : Task) (k : ℕ) → ReadyBehind (c .image 0) i k → TurnComes c i k
+  -- and of a run
+  pub in-run : (im events : List ℕ) (answer : Ended) (after : List ℕ) → Runs im events answer after → due (run-tests im events) ≡ 0
+      → (i : Task) (k : ℕ) → ReadyBehind im i k → (r : IsCalls im events answer after) × TurnComes (r .calls) i k
+
+-- what the user signs
+pub record Demands : Type 0 where
+  pub first : Demand1
+  pub second : Demand2
+  pub third : Demand3

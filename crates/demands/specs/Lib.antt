@@ -1,0 +1,2 @@
+pub mod Wakes
+pub mod Demands
