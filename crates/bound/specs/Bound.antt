@@ -1,6 +1,6 @@
 -- How many ticks a task in the ready queue waits for its turn at most: the bound, and what it promises.
 use mathlib.Core.Bool.{false, cond}
-use mathlib.Core.List.{List, [], _∷_, _++_}
+use mathlib.Core.List.{List, [], _∷_}
 use mathlib.Core.Path.{_≡_}
 use Prim.Native.Nat.{ℕ, _+_, _-_, _*_, _<_, _≤_}
 use lib.ListN.{length, getD}
@@ -8,8 +8,7 @@ use Rattle.paper.specs.Image.{shape-of, at, clock}
 use Rattle.paper.specs.Queues.{first, held, empty}
 use Rattle.paper.specs.Machines.{lies, own}
 use Rattle.paper.specs.Events.{is-tick}
-use Rattle.paper.specs.Numbers.{verdict-number, check}
-use Rattle.paper.specs.Calls.{event, run}
+use Rattle.paper.specs.Numbers.{check}
 use Rattle.paper.specs.declared.Task.{Task}
 use Rattle.paper.specs.declared.Shape.{Shape}
 use Rattle.paper.specs.declared.Queue.{Queue}
@@ -46,11 +45,6 @@ ticks (k ∷ []) = 0
 ticks (k ∷ d ∷ []) = 0
 ticks (k ∷ d ∷ c ∷ later) = tick-count k d c + ticks later
 
--- a prefix of n whole events of a list
-pub record Prefix (events part rest : List ℕ) (n : ℕ) : Type 0 where
-  pub joined : part ++ rest ≡ events
-  pub whole : length part ≡ 3 * n
-
 -- task i is first
 pub record IsFirst (s : Shape) (im : List ℕ) (i : Task) : Type 0 where
   pub some : empty s im Queue.Ready ≡ false
@@ -61,42 +55,7 @@ pub record Untouched (s : Shape) (im m : List ℕ) (i : Task) : Type 0 where
   pub lies-kept : lies s m i ≡ lies s im i
   pub own-kept : own s m i ≡ own s im i
 
--- the turn of task i comes within a list of events; `after` gives the image after a prefix of it, `counted` the ticks of the prefix
-pub record Comes (s : Shape) (im events : List ℕ) (i : Task) (most : ℕ) (after : List ℕ → List ℕ) (counted : List ℕ → ℕ) : Type 0 where
-  pub before : List ℕ
-  pub rest : List ℕ
-  pub number : ℕ
-  pub prefix : Prefix events before rest number
-  -- after that prefix, of so few ticks, the task is first
-  pub few : counted before ≤ most
-  pub first : IsFirst s (after before) i
-  -- and after every prefix up to that one no word of it differs from the start
-  pub untouched : (part later : List ℕ) (n : ℕ) → Prefix before part later n → Untouched s im (after part) i
-
--- calls of `event` one after another, three words a call: the image after them
-abbrev pub calls : List ℕ → List ℕ → List ℕ
-calls im [] = im
-calls im (k ∷ []) = im
-calls im (k ∷ d ∷ []) = im
-calls im (k ∷ d ∷ c ∷ later) = calls (event im k d c .image) later
-
 -- what counts of an accepted call; a refused one counts for nothing
 abbrev pub if-accepted : Reply → ℕ → ℕ
 if-accepted (Reply.Accepted a) n = n
 if-accepted (Reply.Refused r) n = 0
-
--- how many of the calls were ticks, and accepted
-abbrev pub accepted-ticks : List ℕ → List ℕ → ℕ
-accepted-ticks im [] = 0
-accepted-ticks im (k ∷ []) = 0
-accepted-ticks im (k ∷ d ∷ []) = 0
-accepted-ticks im (k ∷ d ∷ c ∷ later) = if-accepted (event im k d c .reply) (tick-count k d c) + accepted-ticks (event im k d c .image) later
-
--- the turn of task i comes within a run, said in what runs give back
-pub record RunComes (s : Shape) (im events : List ℕ) (i : Task) (most : ℕ) : Type 0 where
-  pub comes : Comes s im events i most (λ part. run im part .image) ticks
-  -- the prefix is among the events that were taken
-  pub among : comes .number ≤ run im events .taken
-  -- and a run over it alone takes all of it, with number 0
-  pub taken : run im (comes .before) .taken ≡ comes .number
-  pub fine : verdict-number (run im (comes .before) .stop) ≡ 0

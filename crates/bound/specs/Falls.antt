@@ -3,7 +3,7 @@ use mathlib.Core.Path.{_≡_, _∙_}
 use mathlib.Core.List.{List}
 use mathlib.Core.Bool.{Bool, true, false, cond}
 use mathlib.Core.Logic.{_⊎_, ⊎-elim}
-use Prim.Native.Nat.{ℕ, zero, suc, _+_, _<_, _≤_}
+use Prim.Native.Nat.{ℕ, zero, suc, _+_, _-_, _<_, _≤_}
 use native.Mathlib.Omega.{arith}
 use lib.ListN.{length, getD, length-append, List·getD-append}
 use Rattle.paper.specs.Image.{at, clock}
@@ -19,12 +19,19 @@ use Rattle.paper.specs.declared.Reply.{Reply}
 use Rattle.laws.specs.Events.{event-formed}
 use Rattle.event_laws.specs.Stays.{words-good}
 use Rattle.event_laws.specs.Touched.{event-frame}
-use Rattle.bound.specs.Bound.{tick-count, Behind, Untouched}
+use Rattle.bound.specs.Bound.{most-ticks, tick-count, Behind, Untouched}
 use Rattle.bound.specs.Measure.{pace, measure, Nears}
 use Rattle.bound.specs.Pace.{pace-some, pace-most}
 use Rattle.event_laws.specs.First.{KeepsPlace, LeavesPlace}
 use Rattle.bound.specs.Ticks.{Moves, event-moves}
 use Rattle.bound.specs.Line.{behind-some, frame-untouched}
+
+-- what is within the measure is within the bound
+pub within-bound : (s : Shape) (im : List ℕ) (k : ℕ) → 1 ≤ k → measure s im k ≤ most-ticks s im k
+within-bound s im zero h = absurd (omega arith)
+within-bound s im (suc k) h =
+    let e : suc k - 1 ≡ k = omega arith in
+    rw e (omega (arith, pace-most (at s im clock) (pending s im (running s im))))
 
 module _ (s : Shape) (im m : List ℕ) (g : Good s m) (used : ℕ) (one : used ≤ 1) where
   -- where the first task leaves its place: it could use a tick at least, and the next one can use a whole slice at most

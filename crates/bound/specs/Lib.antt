@@ -4,6 +4,3 @@ pub mod Pace
 pub mod Ticks
 pub mod Line
 pub mod Falls
-pub mod Nearer
-pub mod Turn
-pub mod Callers

@@ -3,7 +3,7 @@ use mathlib.Core.Path.{_≡_, refl, sym, _∙_}
 use mathlib.Core.List.{List}
 use mathlib.Core.Bool.{Bool, true, false}
 use mathlib.Core.Logic.{_⊎_, inl, inr, ⊎-elim}
-use Prim.Native.Nat.{ℕ, zero, suc, _+_, _-_, _<_, _≤_}
+use Prim.Native.Nat.{ℕ, zero, suc, _+_, _<_, _≤_}
 use native.Mathlib.Decide.{ℕ-discrete}
 use native.Mathlib.Omega.{arith}
 use Rattle.paper.specs.Image.{shape-of, at, clock}
@@ -22,11 +22,11 @@ use Rattle.laws.specs.Checked.{check-zero}
 use Rattle.event_laws.specs.Stays.{words-good}
 use Rattle.user_laws.specs.Replies.{Accepted, RefusedFor, replies}
 use Rattle.user_laws.specs.Folded.{event-is}
-use Rattle.bound.specs.Bound.{Behind, bound, IsFirst, Untouched, tick-count, if-accepted}
+use Rattle.bound.specs.Bound.{Behind, IsFirst, Untouched, tick-count, if-accepted}
 use Rattle.bound.specs.Measure.{measure, Nears}
-use Rattle.bound.specs.Pace.{pace-some, pace-most}
+use Rattle.bound.specs.Pace.{pace-some}
 use Rattle.bound.specs.Line.{behind-first}
-use Rattle.bound.specs.Falls.{event-nears, event-untouched}
+use Rattle.bound.specs.Falls.{within-bound, event-nears, event-untouched}
 use Rattle.demands.specs.Demands.{Calls, ReadyBehind, ticks-in, FirstAfter, NotBefore, latest, TurnComes}
 
 -- what a call on a good image does to a task with others ahead of it
@@ -73,13 +73,6 @@ first-or-not s im i = go (empty s im Queue.Ready) refl (ℕ-discrete (first s im
 ahead-none : (s : Shape) (im : List ℕ) (k : ℕ) → measure s im k ≤ 0 → k ≡ 0
 ahead-none s im zero h = refl
 ahead-none s im (suc k) h = absurd (omega (arith, pace-some (at s im clock) (pending s im (running s im)), h))
-
--- the measure is within the bound
-within-bound : (s : Shape) (im : List ℕ) (k : ℕ) → 1 ≤ k → measure s im k ≤ bound (s .slice) (at s im clock) k
-within-bound s im zero h = absurd (omega arith)
-within-bound s im (suc k) h =
-    let e : suc k - 1 ≡ k = omega arith in
-    rw e (omega (arith, pace-most (at s im clock) (pending s im (running s im))))
 
 module _ (events : List ℕ) (count : ℕ) (c : Calls events count) (i : Task) (k : ℕ) (w : ReadyBehind (c .image 0) i k) where
   abbrev s : Shape
