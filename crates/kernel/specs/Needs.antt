@@ -75,16 +75,17 @@ module _ (im events : List ℕ) (image list verdict : Verdict) (ei : image ≡ c
   verdict-is : verdict ≡ check-run im events
   verdict-is = ev ∙ ap (λ v. and-then v list) ei ∙ ap (and-then (check im)) el
 
-  ran : (answer : Ended) (out : List ℕ) → answer .taken ≡ run im events .taken → answer .stop ≡ run im events .stop → out ≡ run im events .image
-      → Runs im events answer out
-  ran answer out et es eo = record { counted = et; stopped = es; numbered = ap verdict-number es; left = eo }
+  ran : (answer : Ended) (out : List ℕ) → record { taken = answer .taken; stop = answer .stop; image = out } ≡ run im events → Runs im events answer out
+  ran answer out e =
+      let stop = ap (λ (r : Ran). r .stop) e in
+      record { counted = ap (λ (r : Ran). r .taken) e; stopped = stop; numbered = ap verdict-number stop; left = ap (λ (r : Ran). r .image) e }
 
   pub run-refused : (r : Refusal) (answer : Ended) → verdict ≡ Verdict.Refused r → answer ≡ record { taken = 0; stop = Verdict.Refused r }
       → Runs im events answer im
   unfolding run
   run-refused r answer f ea =
       let at : check-run im events ≡ Verdict.Refused r = sym verdict-is ∙ f in
-      rw ea (ran _ im (rw at) (rw at) (rw at))
+      rw ea (ran _ im (rw at))
 
   module _ (f : verdict ≡ Verdict.Fine) where
     both-fine : (image ≡ Verdict.Fine) × (list ≡ Verdict.Fine)
@@ -106,7 +107,7 @@ module _ (im events : List ℕ) (image list verdict : Verdict) (ei : image ≡ c
     run-fine s last answer out es e ep =
         let at : check-run im events ≡ Verdict.Fine = sym verdict-is ∙ f in
         let t = run-told s im events run-whole Answer.Idle ∙ ap ran-as e in
-        ran answer out (rw (at, ← es, t)) (rw (at, ← es, t) ep) (rw (at, ← es, t))
+        ran answer out (rw (at, ← es, t, ep))
 
 -- a list's verdict
 module _ (words : ℕ) where
