@@ -16,6 +16,7 @@ use Rattle.paper.specs.declared.Shape.{Shape}
 use Rattle.paper.specs.declared.Queue.{Queue}
 use Rattle.paper.specs.declared.Answer.{Answer}
 use Rattle.paper.specs.declared.Reply.{Reply}
+use Rattle.laws.specs.Cases.{when}
 use Rattle.laws.specs.Events.{event-formed}
 use Rattle.event_laws.specs.Stays.{words-good}
 use Rattle.event_laws.specs.Touched.{event-frame}
@@ -72,21 +73,17 @@ module _ (s : Shape) (im m : List ℕ) (g : Good s m) (used : ℕ) (one : used �
 
 -- a tick counts 1
 tick-one : (k d c : ℕ) → tick-count k d c ≤ 1
-tick-one k d c = go (is-tick k d c)
-  where
-    go : (b : Bool) → cond b 1 0 ≤ 1
-    go true = omega arith
-    go false = omega arith
+tick-one k d c = when (λ n. n ≤ 1) (is-tick k d c) (λ _. omega arith) (λ _. omega arith)
 
--- an accepted event, and a task with others ahead of it
-module _ (s : Shape) (im : List ℕ) (g : Good s im) (i : Task) (k : ℕ) (b : Behind s im i (suc k)) (kind device character : ℕ) (told : Answer)
-    (taken-up : happening s im (event-of s kind device character) .reply ≡ Reply.Accepted told) where
-  -- the step lemma: a tick makes the measure fall by 1 at least, and no device event raises it
-  pub event-nears : Nears s im (happening s im (event-of s kind device character) .image) i (suc k) (tick-count kind device character)
-  event-nears =
+-- an event, and a task with others ahead of it
+module _ (s : Shape) (im : List ℕ) (g : Good s im) (i : Task) (k : ℕ) (b : Behind s im i (suc k)) (kind device character : ℕ) where
+  -- the step lemma: an accepted tick makes the measure fall by 1 at least, and no accepted device event raises it
+  pub event-nears : (told : Answer) → happening s im (event-of s kind device character) .reply ≡ Reply.Accepted told
+      → Nears s im (happening s im (event-of s kind device character) .image) i (suc k) (tick-count kind device character)
+  event-nears told taken-up =
       moves-nears s im _ (words-good s im g kind device character) (tick-count kind device character) (tick-one kind device character) i k b
       (event-moves s im g (behind-some s im g i (suc k) b) kind device character told taken-up)
 
-  -- and neither touches a word of the task
+  -- and none touches a word of the task
   pub event-untouched : Untouched s im (happening s im (event-of s kind device character) .image) i
   event-untouched = frame-untouched s im g i k b (event-frame s im g (event-of s kind device character) (event-formed s kind device character))

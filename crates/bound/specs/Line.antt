@@ -2,7 +2,7 @@
 use mathlib.Core.Path.{_≡_, refl, sym, ap, _∙_}
 use mathlib.Core.List.{List, [], _∷_}
 use mathlib.Core.Bool.{false, true≢false}
-use mathlib.Core.Logic.{_≢_, inl, inr}
+use mathlib.Core.Logic.{_≢_, inl, inr, dite}
 use Prim.Native.Nat.{ℕ, zero, suc, _+_, _<_, _≤_}
 use native.Mathlib.Decide.{ℕ-discrete, decLt}
 use native.Mathlib.Omega.{arith}
@@ -39,18 +39,10 @@ module _ (s : Shape) (im : List ℕ) (g : Good s im) (i : Task) (k : ℕ) (b : B
   behind-times e = omega (arith, times-some (held s im Queue.Ready) k (i .0) (b .0) (b .1), e)
 
   pub behind-task : i .0 < s .n
-  behind-task = go (decLt (i .0) (s .n))
-    where
-      go : Dec (i .0 < s .n) → i .0 < s .n
-      go (yes l) = l
-      go (no n) = absurd (behind-times (g .no-other i (λ r. n (r .0))))
+  behind-task = dite (decLt (i .0) (s .n)) (λ l. l) (λ n. absurd (behind-times (g .no-other i (λ r. n (r .0)))))
 
   behind-ready : Ready s im i
-  behind-ready = go (ℕ-discrete (at s im (status i)) is-ready)
-    where
-      go : Dec (at s im (status i) ≡ is-ready) → Ready s im i
-      go (yes e) = (behind-task, e)
-      go (no n) = absurd (behind-times (g .no-other i (λ r. n (r .1))))
+  behind-ready = dite (ℕ-discrete (at s im (status i)) is-ready) (λ e. (behind-task, e)) (λ n. absurd (behind-times (g .no-other i (λ r. n (r .1)))))
 
   pub behind-some : empty s im Queue.Ready ≡ false
   behind-some = go (held s im Queue.Ready) refl (b .0)

@@ -1,22 +1,20 @@
 -- What an accepted event does to the ready queue and to what the first task can still use. Assumes nothing.
-use mathlib.Core.Path.{_≡_, refl, sym, ap, _∙_}
+use mathlib.Core.Path.{_≡_, refl, sym, _∙_}
 use mathlib.Core.List.{List}
 use mathlib.Core.Bool.{Bool, true, false, _||_, true≢false}
 use mathlib.Core.Logic.{_≢_, _⊎_, inl, inr}
 use Prim.Native.Nat.{ℕ, _+_, _-_, _<_, _≤_}
 use native.Mathlib.Omega.{arith}
-use lib.ListN.{length}
-use Rattle.paper.specs.Image.{total, at, put, clock, flags}
-use Rattle.paper.specs.Queues.{appended, empty, full}
-use Rattle.paper.specs.Flags.{flags-of, error, pending, cc as condition, waits}
+use Rattle.paper.specs.Image.{at, put, clock, flags}
+use Rattle.paper.specs.Queues.{empty, full}
+use Rattle.paper.specs.Flags.{error, pending, cc as condition, waits}
 use Rattle.paper.specs.Waking.{Outcome, woken}
 use Rattle.paper.specs.Services.{fault-of, service-faulted, blocked, waiting, moved, served}
 use Rattle.paper.specs.Orders.{order, after-order}
-use Rattle.paper.specs.Events.{event-of, running, spent, ordered, tick, input, port-next, output-done, happening}
+use Rattle.paper.specs.Events.{event-of, running, spent, ordered, tick, input, output-done, happening}
 use Rattle.paper.specs.Rules.{Good}
 use Rattle.paper.specs.declared.Task.{Task}
 use Rattle.paper.specs.declared.Shape.{Shape}
-use Rattle.paper.specs.declared.Cell.{Cell}
 use Rattle.paper.specs.declared.Part.{Part}
 use Rattle.paper.specs.declared.Queue.{Queue}
 use Rattle.paper.specs.declared.Service.{Service}
@@ -132,7 +130,7 @@ module _ (s : Shape) (im : List ℕ) (g : Good s im) (some : empty s im Queue.Re
       costs : {o : List ℕ} → Sound s o → KeepsPlace s m o → at s o clock ≡ at s m clock → pending s o i ≡ 0 → Moves s im o 1
       costs h k c p =
           let place = begins-keeps b (good-sound s im g) k in
-          inr (place, rw (pace-is h place (at s im clock) 0 (c ∙ b .clock-is) p) (served-falls (at s im clock) (pending s im i) runs (λ e. waits-not v (sym e ∙ asks))))
+          inr (place, rw (pace-is h place (at s im clock) 0 (c ∙ b .clock-is (good-sound s im g)) p) (served-falls (at s im clock) (pending s im i) runs (λ e. waits-not v (sym e ∙ asks))))
 
   -- rule 5
   ordered-moves : at s im clock ≢ 0 → pending s im i ≡ 0 → MovesAs s im 1 (ordered s im i (order s im i))

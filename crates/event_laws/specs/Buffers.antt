@@ -1,13 +1,12 @@
 -- A word that moves to or from a buffer keeps an image good, but for a task that waits on that buffer. Assumes nothing.
-use mathlib.Core.Path.{_≡_, refl, sym, ap, _∙_}
+use mathlib.Core.Path.{_≡_, refl, ap, _∙_}
 use mathlib.Core.List.{List}
 use mathlib.Core.Bool.{true}
 use mathlib.Core.Logic.{_≢_, _⊎_, inl, inr, ⊎-elim}
 use Prim.Native.Nat.{ℕ, _+_, _<_}
-use native.Mathlib.Decide.{ℕ-discrete}
 use native.Mathlib.Omega.{arith}
-use Rattle.paper.specs.Image.{lead, ord, place, at, status}
-use Rattle.paper.specs.Queues.{part-of, row-of, Has, header-capacity, queue-word, head, held}
+use Rattle.paper.specs.Image.{lead, ord, at, status}
+use Rattle.paper.specs.Queues.{part-of, row-of, Has, header-capacity, queue-word, held}
 use Rattle.paper.specs.Flags.{waits}
 use Rattle.paper.specs.Rules.{Ported}
 use Rattle.paper.specs.declared.Task.{Task}
@@ -17,45 +16,12 @@ use Rattle.paper.specs.declared.Part.{Part}
 use Rattle.paper.specs.declared.Queue.{Queue}
 use Rattle.paper.specs.declared.Service.{Service}
 use Rattle.paper.specs.declared.Woken.{Woken}
-use Rattle.laws.specs.Places.{row-same, column-same, one-cell}
-use Rattle.laws.specs.Queues.{Off, word-valid, held-frame}
+use Rattle.laws.specs.Queues.{Off, word-valid, held-frame, same-queue}
 use Rattle.laws.specs.Sound.{Sound, sound}
 use Rattle.laws.specs.Frame.{Frame, Apart, SameCount, frame-more, kept-flags, kept-same}
 use Rattle.laws.specs.Changes.{device-parts}
 use Rattle.event_laws.specs.Standing.{awaits, stands-frame}
-use Rattle.event_laws.specs.Kept.{Spared, Chars, Nearly, same-task, awaits-has, kept-listed, kept-clocked}
-
--- a queue has its part and its row to itself
-queue-same : (s : Shape) (p q : Queue) → Has s p → Has s q → part-of p ≡ part-of q → row-of s p ≡ row-of s q → p ≡ q
-queue-same s Queue.Ready Queue.Ready hp hq e r = refl
-queue-same s Queue.Ready (Queue.Input j) hp hq e r = absurd (let z : _≡_ {A = ℕ} 2 4 = ap ord e in omega arith)
-queue-same s Queue.Ready (Queue.Output j) hp hq e r = absurd (let z : _≡_ {A = ℕ} 2 5 = ap ord e in omega arith)
-queue-same s Queue.Ready (Queue.Message j l) hp hq e r = absurd (let z : _≡_ {A = ℕ} 2 6 = ap ord e in omega arith)
-queue-same s (Queue.Input i) Queue.Ready hp hq e r = absurd (let z : _≡_ {A = ℕ} 4 2 = ap ord e in omega arith)
-queue-same s (Queue.Input i) (Queue.Input j) hp hq e r = ap Queue.Input (same-task i j r)
-queue-same s (Queue.Input i) (Queue.Output j) hp hq e r = absurd (let z : _≡_ {A = ℕ} 4 5 = ap ord e in omega arith)
-queue-same s (Queue.Input i) (Queue.Message j l) hp hq e r = absurd (let z : _≡_ {A = ℕ} 4 6 = ap ord e in omega arith)
-queue-same s (Queue.Output i) Queue.Ready hp hq e r = absurd (let z : _≡_ {A = ℕ} 5 2 = ap ord e in omega arith)
-queue-same s (Queue.Output i) (Queue.Input j) hp hq e r = absurd (let z : _≡_ {A = ℕ} 5 4 = ap ord e in omega arith)
-queue-same s (Queue.Output i) (Queue.Output j) hp hq e r = ap Queue.Output (same-task i j r)
-queue-same s (Queue.Output i) (Queue.Message j l) hp hq e r = absurd (let z : _≡_ {A = ℕ} 5 6 = ap ord e in omega arith)
-queue-same s (Queue.Message i g) Queue.Ready hp hq e r = absurd (let z : _≡_ {A = ℕ} 6 2 = ap ord e in omega arith)
-queue-same s (Queue.Message i g) (Queue.Input j) hp hq e r = absurd (let z : _≡_ {A = ℕ} 6 4 = ap ord e in omega arith)
-queue-same s (Queue.Message i g) (Queue.Output j) hp hq e r = absurd (let z : _≡_ {A = ℕ} 6 5 = ap ord e in omega arith)
-queue-same s (Queue.Message i g) (Queue.Message j l) hp hq e r =
-    let a : i ≡ j = same-task i j (row-same (s .n) (i .0) (j .0) (g .0) (l .0) (hp .1) (hq .1) r) in
-    let b : g ≡ l = same-task g l (column-same (s .n) (i .0) (j .0) (g .0) (l .0) (hp .1) (hq .1) r) in
-    rw (a, b)
-
--- two queues are one, or lie in different rows
-same-queue : (s : Shape) (p q : Queue) → Has s p → Has s q → (p ≡ q) ⊎ ((k : ℕ) → Off s q (queue-word s p k))
-same-queue s p q hp hq = go (ℕ-discrete (place s (head s p) .0) (place s (head s q) .0))
-  where
-    go : Dec (place s (head s p) .0 ≡ place s (head s q) .0) → (p ≡ q) ⊎ ((k : ℕ) → Off s q (queue-word s p k))
-    go (yes e) =
-        let c = one-cell s (head s p) (head s q) (word-valid s p 0 hp (omega arith)) (word-valid s q 0 hq (omega arith)) e in
-        inl (queue-same s p q hp hq (ap (λ (x : Cell). x .part) c) (ap (λ (x : Cell). x .row) c))
-    go (no ne) = inr (λ k part row. ne (rw (part, row) refl))
+use Rattle.event_laws.specs.Kept.{Spared, Chars, Nearly, awaits-has, kept-listed, kept-clocked}
 
 -- no queue lies among the ports
 not-port : (q : Queue) → part-of q ≢ Part.Ports

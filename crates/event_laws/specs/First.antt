@@ -2,21 +2,20 @@
 use mathlib.Core.Path.{_≡_, refl, sym, ap, _∙_}
 use mathlib.Core.List.{List, [], _∷_, _++_, append-nil}
 use mathlib.Core.Bool.{Bool, true, false, true≢false}
-use mathlib.Core.Logic.{_⊎_, inl, inr}
+use mathlib.Core.Logic.{inl, inr}
 use Prim.Native.Nat.{ℕ, suc, _<_}
 use native.Mathlib.Omega.{arith}
 use borrow.Author.Tests.{ne-eqb}
 use lib.ListN.{length, getD}
-use Rattle.paper.specs.Image.{ord, cell, at, put, flags}
+use Rattle.paper.specs.Image.{ord, cell, at, flags}
 use Rattle.paper.specs.Queues.{count, first, taken, held, empty, full}
-use Rattle.paper.specs.Waking.{Outcome, with-status, woken, left}
+use Rattle.paper.specs.Waking.{with-status, woken, left}
 use Rattle.paper.specs.Services.{fault-of, service-faulted, blocked, served, wakes}
 use Rattle.paper.specs.Orders.{order, order-answer}
 use Rattle.paper.specs.Events.{running, ordered, turned, tick}
 use Rattle.paper.specs.Rules.{Good}
 use Rattle.paper.specs.declared.Task.{Task}
 use Rattle.paper.specs.declared.Shape.{Shape}
-use Rattle.paper.specs.declared.Cell.{Cell}
 use Rattle.paper.specs.declared.Part.{Part}
 use Rattle.paper.specs.declared.Queue.{Queue}
 use Rattle.paper.specs.declared.Service.{Service}
@@ -28,7 +27,7 @@ use Rattle.paper.specs.declared.Reply.{Reply}
 use Rattle.laws.specs.Queues.{held-length, taken-held}
 use Rattle.laws.specs.Sound.{Sound, sound, has-word}
 use Rattle.laws.specs.Checked.{good-sound}
-use Rattle.laws.specs.Frame.{Frame, Apart, frame-none, frame-put, kept-full, kept-held}
+use Rattle.laws.specs.Frame.{Apart, frame-none, frame-put, kept-full, kept-held}
 use Rattle.laws.specs.Changes.{moved-parts}
 use Rattle.event_laws.specs.Own.{own-parts, header-part, clock-apart}
 use Rattle.event_laws.specs.Turns.{woken-tail, Leads, leads-sound, leads-in, leads-list, left-list, turned-list}

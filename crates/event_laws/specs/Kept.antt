@@ -1,9 +1,9 @@
 -- A good image, but for a task that is about to be woken; what parts that are as they were keep of it. Assumes nothing.
-use mathlib.Core.Path.{_≡_, sym, ap, _∙_}
+use mathlib.Core.Path.{_≡_, sym, _∙_}
 use mathlib.Core.List.{List}
 use mathlib.Core.Bool.{Bool, false}
-use Prim.Native.Nat.{ℕ, _-_, _<_, _≤_}
-use Rattle.paper.specs.Image.{task, at, clock, flags, status}
+use Prim.Native.Nat.{ℕ, _<_, _≤_}
+use Rattle.paper.specs.Image.{at, clock, flags, status}
 use Rattle.paper.specs.Queues.{part-of, Has, held}
 use Rattle.paper.specs.Flags.{waits}
 use Rattle.paper.specs.Rules.{Flagged, Empty, Characters, times, Ready, Ported, Stands, Good}
@@ -14,7 +14,7 @@ use Rattle.paper.specs.declared.Queue.{Queue}
 use Rattle.paper.specs.declared.Service.{Service}
 use Rattle.paper.specs.declared.Woken.{Woken}
 use Rattle.laws.specs.Sound.{Sound, shut, sound}
-use Rattle.laws.specs.Frame.{Apart, Same, SameCount, kept-clock, kept-status, kept-same, kept-count, kept-held, kept-port}
+use Rattle.laws.specs.Frame.{Apart, Same, kept-clock, kept-status, kept-count, kept-held, kept-port}
 use Rattle.event_laws.specs.Standing.{awaits, stands-frame}
 
 -- the task that an event is about to wake
@@ -80,10 +80,6 @@ nearly-good h =
       ports = h .ports;
       statuses = λ i hi. h .statuses i hi (λ e. e);
     }
-
--- one task has one number
-pub same-task : (i j : Task) → i .0 ≡ j .0 → i ≡ j
-same-task i j e = ap task e
 
 -- the buffer that a task waits on is one of this image
 pub awaits-has : (s : Shape) (im : List ℕ) (i : Task) → i .0 < s .n → Stands s im i → (v : Service) → at s im (status i) ≡ waits v → Has s (awaits s im i v)

@@ -1,19 +1,19 @@
 -- Words that move to and from buffers, one law for each way. Assumes nothing.
 use mathlib.Core.Path.{_≡_, refl, sym, ap, _∙_}
 use mathlib.Core.List.{List, [], _∷_, _++_}
-use mathlib.Core.Bool.{Bool, true, false, cond, _||_}
-use mathlib.Core.Logic.{_≢_, _⊎_, inl, inr}
-use Prim.Native.Nat.{ℕ, _+_, _-_, _<_, _≤_}
+use mathlib.Core.Bool.{Bool, true, false}
+use mathlib.Core.Logic.{_≢_, _⊎_, inl, inr, dite}
+use Prim.Native.Nat.{ℕ, _<_, _≤_}
 use native.Mathlib.Decide.{ℕ-discrete}
 use native.Mathlib.Omega.{arith}
 use borrow.Author.Tests.{eq-eqb, eqb-true, eqb-false}
 use lib.Dec.{eqb}
 use lib.ListN.{length}
-use Rattle.paper.specs.Image.{most-character, ord, lead, total, cell, Valid, at, put, status, peer, busy, character}
-use Rattle.paper.specs.Queues.{part-of, row-of, Has, header-capacity, queue-word, count, appended, first, taken, held, empty, full}
+use Rattle.paper.specs.Image.{most-character, ord, total, cell, Valid, at, put, status, peer, busy, character}
+use Rattle.paper.specs.Queues.{part-of, Has, queue-word, count, appended, first, taken, held, empty, full}
 use Rattle.paper.specs.Flags.{is-ready, waits}
 use Rattle.paper.specs.Waking.{one-if}
-use Rattle.paper.specs.Services.{other, printing, printing-if-idle, waits-for}
+use Rattle.paper.specs.Services.{printing, printing-if-idle, waits-for}
 use Rattle.paper.specs.Events.{port-next}
 use Rattle.paper.specs.Rules.{Characters, Ported, Empty}
 use Rattle.paper.specs.declared.Task.{Task}
@@ -23,13 +23,14 @@ use Rattle.paper.specs.declared.Part.{Part}
 use Rattle.paper.specs.declared.Queue.{Queue}
 use Rattle.paper.specs.declared.Service.{Service}
 use Rattle.paper.specs.declared.Woken.{Woken}
-use Rattle.laws.specs.Cells.{at-same, at-other, length-put, cells}
-use Rattle.laws.specs.Queues.{Off, appended-held, taken-held}
+use Rattle.laws.specs.Cases.{when}
+use Rattle.laws.specs.Cells.{cells}
+use Rattle.laws.specs.Queues.{same-task, appended-held, taken-held}
 use Rattle.laws.specs.Sound.{Sound, sound, has-room, has-word, put-sound, appended-sound, appended-some, taken-sound}
 use Rattle.laws.specs.Frame.{Frame, Apart, frame-none, frame-more, frame-put, frame-appended, frame-taken, ported-frame, kept, kept-port, kept-held, kept-count}
 use Rattle.laws.specs.Changes.{message-parts, out-sound, frame-printing}
-use Rattle.event_laws.specs.Standing.{awaits, waits-not}
-use Rattle.event_laws.specs.Kept.{Spared, Chars, Nearly, same-task}
+use Rattle.event_laws.specs.Standing.{waits-not}
+use Rattle.event_laws.specs.Kept.{Spared, Chars, Nearly}
 use Rattle.event_laws.specs.Buffers.{BufferCell, Free, buffer-nearly}
 
 -- characters, one more or one less
@@ -134,15 +135,16 @@ OutCell i c = (c .row ≡ i .0) × ((c .part ≡ Part.OutputBuffers) ⊎ (c .par
 
 -- those of one task written anew
 module _ {s : Shape} {im : List ℕ} (h : Nearly s im Woken.Nobody) (i : Task) (hi : i .0 < s .n) (w : Woken) (free : Free s im (Queue.Output i) w) where
-  out-ports : {m : List ℕ} → Frame s (OutCell i) im m → Ported s m i → (j : Task) → j .0 < s .n → Dec (j .0 ≡ i .0) → Ported s m j
-  out-ports k p j hj (yes e) = rw (same-task j i e) p
-  out-ports k p j hj (no ne) =
+  out-ports : {m : List ℕ} → Frame s (OutCell i) im m → Ported s m i → (j : Task) → j .0 < s .n → Ported s m j
+  out-ports k p j hj =
+      dite (ℕ-discrete (j .0) (i .0)) (λ e. rw (same-task j i e) p)
+      (λ ne.
       let off : (c : Cell) → Valid s c → c .row ≡ j .0 → at s _ c ≡ at s im c = λ c hc r. k .others c hc (λ e. ne (sym r ∙ e .0)) in
-      ported-frame s im _ j (off (busy j) (hj, omega arith) refl) (off (character j) (hj, omega arith) refl) (off (count s (Queue.Output j)) (hj, omega arith) refl) (h .ports j hj)
+      ported-frame s im _ j (off (busy j) (hj, omega arith) refl) (off (character j) (hj, omega arith) refl) (off (count s (Queue.Output j)) (hj, omega arith) refl) (h .ports j hj))
 
   out-nearly : {m : List ℕ} → Frame s (OutCell i) im m → Characters (held s m (Queue.Output i)) → Sound s m → Ported s m i → Nearly s m w
   out-nearly k chars lies p =
-      buffer-nearly h (Queue.Output i) hi refl (frame-more k go) chars w lies (λ j hj. out-ports k p j hj (ℕ-discrete (j .0) (i .0))) free
+      buffer-nearly h (Queue.Output i) hi refl (frame-more k go) chars w lies (out-ports k p) free
     where
       go : (c : Cell) → OutCell i c → BufferCell s (Queue.Output i) c
       go c (r, inl e) = inl (e, r)
@@ -197,11 +199,9 @@ module _ {s : Shape} {im : List ℕ} (h : Nearly s im Woken.Nobody) (i : Task) (
   -- the port goes on
   pub next-nearly : Nearly s (port-next s im i) w
   unfolding port-next
-  next-nearly = go (empty s im (Queue.Output i)) refl
-    where
-      go : (b : Bool) → empty s im (Queue.Output i) ≡ b → Nearly s (cond b (put s (put s im (busy i) 0) (character i) 0) (printing s im i)) w
-      go true e = idle-nearly (is-empty s im (Queue.Output i) e)
-      go false e = printing-nearly frame-none (h .lies) e (h .chars (Queue.Output i) hi)
+  next-nearly =
+      when (λ m. Nearly s m w) (empty s im (Queue.Output i)) (λ e. idle-nearly (is-empty s im (Queue.Output i) e))
+      (λ e. printing-nearly frame-none (h .lies) e (h .chars (Queue.Output i) hi))
 
   -- an output appended, and printed where the port is idle
   module _ (v : ℕ) (low : v ≤ most-character) (clear : full s im (Queue.Output i) ≡ false) where
@@ -214,19 +214,14 @@ module _ {s : Shape} {im : List ℕ} (h : Nearly s im Woken.Nobody) (i : Task) (
     out-port : (r : ℕ) → r < 2 → at s (appended s im (Queue.Output i) v) (cell Part.Ports (i .0) r) ≡ at s im (cell Part.Ports (i .0) r)
     out-port r hr = kept out-part (frame-appended frame-none (Queue.Output i) hi (h .lies) (λ r. refl) v) _ (hi, hr) refl
 
-    printed-if : (b : Bool) → eqb (at s (appended s im (Queue.Output i) v) (busy i)) 0 ≡ b
-        → Nearly s (cond b (printing s (appended s im (Queue.Output i) v) i) (appended s im (Queue.Output i) v)) w
-    printed-if true e = printing-nearly out-frame (out-sound s im i hi (h .lies) v clear) (appended-some s im (h .lies) (Queue.Output i) hi v) out-chars
-    printed-if false e =
+    kept-going : at s (appended s im (Queue.Output i) v) (busy i) ≢ 0 → Nearly s (appended s im (Queue.Output i) v) w
+    kept-going ne =
         let p = h .ports i hi in
-        let b = out-port 0 (omega arith) in
         out-nearly out-frame out-chars (out-sound s im i hi (h .lies) v clear)
-        record {
-          busy-range = rw b (p .busy-range);
-          character-range = rw (out-port 1 (omega arith)) (p .character-range);
-          idle = λ z. absurd (eqb-false _ 0 e z);
-        }
+        record { busy-range = rw (out-port 0 (omega arith)) (p .busy-range); character-range = rw (out-port 1 (omega arith)) (p .character-range); idle = λ z. absurd (ne z) }
 
     pub output-nearly : Nearly s (printing-if-idle s (appended s im (Queue.Output i) v) i) w
     unfolding printing-if-idle
-    output-nearly = printed-if (eqb (at s (appended s im (Queue.Output i) v) (busy i)) 0) refl
+    output-nearly =
+        when (λ m. Nearly s m w) (eqb (at s (appended s im (Queue.Output i) v) (busy i)) 0)
+        (λ _. printing-nearly out-frame (out-sound s im i hi (h .lies) v clear) (appended-some s im (h .lies) (Queue.Output i) hi v) out-chars) (λ e. kept-going (eqb-false _ 0 e))

@@ -1,9 +1,9 @@
 -- A change of a ready task's own words, and one of the clock, keep an image good. Assumes nothing.
-use mathlib.Core.Path.{_≡_, refl, sym, ap, _∙_}
+use mathlib.Core.Path.{_≡_, refl, ap, _∙_}
 use mathlib.Core.List.{List}
-use mathlib.Core.Bool.{Bool, true, false, _||_}
-use mathlib.Core.Logic.{_≢_, inl, inr}
-use Prim.Native.Nat.{ℕ, _-_, _<_, _≤_}
+use mathlib.Core.Bool.{Bool, true, _||_}
+use mathlib.Core.Logic.{_≢_, inl, inr, dite}
+use Prim.Native.Nat.{ℕ, _<_, _≤_}
 use native.Mathlib.Decide.{ℕ-discrete}
 use native.Mathlib.Omega.{arith}
 use lib.Dec.{eqb}
@@ -16,11 +16,12 @@ use Rattle.paper.specs.declared.Cell.{Cell}
 use Rattle.paper.specs.declared.Part.{Part}
 use Rattle.paper.specs.declared.Queue.{Queue}
 use Rattle.paper.specs.declared.Woken.{Woken}
+use Rattle.laws.specs.Queues.{same-task}
 use Rattle.laws.specs.Sound.{Sound, fixed}
 use Rattle.laws.specs.Frame.{Frame, Apart, frame-more, frame-sound, flagged-frame, kept-flags, kept-status, kept-peer, kept-same}
 use Rattle.laws.specs.Orders.{OwnCell, Keeps, keeps-sound}
 use Rattle.event_laws.specs.Standing.{ready-stands}
-use Rattle.event_laws.specs.Kept.{Spared, Nearly, same-task, kept-stands, kept-nearly, kept-listed, kept-clocked, kept-none}
+use Rattle.event_laws.specs.Kept.{Spared, Nearly, kept-stands, kept-nearly, kept-listed, kept-clocked, kept-none}
 
 -- the parts of own words: the task table and the segments; and the header
 abbrev pub own-parts : Part → Bool
@@ -46,14 +47,15 @@ module _ {s : Shape} {im : List ℕ} {w : Woken} (h : Nearly s im w) (i : Task) 
       go (inl (_, e)) = ne e
       go (inr (p, _)) = absurd (let z : _≡_ {A = ℕ} 1 9 = ap ord p in omega arith)
 
-  own-flags : (j : Task) → j .0 < s .n → Dec (j .0 ≡ i .0) → Flagged s m j
-  own-flags j hj (yes e) = rw (same-task j i e) f
-  own-flags j hj (no ne) = flagged-frame s im m j (other-row-kept j hj ne 8 (omega arith)) (h .flags j hj)
+  own-flags : (j : Task) → j .0 < s .n → Flagged s m j
+  own-flags j hj =
+      dite (ℕ-discrete (j .0) (i .0)) (λ e. rw (same-task j i e) f) (λ ne. flagged-frame s im m j (other-row-kept j hj ne 8 (omega arith)) (h .flags j hj))
 
-  own-statuses : (j : Task) → j .0 < s .n → ¬ Spared w j → Dec (j .0 ≡ i .0) → Stands s m j
-  own-statuses j hj sp (yes e) =
-      rw (same-task j i e) (ready-stands s m i (kept-status own-parts keeps-apart refl i hi ∙ at-ready) (kept-peer own-parts keeps-apart refl i hi ∙ no-peer))
-  own-statuses j hj sp (no ne) =
+  own-statuses : (j : Task) → j .0 < s .n → ¬ Spared w j → Stands s m j
+  own-statuses j hj sp =
+      dite (ℕ-discrete (j .0) (i .0))
+      (λ e. rw (same-task j i e) (ready-stands s m i (kept-status own-parts keeps-apart refl i hi ∙ at-ready) (kept-peer own-parts keeps-apart refl i hi ∙ no-peer)))
+      (λ ne.
       kept-stands own-parts keeps-apart refl refl refl j hj
       record {
         of-status = kept-status own-parts keeps-apart refl j hj;
@@ -62,12 +64,12 @@ module _ {s : Shape} {im : List ℕ} {w : Woken} (h : Nearly s im w) (i : Task) 
         of-two = other-row-kept j hj ne 2 (omega arith);
         of-three = other-row-kept j hj ne 3 (omega arith);
       }
-      (h .statuses j hj sp)
+      (h .statuses j hj sp))
 
   pub own-nearly : Nearly s m w
   own-nearly =
-      kept-nearly own-parts keeps-apart refl refl refl refl h (keeps-sound s im i m (h .lies) k) (λ j hj. own-flags j hj (ℕ-discrete (j .0) (i .0)))
-      (kept-listed own-parts keeps-apart h refl refl) (kept-clocked own-parts keeps-apart h refl refl) (λ j hj sp. own-statuses j hj sp (ℕ-discrete (j .0) (i .0)))
+      kept-nearly own-parts keeps-apart refl refl refl refl h (keeps-sound s im i m (h .lies) k) own-flags (kept-listed own-parts keeps-apart h refl refl)
+      (kept-clocked own-parts keeps-apart h refl refl) own-statuses
 
 -- the clock alone changes
 module _ {s : Shape} {im m : List ℕ} (k : Frame s (λ c. c ≡ clock) im m) where

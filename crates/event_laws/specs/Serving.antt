@@ -1,26 +1,25 @@
 -- A service of the first task keeps an image good: faulted, waiting, or done but for the task that is woken. Assumes nothing.
-use mathlib.Core.Path.{_≡_, refl, sym, ap, _∙_}
+use mathlib.Core.Path.{_≡_, refl, sym, _∙_}
 use mathlib.Core.List.{List}
-use mathlib.Core.Bool.{Bool, true, false, true≢false, and-eq-true-iff}
+use mathlib.Core.Bool.{Bool, true, false, and-eq-true-iff}
 use mathlib.Core.Logic.{_≢_, inl}
-use Prim.Native.Nat.{ℕ, _-_, _<_, _≤_}
+use Prim.Native.Nat.{ℕ, _<_, _≤_}
 use native.Mathlib.Omega.{arith}
 use borrow.Author.Tests.{eqb-true, leb-false, ltb-false}
 use Rattle.paper.specs.Image.{most-character, at, put, reg, flags, status, peer}
 use Rattle.paper.specs.Queues.{part-of, Has, taken, empty, full}
 use Rattle.paper.specs.Flags.{flags-of, pending, is-ready, waits}
 use Rattle.paper.specs.Waking.{with-status, one-if}
-use Rattle.paper.specs.Services.{other, given, fault-of, service-faulted, buffer, blocked, awaited, waiting, delivered, moved, served, waits-for, wakes}
+use Rattle.paper.specs.Services.{other, given, fault-of, service-faulted, blocked, awaited, waiting, delivered, moved, served, waits-for, wakes}
 use Rattle.paper.specs.Rules.{Good}
 use Rattle.paper.specs.declared.Task.{Task}
 use Rattle.paper.specs.declared.Shape.{Shape}
-use Rattle.paper.specs.declared.Cell.{Cell}
 use Rattle.paper.specs.declared.Queue.{Queue}
 use Rattle.paper.specs.declared.Service.{Service}
 use Rattle.paper.specs.declared.Fault.{Fault}
 use Rattle.paper.specs.declared.Woken.{Woken}
 use Rattle.laws.specs.Cells.{at-same}
-use Rattle.laws.specs.Sound.{Sound, sound}
+use Rattle.laws.specs.Sound.{sound}
 use Rattle.laws.specs.Effects.{fields}
 use Rattle.laws.specs.Frame.{Apart, SameCount, frame-none, frame-put, frame-taken, flagged-frame, kept, kept-status, kept-peer, kept-count}
 use Rattle.laws.specs.Changes.{device-parts, moved-parts, error-none, buffer-has, status-is, peer-is, frame-moved}

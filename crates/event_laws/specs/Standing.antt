@@ -2,10 +2,10 @@
 use mathlib.Core.Path.{_≡_, refl, sym, ap, _∙_}
 use mathlib.Core.List.{List}
 use mathlib.Core.Logic.{_≢_}
-use Prim.Native.Nat.{ℕ, _-_, _≤_}
+use Prim.Native.Nat.{ℕ, _-_, _<_, _≤_}
 use native.Mathlib.Omega.{arith}
 use lib.ListN.{getD}
-use Rattle.paper.specs.Image.{most-character, at, reg, flags, status, peer}
+use Rattle.paper.specs.Image.{most-character, at, reg, status, peer}
 use Rattle.paper.specs.Flags.{error, pending, is-ready, waits, is-stopped}
 use Rattle.paper.specs.Services.{services}
 use Rattle.paper.specs.Rules.{Empty, Full, Peered, partner, Stands}
@@ -45,17 +45,17 @@ make-stands s im i k w x p =
     record { known = k; sends = w Service.Send; receives = w Service.Receive; inputs = w Service.Input; outputs = w Service.Output; stopped = x; peerless = p }
 
 -- a status that waits is neither ready nor stopped
+waits-between : (v : Service) → (is-ready < waits v) × (waits v < is-stopped)
+waits-between Service.Send = (omega arith, omega arith)
+waits-between Service.Receive = (omega arith, omega arith)
+waits-between Service.Input = (omega arith, omega arith)
+waits-between Service.Output = (omega arith, omega arith)
+
 pub waits-not : (v : Service) → is-ready ≢ waits v
-waits-not Service.Send e = omega arith
-waits-not Service.Receive e = omega arith
-waits-not Service.Input e = omega arith
-waits-not Service.Output e = omega arith
+waits-not v e = omega (arith, waits-between v)
 
 pub waits-on : (v : Service) → is-stopped ≢ waits v
-waits-on Service.Send e = omega arith
-waits-on Service.Receive e = omega arith
-waits-on Service.Input e = omega arith
-waits-on Service.Output e = omega arith
+waits-on v e = omega (arith, waits-between v)
 
 -- a ready task's status asks only that its peer is 0
 pub ready-stands : (s : Shape) (im : List ℕ) (i : Task) → at s im (status i) ≡ is-ready → at s im (peer i) ≡ 0 → Stands s im i
@@ -86,15 +86,9 @@ Alone Service.Output = Unit {0}
 pub waiting-stands : (s : Shape) (im : List ℕ) (i : Task) (v : Service) → at s im (status i) ≡ waits v → Standing s im i v
     → (Alone v → at s im (peer i) ≡ 0) → Stands s im i
 waiting-stands s im i v e st p =
-    make-stands s im i (rw e (low v)) (λ u f. rw (sym (waits-one v u (sym e ∙ f))) st) (λ f. absurd (waits-on v (sym f ∙ e)))
+    make-stands s im i (omega (arith, e, waits-between v)) (λ u f. rw (sym (waits-one v u (sym e ∙ f))) st) (λ f. absurd (waits-on v (sym f ∙ e)))
     (λ a b. p (alone v (λ f. a (e ∙ f)) (λ f. b (e ∙ f))))
   where
-    low : (v : Service) → waits v ≤ is-stopped
-    low Service.Send = omega arith
-    low Service.Receive = omega arith
-    low Service.Input = omega arith
-    low Service.Output = omega arith
-
     alone : (v : Service) → waits v ≢ waits Service.Send → waits v ≢ waits Service.Receive → Alone v
     alone Service.Send a b = absurd (a refl)
     alone Service.Receive a b = absurd (b refl)

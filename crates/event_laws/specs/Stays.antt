@@ -1,15 +1,14 @@
 -- A good image stays good, whatever event comes. Assumes nothing.
 use mathlib.Core.Path.{_≡_, refl, sym, ap, _∙_}
 use mathlib.Core.List.{List}
-use mathlib.Core.Bool.{true, false}
+use mathlib.Core.Bool.{false}
 use mathlib.Core.Logic.{_≢_}
 use Prim.Native.Nat.{ℕ, _-_, _<_, _≤_}
 use native.Mathlib.Omega.{arith}
-use borrow.Author.Tests.{eq-eqb}
 use Rattle.paper.specs.Image.{most-character, at, put, clock, flags, status, peer}
 use Rattle.paper.specs.Queues.{appended, empty, full}
 use Rattle.paper.specs.Flags.{error, pending, is-ready, waits, is-stopped}
-use Rattle.paper.specs.Waking.{Outcome, with-status, woken, left, one-if}
+use Rattle.paper.specs.Waking.{with-status, woken, left}
 use Rattle.paper.specs.Services.{fault-of, blocked, served}
 use Rattle.paper.specs.Orders.{order, after-order}
 use Rattle.paper.specs.Events.{event-of, running, stopped, spent, ordered, tick, input, port-next, output-done, happening}
@@ -27,7 +26,7 @@ use Rattle.laws.specs.Sound.{Sound, sound}
 use Rattle.laws.specs.Checked.{good-sound}
 use Rattle.laws.specs.Events.{Formed, event-formed}
 use Rattle.laws.specs.Frame.{Apart, frame-none, frame-put, frame-appended, kept, kept-status, kept-empty, kept-full, kept-first}
-use Rattle.laws.specs.Changes.{device-parts, moved-parts, small-error, status-is, peer-is, frame-next, frame-served}
+use Rattle.laws.specs.Changes.{moved-parts, small-error, status-is, peer-is, frame-next, frame-served}
 use Rattle.laws.specs.Orders.{order-keeps, order-flagged}
 use Rattle.event_laws.specs.Standing.{waits-not, waits-on, make-stands}
 use Rattle.event_laws.specs.Kept.{Spared, Nearly, good-nearly, nearly-good}
@@ -51,7 +50,7 @@ module _ {s : Shape} {im : List ℕ} {i : Task} (l : Leads s im i) where
   pub begins-leads : {m : List ℕ} → Begins s im m → Leads s m i
   begins-leads {m} b =
       let a = clock-apart (b .but-clock) in
-      let c = b .clock-is in
+      let c = b .clock-is (leads-sound l) in
       let g = l .rules in
       record {
         rules = nearly-good (clock-nearly (b .but-clock) (good-nearly g) (omega (arith, g .clock-range)) (λ e. omega (arith, g .clock-idle e)));

@@ -5,10 +5,9 @@ use mathlib.Core.Bool.{Bool, true, false, _||_}
 use mathlib.Core.Logic.{_⊎_, inl, inr}
 use Prim.Native.Nat.{ℕ, _<_}
 use native.Mathlib.Omega.{arith}
-use Rattle.paper.specs.Image.{at, put, clock, reg, flags}
-use Rattle.paper.specs.Queues.{appended, empty, full}
+use Rattle.paper.specs.Image.{clock, flags}
+use Rattle.paper.specs.Queues.{appended, empty}
 use Rattle.paper.specs.Flags.{waits}
-use Rattle.paper.specs.Waking.{Outcome}
 use Rattle.paper.specs.Services.{fault-of, service-faulted, blocked, awaited, waiting, served}
 use Rattle.paper.specs.Events.{running, spent, ordered, tick, input, port-next, output-done, happening}
 use Rattle.paper.specs.Orders.{order}
@@ -21,7 +20,7 @@ use Rattle.paper.specs.declared.Queue.{Queue}
 use Rattle.paper.specs.declared.Service.{Service}
 use Rattle.paper.specs.declared.Fault.{Fault}
 use Rattle.paper.specs.declared.Event.{Event}
-use Rattle.laws.specs.Sound.{Sound, sound, appended-sound, has-room}
+use Rattle.laws.specs.Sound.{sound, appended-sound, has-room}
 use Rattle.laws.specs.Checked.{good-sound}
 use Rattle.laws.specs.Events.{Formed}
 use Rattle.laws.specs.Frame.{Frame, frame-none, frame-more, frame-put, frame-appended}

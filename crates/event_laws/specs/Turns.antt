@@ -2,34 +2,35 @@
 use mathlib.Core.Path.{_≡_, refl, sym, ap, _∙_}
 use mathlib.Core.List.{List, [], _∷_, _++_}
 use mathlib.Core.Bool.{Bool, true, false, cond, true≢false}
-use mathlib.Core.Logic.{_≢_, _⊎_, inl, inr}
-use Prim.Native.Nat.{ℕ, _+_, _-_, _<_, _≤_}
+use mathlib.Core.Logic.{_≢_, _⊎_, inl, inr, dite}
+use Prim.Native.Nat.{ℕ, _+_, _<_, _≤_}
 use native.Mathlib.Decide.{ℕ-discrete, decLt}
 use native.Mathlib.Omega.{arith}
 use borrow.Author.Tests.{eq-eqb, ne-eqb}
 use lib.Dec.{eqb}
-use lib.ListN.{length, getD}
-use Rattle.paper.specs.Image.{task, ord, lead, cell, at, put, clock, flags, reg, status, peer}
-use Rattle.paper.specs.Queues.{head, count, capacity, queue-word, appended, first, taken, held, empty, full}
+use lib.ListN.{getD}
+use Rattle.paper.specs.Image.{ord, width, cell, at, put, clock, flags, reg, status, peer}
+use Rattle.paper.specs.Queues.{count, capacity, queue-word, appended, first, taken, held, empty, full}
 use Rattle.paper.specs.Flags.{is-ready}
 use Rattle.paper.specs.Waking.{dispatched, with-status, readied, woken, left}
 use Rattle.paper.specs.Events.{turned}
-use Rattle.paper.specs.Rules.{Empty, times, Ready, Stands, Good}
+use Rattle.paper.specs.Rules.{times, Ready, Stands, Good}
 use Rattle.paper.specs.declared.Task.{Task}
 use Rattle.paper.specs.declared.Shape.{Shape}
 use Rattle.paper.specs.declared.Cell.{Cell}
 use Rattle.paper.specs.declared.Part.{Part}
 use Rattle.paper.specs.declared.Queue.{Queue}
 use Rattle.paper.specs.declared.Woken.{Woken}
+use Rattle.laws.specs.Cases.{when}
 use Rattle.laws.specs.Cells.{at-same}
 use Rattle.laws.specs.Rows.{times-append}
-use Rattle.laws.specs.Queues.{appended-held, appended-count, taken-held, taken-count}
+use Rattle.laws.specs.Queues.{same-task, appended-held, appended-count, taken-held, taken-count}
 use Rattle.laws.specs.Checked.{good-sound}
 use Rattle.laws.specs.Sound.{Sound, sound, has-room, has-word, put-sound, appended-sound, taken-sound}
-use Rattle.laws.specs.Frame.{Frame, Apart, frame-none, frame-more, frame-put, frame-appended, frame-taken, kept, kept-flags, kept-clock, kept-status, kept-peer, kept-word, kept-count, kept-empty, kept-full, kept-held, kept-same}
+use Rattle.laws.specs.Frame.{Frame, Apart, frame-none, frame-more, frame-put, frame-appended, frame-taken, kept, kept-flags, kept-clock, kept-status, kept-peer, kept-count, kept-empty, kept-full, kept-held, kept-same}
 use Rattle.laws.specs.Changes.{dispatch-parts, turn-parts, status-sound, status-is, peer-is, frame-status, frame-left, frame-woken}
 use Rattle.event_laws.specs.Standing.{ready-stands}
-use Rattle.event_laws.specs.Kept.{Spared, Listed, Clocked, Nearly, good-nearly, nearly-good, same-task, kept-stands, kept-nearly}
+use Rattle.event_laws.specs.Kept.{Spared, Listed, Clocked, Nearly, good-nearly, nearly-good, kept-stands, kept-nearly}
 use Rattle.event_laws.specs.Own.{header-part, clock-apart, clock-nearly}
 
 -- a cell that a turn of task i changes: of the header and the ready queue, or its entry of the status table
@@ -50,7 +51,7 @@ module _ {s : Shape} {im m : List ℕ} (i : Task) (k : Frame s (TurnCell i) im m
       go c (inl t) = rw t
       go c (inr (e, _)) = ap turn-parts e
 
-  entry-kept : (j : Task) → j .0 < s .n → j .0 ≢ i .0 → (r : ℕ) → r < 2 → at s m (cell Part.StatusTable (j .0) r) ≡ at s im (cell Part.StatusTable (j .0) r)
+  entry-kept : (j : Task) → j .0 < s .n → j .0 ≢ i .0 → (r : ℕ) → r < width s Part.StatusTable → at s m (cell Part.StatusTable (j .0) r) ≡ at s im (cell Part.StatusTable (j .0) r)
   entry-kept j hj ne r hr = k .others _ (hj, hr) go
     where
       go : ¬ TurnCell i (cell Part.StatusTable (j .0) r)
@@ -61,17 +62,18 @@ module _ {s : Shape} {im m : List ℕ} (i : Task) (k : Frame s (TurnCell i) im m
       (others : (x : ℕ) → x ≢ i .0 → times x (held s m Queue.Ready) ≡ times x (held s im Queue.Ready))
       (itself : (at s m (status i) ≡ is-ready → times (i .0) (held s m Queue.Ready) ≡ 1) × (at s m (status i) ≢ is-ready → times (i .0) (held s m Queue.Ready) ≡ 0))
       (clocked : Clocked s m) (stands : Stands s m i) (more : (j : Task) → ¬ Spared w′ j → j .0 ≢ i .0 → ¬ Spared w j) where
-    turn-listed : (j : Task) → Dec (j .0 ≡ i .0)
-        → (Ready s m j → times (j .0) (held s m Queue.Ready) ≡ 1) × (¬ Ready s m j → times (j .0) (held s m Queue.Ready) ≡ 0)
-    turn-listed j (yes e) = rw (same-task j i e) (λ r. itself .0 (r .1), λ n. itself .1 (λ z. n (hi, z)))
-    turn-listed j (no ne) = (
-      λ r. others (j .0) ne ∙ h .listed j .0 (r .0, sym (entry-kept j (r .0) ne 0 (omega arith)) ∙ r .1),
-      λ n. others (j .0) ne ∙ h .listed j .1 (λ r. n (r .0, entry-kept j (r .0) ne 0 (omega arith) ∙ r .1)),
-    )
+    turn-listed : Listed s m
+    turn-listed j =
+        dite (ℕ-discrete (j .0) (i .0)) (λ e. rw (same-task j i e) (λ r. itself .0 (r .1), λ n. itself .1 (λ z. n (hi, z))))
+        (λ ne. (
+          λ r. others (j .0) ne ∙ h .listed j .0 (r .0, sym (entry-kept j (r .0) ne 0 (omega arith)) ∙ r .1),
+          λ n. others (j .0) ne ∙ h .listed j .1 (λ r. n (r .0, entry-kept j (r .0) ne 0 (omega arith) ∙ r .1)),
+        ))
 
-    turn-stands : (j : Task) → j .0 < s .n → ¬ Spared w′ j → Dec (j .0 ≡ i .0) → Stands s m j
-    turn-stands j hj sp (yes e) = rw (same-task j i e) stands
-    turn-stands j hj sp (no ne) =
+    turn-stands : (j : Task) → j .0 < s .n → ¬ Spared w′ j → Stands s m j
+    turn-stands j hj sp =
+        dite (ℕ-discrete (j .0) (i .0)) (λ e. rw (same-task j i e) stands)
+        (λ ne.
         kept-stands turn-parts turn-apart refl refl refl j hj
         record {
           of-status = entry-kept j hj ne 0 (omega arith);
@@ -80,17 +82,15 @@ module _ {s : Shape} {im m : List ℕ} (i : Task) (k : Frame s (TurnCell i) im m
           of-two = kept turn-parts turn-apart (reg j 2) (hj, omega arith) refl;
           of-three = kept turn-parts turn-apart (reg j 3) (hj, omega arith) refl;
         }
-        (h .statuses j hj (more j sp ne))
+        (h .statuses j hj (more j sp ne)))
 
     turn-nearly : Nearly s m w′
     turn-nearly =
-        kept-nearly turn-parts turn-apart refl refl refl refl h lies (λ j hj. kept-flags turn-parts turn-apart refl j hj (h .flags j hj))
-        (λ j. turn-listed j (ℕ-discrete (j .0) (i .0))) clocked (λ j hj sp. turn-stands j hj sp (ℕ-discrete (j .0) (i .0)))
+        kept-nearly turn-parts turn-apart refl refl refl refl h lies (λ j hj. kept-flags turn-parts turn-apart refl j hj (h .flags j hj)) turn-listed clocked turn-stands
 
 -- dispatch
 slice-range : (b : Bool) (v : ℕ) → cond b 0 v ≤ v
-slice-range true v = omega arith
-slice-range false v = omega arith
+slice-range b v = when (λ n. n ≤ v) b (λ _. omega arith) (λ _. omega arith)
 
 clock-put : (s : Shape) (im : List ℕ) (v : ℕ) → Frame s (λ c. c ≡ clock) im (put s im clock v)
 clock-put s im v = frame-put frame-none clock v (omega arith, omega arith) refl
@@ -208,11 +208,7 @@ module _ {s : Shape} {im : List ℕ} (j : Task) (hj : j .0 < s .n) (h : Nearly s
 
   pub woken-nearly : Nearly s (woken s im j) Woken.Nobody
   unfolding woken
-  woken-nearly = go (empty s im Queue.Ready)
-    where
-      go : (b : Bool) → Nearly s (cond b (dispatched s (readied s im j)) (readied s im j)) Woken.Nobody
-      go true = dispatched-nearly readied-nearly
-      go false = readied-nearly
+  woken-nearly = when (λ m. Nearly s m Woken.Nobody) (empty s im Queue.Ready) (λ _. dispatched-nearly readied-nearly) (λ _. readied-nearly)
 
 -- task i is the first of a good image
 pub record Leads (s : Shape) (im : List ℕ) (i : Task) : Type 0 where
@@ -236,12 +232,8 @@ module _ {s : Shape} {im : List ℕ} {i : Task} (l : Leads s im i) where
       omega arith
 
   leads-is : Ready s im i
-  leads-is = go (decLt (i .0) (s .n)) (ℕ-discrete (at s im (status i)) is-ready)
-    where
-      go : Dec (i .0 < s .n) → Dec (at s im (status i) ≡ is-ready) → Ready s im i
-      go (yes a) (yes b) = (a, b)
-      go (no a) d = absurd (leads-once (λ r. a (r .0)))
-      go (yes a) (no b) = absurd (leads-once (λ r. b (r .1)))
+  leads-is =
+      dite (decLt (i .0) (s .n)) (λ a. dite (ℕ-discrete (at s im (status i)) is-ready) (λ b. (a, b)) (λ n. absurd (leads-once (λ r. n (r .1))))) (λ n. absurd (leads-once (λ r. n (r .0))))
 
   pub leads-in : i .0 < s .n
   leads-in = leads-is .0

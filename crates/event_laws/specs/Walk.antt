@@ -1,17 +1,18 @@
 -- Every outcome of an event, told apart once: what holds of each holds of the event. Assumes nothing.
 use mathlib.Core.Path.{_≡_, refl}
-use mathlib.Core.List.{List}
+use mathlib.Core.List.{List, [], _∷_}
 use mathlib.Core.Bool.{Bool, true, false, not, cond}
 use mathlib.Core.Logic.{_≢_}
-use Prim.Native.Nat.{ℕ, zero, suc, _≤_}
+use Prim.Native.Nat.{ℕ, zero, suc, _<_, _≤_}
 use native.Mathlib.Omega.{arith}
-use borrow.Author.Tests.{eqb-true, eqb-false, eq-eqb, ne-eqb}
+use borrow.Author.Tests.{eqb-true, eqb-false, eq-eqb, ne-eqb, not-true, not-false}
 use lib.Dec.{eqb}
+use lib.ListN.{length}
 use Rattle.paper.specs.Image.{at, clock, status, busy}
 use Rattle.paper.specs.Queues.{appended, empty, full}
 use Rattle.paper.specs.Flags.{error, pending, waits}
 use Rattle.paper.specs.Waking.{Outcome, accepted, refused, woken, one-if, with-woken, unless-full}
-use Rattle.paper.specs.Services.{asked, fault-of, unless-wrong, service-faulted, blocked, waiting, served, wakes, finished, service}
+use Rattle.paper.specs.Services.{services, numbered, asked, fault-of, unless-wrong, service-faulted, blocked, waiting, served, wakes, finished, service}
 use Rattle.paper.specs.Orders.{order}
 use Rattle.paper.specs.Events.{running, stopped, turned, serving, ordered, acting, turn-of, tick, input, port-next, output-done, happening}
 use Rattle.paper.specs.declared.Task.{Task}
@@ -25,6 +26,8 @@ use Rattle.paper.specs.declared.Event.{Event}
 use Rattle.paper.specs.declared.Answer.{Answer}
 use Rattle.paper.specs.declared.Refusal.{Refusal}
 use Rattle.paper.specs.declared.Reply.{Reply}
+use Rattle.laws.specs.Cases.{when}
+use Rattle.laws.specs.Sound.{Sound}
 use Rattle.laws.specs.Frame.{Frame, frame-none}
 
 -- what pending asks for
@@ -42,13 +45,14 @@ asked-waits Service.Receive = refl
 asked-waits Service.Input = refl
 asked-waits Service.Output = refl
 
-pub asked-nothing : (p : ℕ) → p ≤ 4 → asked p ≡ Asked.Nothing → p ≡ 0
+numbered-some : (vs : List Service) (k : ℕ) → k < length vs → numbered vs k ≢ Asked.Nothing
+numbered-some [] k h e = omega arith
+numbered-some (v ∷ vs) zero h e = let z : _≡_ {A = ℕ} 0 1 = cc in omega arith
+numbered-some (v ∷ vs) (suc k) h e = numbered-some vs k (omega arith) e
+
+pub asked-nothing : (p : ℕ) → p ≤ length services → asked p ≡ Asked.Nothing → p ≡ 0
 asked-nothing zero l e = refl
-asked-nothing (suc zero) l e = absurd (let z : _≡_ {A = ℕ} 0 1 = cc in omega arith)
-asked-nothing (suc (suc zero)) l e = absurd (let z : _≡_ {A = ℕ} 0 1 = cc in omega arith)
-asked-nothing (suc (suc (suc zero))) l e = absurd (let z : _≡_ {A = ℕ} 0 1 = cc in omega arith)
-asked-nothing (suc (suc (suc (suc zero)))) l e = absurd (let z : _≡_ {A = ℕ} 0 1 = cc in omega arith)
-asked-nothing (suc (suc (suc (suc (suc k))))) l e = absurd (omega arith)
+asked-nothing (suc k) l e = absurd (numbered-some services k (omega arith) e)
 
 -- what an event comes to that has made m of im, and wakes whom it wakes
 module _ (s : Shape) (im m : List ℕ) (P : Outcome → Type 0) (a : Answer) (no-room : full s im Queue.Ready ≡ true → P (refused Refusal.ReadyFull im)) where
@@ -56,11 +60,7 @@ module _ (s : Shape) (im m : List ℕ) (P : Outcome → Type 0) (a : Answer) (no
       → P (unless-full s im w (accepted a (with-woken s m w)))
   unfolding unless-full with-woken
   wakes-any Woken.Nobody alone woke = alone refl
-  wakes-any (Woken.One k) alone woke = go (full s im Queue.Ready) refl
-    where
-      go : (b : Bool) → full s im Queue.Ready ≡ b → P (cond b (refused Refusal.ReadyFull im) (accepted a (woken s m k)))
-      go true e = no-room e
-      go false e = woke k refl e
+  wakes-any (Woken.One k) alone woke = when P (full s im Queue.Ready) no-room (woke k refl)
 
   owner-any : (i : Task) (v : Service) → (at s im (status i) ≢ waits v → P (accepted a m)) → (at s im (status i) ≡ waits v → full s im Queue.Ready ≡ false → P (accepted a (woken s m i)))
       → P (unless-full s im (one-if (eqb (at s im (status i)) (waits v)) i) (accepted a (with-woken s m (one-if (eqb (at s im (status i)) (waits v)) i))))
@@ -83,23 +83,21 @@ service-any : {s : Shape} {m : List ℕ} {i : Task} {v : Service} (P : Outcome �
 unfolding service finished
 service-any {s} {m} {i} {v} P c = go (fault-of s m i v) refl
   where
-    then : (b : Bool) → blocked s m i v ≡ b → fault-of s m i v ≡ Fault.Nothing → P (cond b (accepted (Answer.ServiceWaits i) (waiting s m i v)) (finished s m i v))
-    then true e f = c .stuck f e
-    then false e f = wakes-any s m (served s m i v) P (Answer.ServiceDone i) (c .no-room f e) (wakes s m i v) (c .alone f e) (λ k. c .woke k f e)
-
     go : (x : Fault) → fault-of s m i v ≡ x
         → P (unless-wrong x s m i (cond (blocked s m i v) (accepted (Answer.ServiceWaits i) (waiting s m i v)) (finished s m i v)))
     go (Fault.Error e) f = c .faults e f
-    go Fault.Nothing f = then (blocked s m i v) refl f
+    go Fault.Nothing f =
+        when P (blocked s m i v) (c .stuck f) (λ e.
+        wakes-any s m (served s m i v) P (Answer.ServiceDone i) (c .no-room f e) (wakes s m i v) (c .alone f e) (λ k. c .woke k f e))
 
 -- rule 4 does its service from an image that differs from the tick's in the clock alone: at present it takes nothing from it
 pub record Begins (s : Shape) (im m : List ℕ) : Type 0 where
   pub but-clock : Frame s (λ c. c ≡ clock) im m
-  pub clock-is : at s m clock ≡ at s im clock
+  pub clock-is : Sound s im → at s m clock ≡ at s im clock
 
 serving-any : {s : Shape} {im : List ℕ} {i : Task} {v : Service} (P : Outcome → Type 0) → ((m : List ℕ) → Begins s im m → ServiceCases s im m i v P)
     → P (serving s im i v)
-serving-any {s} {im} P c = service-any P (c im record { but-clock = frame-none; clock-is = refl })
+serving-any {s} {im} P c = service-any P (c im record { but-clock = frame-none; clock-is = λ _. refl })
 
 -- what a tick comes to, rule by rule
 pub record TickCases (s : Shape) (im : List ℕ) (P : Outcome → Type 0) : Type 0 where
@@ -113,29 +111,14 @@ pub record TickCases (s : Shape) (im : List ℕ) (P : Outcome → Type 0) : Type
 
 pub tick-any : {s : Shape} {im : List ℕ} (P : Outcome → Type 0) → TickCases s im P → P (tick s im)
 unfolding tick turn-of
-tick-any {s} {im} P c = first-rule (empty s im Queue.Ready) refl
+tick-any {s} {im} P c =
+    when P (empty s im Queue.Ready) (c .idle) (λ some.
+    when P (not (eqb (error s im (running s im)) 0)) (λ e. c .stops some (eqb-false _ 0 (not-true _ e))) (λ e.
+    when P (eqb (at s im clock) 0) (λ _. c .turns some) (λ z. acts some (eqb-true _ 0 (not-false _ e)) (eqb-false _ 0 z) (asked (pending s im (running s im))) refl)))
   where
-    i : Task
-    i = running s im
-
-    last-rules : empty s im Queue.Ready ≡ false → error s im i ≡ 0 → at s im clock ≢ 0 → (x : Asked) → asked (pending s im i) ≡ x → P (acting s im i x)
-    last-rules some calm runs (Asked.For v) e = serving-any P (c .serves some runs v (asked-for _ v e))
-    last-rules some calm runs Asked.Nothing e = c .orders some calm runs e
-
-    third-rule : empty s im Queue.Ready ≡ false → error s im i ≡ 0 → (b : Bool) → eqb (at s im clock) 0 ≡ b
-        → P (cond b (accepted (Answer.TurnPassed i) (turned s im i)) (acting s im i (asked (pending s im i))))
-    third-rule some calm true e = c .turns some
-    third-rule some calm false e = last-rules some calm (eqb-false _ 0 e) (asked (pending s im i)) refl
-
-    second-rule : empty s im Queue.Ready ≡ false → (b : Bool) → eqb (error s im i) 0 ≡ b
-        → P (cond (not b) (accepted (Answer.ErrorStop i) (stopped s im i)) (cond (eqb (at s im clock) 0) (accepted (Answer.TurnPassed i) (turned s im i)) (acting s im i (asked (pending s im i)))))
-    second-rule some false e = c .stops some (eqb-false _ 0 e)
-    second-rule some true e = third-rule some (eqb-true _ 0 e) (eqb (at s im clock) 0) refl
-
-    first-rule : (b : Bool) → empty s im Queue.Ready ≡ b
-        → P (cond b (accepted Answer.Idle im) (cond (not (eqb (error s im i) 0)) (accepted (Answer.ErrorStop i) (stopped s im i)) (cond (eqb (at s im clock) 0) (accepted (Answer.TurnPassed i) (turned s im i)) (acting s im i (asked (pending s im i))))))
-    first-rule true e = c .idle e
-    first-rule false e = second-rule e (eqb (error s im i) 0) refl
+    acts : empty s im Queue.Ready ≡ false → error s im (running s im) ≡ 0 → at s im clock ≢ 0 → (x : Asked) → asked (pending s im (running s im)) ≡ x → P (acting s im (running s im) x)
+    acts some calm runs (Asked.For v) e = serving-any P (c .serves some runs v (asked-for _ v e))
+    acts some calm runs Asked.Nothing e = c .orders some calm runs e
 
 -- where a service is pending, with no error and time left, a tick is by rule 4
 pub serves-any : (s : Shape) (im : List ℕ) → empty s im Queue.Ready ≡ false → error s im (running s im) ≡ 0 → at s im clock ≢ 0
@@ -151,26 +134,18 @@ module _ (s : Shape) (im : List ℕ) (i : Task) (P : Outcome → Type 0) (no-roo
       → (full s im (Queue.Input i) ≡ false → at s im (status i) ≡ waits Service.Input → full s im Queue.Ready ≡ false → P (accepted (Answer.Input i) (woken s (appended s im (Queue.Input i) c) i)))
       → P (input s im i c)
   unfolding input
-  input-any c stopped alone woke = go (full s im (Queue.Input i)) refl
-    where
-      go : (b : Bool) → full s im (Queue.Input i) ≡ b
-          → P (cond b (refused Refusal.InputFull im) (unless-full s im (one-if (eqb (at s im (status i)) (waits Service.Input)) i)
-          (accepted (Answer.Input i) (with-woken s (appended s im (Queue.Input i) c) (one-if (eqb (at s im (status i)) (waits Service.Input)) i)))))
-      go true e = stopped e
-      go false e = owner-any s im (appended s im (Queue.Input i) c) P (Answer.Input i) no-room i Service.Input (alone e) (woke e)
+  input-any c stopped alone woke =
+      when P (full s im (Queue.Input i)) stopped (λ e.
+      owner-any s im (appended s im (Queue.Input i) c) P (Answer.Input i) no-room i Service.Input (alone e) (woke e))
 
   pub done-any : (at s im (busy i) ≡ 0 → P (refused Refusal.PortIdle im))
       → (at s im (status i) ≢ waits Service.Output → P (accepted (Answer.OutputDone i) (port-next s im i)))
       → (at s im (status i) ≡ waits Service.Output → full s im Queue.Ready ≡ false → P (accepted (Answer.OutputDone i) (woken s (port-next s im i) i)))
       → P (output-done s im i)
   unfolding output-done
-  done-any idle alone woke = go (eqb (at s im (busy i)) 0) refl
-    where
-      go : (b : Bool) → eqb (at s im (busy i)) 0 ≡ b
-          → P (cond b (refused Refusal.PortIdle im) (unless-full s im (one-if (eqb (at s im (status i)) (waits Service.Output)) i)
-          (accepted (Answer.OutputDone i) (with-woken s (port-next s im i) (one-if (eqb (at s im (status i)) (waits Service.Output)) i)))))
-      go true e = idle (eqb-true _ 0 e)
-      go false e = owner-any s im (port-next s im i) P (Answer.OutputDone i) no-room i Service.Output alone woke
+  done-any idle alone woke =
+      when P (eqb (at s im (busy i)) 0) (λ e. idle (eqb-true _ 0 e)) (λ _.
+      owner-any s im (port-next s im i) P (Answer.OutputDone i) no-room i Service.Output alone woke)
 
 -- and any event
 pub event-any : (s : Shape) (im : List ℕ) (P : Event → Outcome → Type 0) → P Event.Tick (tick s im) → ((i : Task) (c : ℕ) → P (Event.Input i c) (input s im i c))

@@ -1,15 +1,14 @@
 -- Which cells each change of the paper touches: a status, leaving, waking, printing, and the word of a service. Assumes nothing.
 use mathlib.Core.Path.{_≡_, refl}
 use mathlib.Core.List.{List}
-use mathlib.Core.Bool.{Bool, true, false, cond, _||_}
-use mathlib.Core.Logic.{_≢_}
+use mathlib.Core.Bool.{Bool, true, false, _||_}
 use Prim.Native.Nat.{ℕ, _<_, _≤_}
 use native.Mathlib.Omega.{arith}
 use borrow.Author.Tests.{leb-false}
 use lib.Dec.{eqb, leb, ltb}
 use lib.ListN.{length}
 use Rattle.paper.specs.Image.{most-character, ord, total, cell, at, put, clock, reg, flags, status, peer, busy, character}
-use Rattle.paper.specs.Queues.{part-of, Has, queue-word, appended, taken, empty, full}
+use Rattle.paper.specs.Queues.{part-of, Has, queue-word, appended, empty, full}
 use Rattle.paper.specs.Flags.{is-ready}
 use Rattle.paper.specs.Waking.{dispatched, with-status, readied, woken, left}
 use Rattle.paper.specs.Services.{other, given, error-if, fault-of, buffer, blocked, delivered, printing, printing-if-idle, moved, served}
@@ -21,6 +20,7 @@ use Rattle.paper.specs.declared.Part.{Part}
 use Rattle.paper.specs.declared.Queue.{Queue}
 use Rattle.paper.specs.declared.Service.{Service}
 use Rattle.paper.specs.declared.Fault.{Fault}
+use Rattle.laws.specs.Cases.{when}
 use Rattle.laws.specs.Cells.{cells}
 use Rattle.laws.specs.Sound.{Sound, sound, has-room, put-sound, appended-sound}
 use Rattle.laws.specs.Frame.{Frame, frame-put, frame-appended, frame-taken}
@@ -102,14 +102,9 @@ module _ {s : Shape} {E : Cell → Type 0} {im m : List ℕ} (k : Frame s E im m
 
     pub frame-woken : (j : Task) → j .0 < s .n → ((r : ℕ) → E (cell Part.StatusTable (j .0) r)) → Frame s E im (woken s m j)
     unfolding woken readied dispatched
-    frame-woken j hj e = go (empty s m Queue.Ready)
-      where
-        joined : Frame s E im (appended s (with-status s m j is-ready 0) Queue.Ready (j .0))
-        joined = frame-appended (frame-status j hj is-ready 0 e) Queue.Ready tt (status-sound s m j hj h is-ready 0) ready (j .0)
-
-        go : (b : Bool) → Frame s E im (cond b (dispatched s (appended s (with-status s m j is-ready 0) Queue.Ready (j .0))) (appended s (with-status s m j is-ready 0) Queue.Ready (j .0)))
-        go true = frame-put joined clock _ (omega arith, omega arith) time
-        go false = joined
+    frame-woken j hj e =
+        let joined = frame-appended (frame-status j hj is-ready 0 e) Queue.Ready tt (status-sound s m j hj h is-ready 0) ready (j .0) in
+        when (Frame s E im) (empty s m Queue.Ready) (λ _. frame-put joined clock _ (omega arith, omega arith) time) (λ _. joined)
 
   -- the port goes on
   module _ (h : Sound s m) (i : Task) (hi : i .0 < s .n) (row : (r : ℕ) → E (queue-word s (Queue.Output i) r)) (port : (r : ℕ) → E (cell Part.Ports (i .0) r)) where
@@ -123,11 +118,7 @@ module _ {s : Shape} {E : Cell → Type 0} {im m : List ℕ} (k : Frame s E im m
 
     pub frame-next : Frame s E im (port-next s m i)
     unfolding port-next
-    frame-next = go (empty s m (Queue.Output i))
-      where
-        go : (b : Bool) → Frame s E im (cond b (put s (put s m (busy i) 0) (character i) 0) (printing s m i))
-        go true = frame-idle
-        go false = frame-printing
+    frame-next = when (Frame s E im) (empty s m (Queue.Output i)) (λ _. frame-idle) (λ _. frame-printing)
 
 -- an output appended
 pub out-sound : (s : Shape) (m : List ℕ) (i : Task) → i .0 < s .n → Sound s m → (v : ℕ) → full s m (Queue.Output i) ≡ false → Sound s (appended s m (Queue.Output i) v)
@@ -142,14 +133,9 @@ module _ {s : Shape} {E : Cell → Type 0} {im m : List ℕ} (k : Frame s E im m
 
   frame-output : (v : ℕ) → full s m (Queue.Output i) ≡ false → Frame s E im (printing-if-idle s (appended s m (Queue.Output i) v) i)
   unfolding printing-if-idle
-  frame-output v clear = go (eqb (at s (appended s m (Queue.Output i) v) (busy i)) 0)
-    where
-      sent : Frame s E im (appended s m (Queue.Output i) v)
-      sent = frame-appended k (Queue.Output i) hi h (λ r. e _ refl) v
-
-      go : (b : Bool) → Frame s E im (cond b (printing s (appended s m (Queue.Output i) v) i) (appended s m (Queue.Output i) v))
-      go true = frame-printing sent (out-sound s m i hi h v clear) i hi (λ r. e _ refl) (λ r. e _ refl)
-      go false = sent
+  frame-output v clear =
+      let sent = frame-appended k (Queue.Output i) hi h (λ r. e _ refl) v in
+      when (Frame s E im) (eqb (at s (appended s m (Queue.Output i) v) (busy i)) 0) (λ _. frame-printing sent (out-sound s m i hi h v clear) i hi (λ r. e _ refl) (λ r. e _ refl)) (λ _. sent)
 
   pub frame-moved : (v : Service) → fault-of s m i v ≡ Fault.Nothing → blocked s m i v ≡ false → Frame s E im (moved s m i v)
   frame-moved Service.Send right clear =

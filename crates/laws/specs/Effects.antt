@@ -21,6 +21,7 @@ use Rattle.paper.specs.declared.OrderShape.{OrderShape}
 use Rattle.paper.specs.declared.Change.{Change}
 use Rattle.paper.specs.declared.Effect.{Effect}
 use Rattle.paper.specs.declared.Answer.{Answer}
+use Rattle.laws.specs.Cases.{when}
 
 -- flags that a machine may get: the error is as it was, and the rest in range where it was
 pub record FineFlags (m : Machine) (f : ℕ) : Type 0 where
@@ -95,15 +96,10 @@ module _ (m : Machine) where
   own-reading Found.Outside k h = own-fault 1 (omega arith, omega arith)
 
   own-storing : (a : ℕ) (e : Effect) → (Inside m (address a) → Own m e) → Own m (storing m a e)
-  own-storing a e h = go (inside m a) refl
-    where
-      go : (b : Bool) → inside m a ≡ b → Own m (cond b e (Effect.Faults 1))
-      go true t = h (ltb-true a (length (m .segment)) t)
-      go false t = own-fault 1 (omega arith, omega arith)
+  own-storing a e h = when (Own m) (inside m a) (λ t. h (ltb-true a (length (m .segment)) t)) (λ _. own-fault 1 (omega arith, omega arith))
 
   own-divided : (z : Bool) (e : Effect) → Own m e → Own m (cond z (Effect.Faults 4) e)
-  own-divided true e h = own-fault 4 (omega arith, omega arith)
-  own-divided false e h = h
+  own-divided z e h = when (Own m) z (λ _. own-fault 4 (omega arith, omega arith)) (λ _. h)
 
   own-sets : (next a w : ℕ) → a < 8 → Own m (sets next a w)
   own-sets next a w h = own-change next (Change.Register a w) h
@@ -148,14 +144,10 @@ module _ (m : Machine) where
   own-checked : (w : ℕ) (sh : OrderShape) → shape-of-order (order-of (op-of w)) ≡ sh → Own m (checked sh m w)
   unfolding checked
   own-checked w OrderShape.Unknown e = own-fault 2 (omega arith, omega arith)
-  own-checked w (OrderShape.Known n fa fb) e = go (holds fa (a-of w)) (holds fb (b-of w)) (serves fa (a-of w)) refl refl
-    where
-      go : (p q r : Bool) → holds fa (a-of w) ≡ p → serves fa (a-of w) ≡ r
-          → Own m (cond (p && q) (cond r (effect-of m (op-of w) n (a-of w) (b-of w)) (Effect.Faults 3)) (Effect.Faults 2))
-      go false q r hp hr = own-fault 2 (omega arith, omega arith)
-      go true false r hp hr = own-fault 2 (omega arith, omega arith)
-      go true true false hp hr = own-fault 3 (omega arith, omega arith)
-      go true true true hp hr = own-effect-of (op-of w) n (a-of w) (b-of w) (rw e (hp, hr))
+  own-checked w (OrderShape.Known n fa fb) e =
+      when (Own m) (holds fa (a-of w) && holds fb (b-of w)) (λ hp.
+      when (Own m) (serves fa (a-of w)) (λ hr. own-effect-of (op-of w) n (a-of w) (b-of w) (rw e (and-eq-true-iff _ _ .0 hp .0, hr)))
+      (λ _. own-fault 3 (omega arith, omega arith))) (λ _. own-fault 2 (omega arith, omega arith))
 
   pub order-own : Own m (decided m)
   unfolding decided

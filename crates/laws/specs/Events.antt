@@ -1,7 +1,7 @@
 -- What three words say: the event, told apart once; and the events and images that contracts speak of. Assumes nothing.
-use mathlib.Core.Path.{_≡_, refl, sym, _∙_}
+use mathlib.Core.Path.{_≡_, sym, _∙_}
 use mathlib.Core.List.{List}
-use mathlib.Core.Bool.{Bool, true, false, cond}
+use mathlib.Core.Bool.{true, false}
 use Prim.Native.Nat.{ℕ, _<_, _≤_}
 use borrow.Author.Tests.{leb-true, ltb-true}
 use lib.Dec.{eqb, leb, ltb}
@@ -9,10 +9,10 @@ use Rattle.paper.specs.Image.{task, most-character, shape-of}
 use Rattle.paper.specs.Events.{is-tick, is-input, is-output-done, event-of}
 use Rattle.paper.specs.Numbers.{check}
 use Rattle.paper.specs.Rules.{Good}
-use Rattle.paper.specs.declared.Task.{Task}
 use Rattle.paper.specs.declared.Shape.{Shape}
 use Rattle.paper.specs.declared.Event.{Event}
 use Rattle.paper.specs.declared.Verdict.{Verdict}
+use Rattle.laws.specs.Cases.{when}
 use Rattle.laws.specs.Checked.{all-three, checked-good}
 
 -- whatever holds of the event that each test tells of, with what the test showed, holds of the event of three words
@@ -20,23 +20,12 @@ pub words-any : (s : Shape) (k d c : ℕ) (P : Event → Type 0) → (is-tick k 
     → (is-tick k d c ≡ false → d < s .n → c ≤ most-character → P (Event.Input (task d) c))
     → (is-tick k d c ≡ false → d < s .n → P (Event.OutputDone (task d))) → (is-tick k d c ≡ false → P Event.Malformed) → P (event-of s k d c)
 unfolding event-of
-words-any s k d c P ticks inputs dones others = tick-first (is-tick k d c) refl
-  where
-    done-last : is-tick k d c ≡ false → (b : Bool) → is-output-done s k d c ≡ b → P (cond b (Event.OutputDone (task d)) Event.Malformed)
-    done-last f true e = dones f (ltb-true d (s .n) (all-three (eqb k 2) (ltb d (s .n)) (eqb c 0) .0 e .1))
-    done-last f false e = others f
-
-    input-next : is-tick k d c ≡ false → (b : Bool) → is-input s k d c ≡ b
-        → P (cond b (Event.Input (task d) c) (cond (is-output-done s k d c) (Event.OutputDone (task d)) Event.Malformed))
-    input-next f true e =
-        let r = all-three (eqb k 1) (ltb d (s .n)) (leb c most-character) .0 e in
-        inputs f (ltb-true d (s .n) (r .1)) (leb-true c most-character (r .2))
-    input-next f false e = done-last f (is-output-done s k d c) refl
-
-    tick-first : (b : Bool) → is-tick k d c ≡ b
-        → P (cond b Event.Tick (cond (is-input s k d c) (Event.Input (task d) c) (cond (is-output-done s k d c) (Event.OutputDone (task d)) Event.Malformed)))
-    tick-first true e = ticks e
-    tick-first false e = input-next e (is-input s k d c) refl
+words-any s k d c P ticks inputs dones others =
+    when P (is-tick k d c) ticks (λ f.
+    when P (is-input s k d c) (λ e.
+    let r = all-three (eqb k 1) (ltb d (s .n)) (leb c most-character) .0 e in
+    inputs f (ltb-true d (s .n) (r .1)) (leb-true c most-character (r .2))) (λ _.
+    when P (is-output-done s k d c) (λ e. dones f (ltb-true d (s .n) (all-three (eqb k 2) (ltb d (s .n)) (eqb c 0) .0 e .1))) (λ _. others f)))
 
 -- an event of tasks of this image, with a character; shut, as contracts say it
 unfoldable pub Formed : Shape → Event → Type 0

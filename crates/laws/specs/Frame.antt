@@ -1,5 +1,5 @@
 -- Images that differ in some cells alone: one record over a set of cells, what adds to it, and what the rules of the others keep. Assumes nothing.
-use mathlib.Core.Path.{_≡_, refl, sym, ap, subst, _∙_}
+use mathlib.Core.Path.{_≡_, refl, sym, subst, _∙_}
 use mathlib.Core.List.{List}
 use mathlib.Core.Bool.{Bool, true, false, true≢false}
 use Prim.Native.Nat.{ℕ, _+_, _<_}
@@ -7,7 +7,7 @@ use native.Mathlib.Omega.{arith}
 use lib.ListN.{length}
 use Rattle.paper.specs.Image.{lead, cell, Valid, at, put, clock, reg, flags, status, peer, busy, character}
 use Rattle.paper.specs.Queues.{part-of, Has, header-capacity, queue-word, head, count, capacity, appended, first, taken, held, empty, full}
-use Rattle.paper.specs.Rules.{Queued, Flagged, Ported}
+use Rattle.paper.specs.Rules.{Flagged, Ported}
 use Rattle.paper.specs.declared.Task.{Task}
 use Rattle.paper.specs.declared.Shape.{Shape}
 use Rattle.paper.specs.declared.Cell.{Cell}

@@ -1,5 +1,5 @@
 -- After an order every cell but its task's own is as it was, and its flags are in range. Assumes nothing.
-use mathlib.Core.Path.{_≡_, refl, sym, ap, _∙_}
+use mathlib.Core.Path.{_≡_, sym, ap, _∙_}
 use mathlib.Core.List.{List}
 use mathlib.Core.Bool.{not}
 use mathlib.Core.Logic.{_≢_, _⊎_, inl, inr}
@@ -7,8 +7,7 @@ use Prim.Native.Nat.{ℕ, _+_, _-_, _<_, _≤_}
 use native.Mathlib.Omega.{arith}
 use lib.Dec.{T, T-not, eqb}
 use lib.ListN.{length}
-use Rattle.paper.specs.Image.{ord, lead, cell, shape-of, Valid, place, at, put, reg, flags}
-use Rattle.paper.specs.Queues.{Has, queue-word}
+use Rattle.paper.specs.Image.{ord, shape-of, Valid, place, at, put, reg, flags}
 use Rattle.paper.specs.Flags.{cc-of, error-of, pending-of, most-cc, most-error, error, pending}
 use Rattle.paper.specs.Services.{services}
 use Rattle.paper.specs.Machines.{Machine, machine, lies, own, with-own}
@@ -18,13 +17,11 @@ use Rattle.paper.specs.declared.Task.{Task}
 use Rattle.paper.specs.declared.Shape.{Shape}
 use Rattle.paper.specs.declared.Cell.{Cell}
 use Rattle.paper.specs.declared.Part.{Part}
-use Rattle.paper.specs.declared.Queue.{Queue}
 use Rattle.paper.specs.declared.Effect.{Effect}
 use Rattle.own.specs.Machines.{Apart, Fits, OwnPlace, machine-fits, machine-flags, length-put-back, after-fits, machine-put, put-elsewhere}
 use Rattle.laws.specs.Places.{one-cell}
-use Rattle.laws.specs.Cells.{at-other, length-put}
+use Rattle.laws.specs.Cells.{at-other}
 use Rattle.laws.specs.Layout.{shape-is}
-use Rattle.laws.specs.Queues.{word-valid}
 use Rattle.laws.specs.Segments.{segment-cell, InSegment, segment-from, segment-upto, segment-valid, segment-place}
 use Rattle.laws.specs.Sound.{Sound, sound, fixed}
 use Rattle.laws.specs.Frame.{Frame, frame-sound}

@@ -2,20 +2,22 @@
 use mathlib.Core.Path.{_≡_, refl, sym, ap, _∙_}
 use mathlib.Core.List.{List, [], _∷_, _++_}
 use mathlib.Core.Bool.{not}
-use mathlib.Core.Logic.{_≢_}
+use mathlib.Core.Logic.{_≢_, _⊎_, inl, inr, dite}
 use Prim.Native.Nat.{ℕ, zero, suc, _+_, _-_, _<_}
 use native.Mathlib.Numerals.{add-one}
+use native.Mathlib.Decide.{ℕ-discrete}
 use native.Mathlib.Omega.{arith}
 use lib.Dec.{T, T-not, eqb, eqb-refl}
 use lib.ListN.{length}
-use Rattle.paper.specs.Image.{ord, rows, width, total, lead, cell, Valid, at, put}
+use Rattle.paper.specs.Image.{task, ord, rows, width, total, lead, cell, Valid, place, at, put}
 use Rattle.paper.specs.Queues.{part-of, row-of, Has, header-capacity, queue-word, head, tail, count, capacity, slot, step, appended, first, taken, words-from, held}
 use Rattle.paper.specs.Rules.{Queued}
+use Rattle.paper.specs.declared.Task.{Task}
 use Rattle.paper.specs.declared.Shape.{Shape}
 use Rattle.paper.specs.declared.Cell.{Cell}
 use Rattle.paper.specs.declared.Part.{Part}
 use Rattle.paper.specs.declared.Queue.{Queue}
-use Rattle.laws.specs.Places.{row-below}
+use Rattle.laws.specs.Places.{row-below, row-same, column-same, one-cell}
 use Rattle.laws.specs.Cells.{at-same, at-other, length-put}
 use Rattle.laws.specs.Steps.{step-below, steps, steps-mod, steps-below, steps-on, steps-apart}
 
@@ -77,6 +79,41 @@ off-part s q p i k ne e = absurd (T-not (eqb (ord p) (ord (part-of q))) ne (rw (
 
 pub off-row : (s : Shape) (q : Queue) (p : Part) (i k : ℕ) → i ≢ row-of s q → Off s q (cell p i k)
 off-row s q p i k ne e = ne
+
+-- one task has one number
+pub same-task : (i j : Task) → i .0 ≡ j .0 → i ≡ j
+same-task i j e = ap task e
+
+-- a queue has its part and its row to itself
+queue-same : (s : Shape) (p q : Queue) → Has s p → Has s q → part-of p ≡ part-of q → row-of s p ≡ row-of s q → p ≡ q
+queue-same s Queue.Ready Queue.Ready hp hq e r = refl
+queue-same s Queue.Ready (Queue.Input j) hp hq e r = absurd (let z : _≡_ {A = ℕ} 2 4 = ap ord e in omega arith)
+queue-same s Queue.Ready (Queue.Output j) hp hq e r = absurd (let z : _≡_ {A = ℕ} 2 5 = ap ord e in omega arith)
+queue-same s Queue.Ready (Queue.Message j l) hp hq e r = absurd (let z : _≡_ {A = ℕ} 2 6 = ap ord e in omega arith)
+queue-same s (Queue.Input i) Queue.Ready hp hq e r = absurd (let z : _≡_ {A = ℕ} 4 2 = ap ord e in omega arith)
+queue-same s (Queue.Input i) (Queue.Input j) hp hq e r = ap Queue.Input (same-task i j r)
+queue-same s (Queue.Input i) (Queue.Output j) hp hq e r = absurd (let z : _≡_ {A = ℕ} 4 5 = ap ord e in omega arith)
+queue-same s (Queue.Input i) (Queue.Message j l) hp hq e r = absurd (let z : _≡_ {A = ℕ} 4 6 = ap ord e in omega arith)
+queue-same s (Queue.Output i) Queue.Ready hp hq e r = absurd (let z : _≡_ {A = ℕ} 5 2 = ap ord e in omega arith)
+queue-same s (Queue.Output i) (Queue.Input j) hp hq e r = absurd (let z : _≡_ {A = ℕ} 5 4 = ap ord e in omega arith)
+queue-same s (Queue.Output i) (Queue.Output j) hp hq e r = ap Queue.Output (same-task i j r)
+queue-same s (Queue.Output i) (Queue.Message j l) hp hq e r = absurd (let z : _≡_ {A = ℕ} 5 6 = ap ord e in omega arith)
+queue-same s (Queue.Message i g) Queue.Ready hp hq e r = absurd (let z : _≡_ {A = ℕ} 6 2 = ap ord e in omega arith)
+queue-same s (Queue.Message i g) (Queue.Input j) hp hq e r = absurd (let z : _≡_ {A = ℕ} 6 4 = ap ord e in omega arith)
+queue-same s (Queue.Message i g) (Queue.Output j) hp hq e r = absurd (let z : _≡_ {A = ℕ} 6 5 = ap ord e in omega arith)
+queue-same s (Queue.Message i g) (Queue.Message j l) hp hq e r =
+    let a : i ≡ j = same-task i j (row-same (s .n) (i .0) (j .0) (g .0) (l .0) (hp .1) (hq .1) r) in
+    let b : g ≡ l = same-task g l (column-same (s .n) (i .0) (j .0) (g .0) (l .0) (hp .1) (hq .1) r) in
+    rw (a, b)
+
+-- two queues are one, or lie in different rows
+pub same-queue : (s : Shape) (p q : Queue) → Has s p → Has s q → (p ≡ q) ⊎ ((k : ℕ) → Off s q (queue-word s p k))
+same-queue s p q hp hq =
+    dite (ℕ-discrete (place s (head s p) .0) (place s (head s q) .0))
+    (λ e.
+    let c = one-cell s (head s p) (head s q) (word-valid s p 0 hp (omega arith)) (word-valid s q 0 hq (omega arith)) e in
+    inl (queue-same s p q hp hq (ap (λ (x : Cell). x .part) c) (ap (λ (x : Cell). x .row) c)))
+    (λ ne. inr (λ k part row. ne (rw (part, row) refl)))
 
 -- a write to a word of a queue, read at that word, at another of its words, and off its row
 module _ (s : Shape) (m : List ℕ) (q : Queue) (has : Has s q) (k v : ℕ) (hk : k < lead + header-capacity s q) where

@@ -2,23 +2,22 @@
 use mathlib.Core.Path.{_≡_, refl, sym, ap, _∙_}
 use mathlib.Core.List.{List}
 use mathlib.Core.Bool.{false, not}
+use mathlib.Core.Logic.{⊎-elim}
 use Prim.Native.Nat.{ℕ, zero, suc, _<_, _≤_}
-use native.Mathlib.Decide.{ℕ-discrete}
 use native.Mathlib.Omega.{arith}
 use borrow.Author.Tests.{eqb-false, ne-eqb}
 use lib.Dec.{T, T-not, eqb}
 use lib.ListN.{length}
-use Rattle.paper.specs.Image.{most-tasks, task, lead, width, total, cell, Valid, place, at, put, len, segment-start}
-use Rattle.paper.specs.Queues.{part-of, row-of, Has, header-capacity, queue-word, head, count, capacity, appended, taken, empty, full}
+use Rattle.paper.specs.Image.{most-tasks, task, lead, total, cell, Valid, at, put, len, segment-start}
+use Rattle.paper.specs.Queues.{part-of, Has, queue-word, count, capacity, appended, taken, empty, full}
 use Rattle.paper.specs.Rules.{Fit, Laid, Queued}
 use Rattle.paper.specs.declared.Task.{Task}
 use Rattle.paper.specs.declared.Shape.{Shape}
 use Rattle.paper.specs.declared.Cell.{Cell}
 use Rattle.paper.specs.declared.Part.{Part}
 use Rattle.paper.specs.declared.Queue.{Queue}
-use Rattle.laws.specs.Places.{one-cell}
 use Rattle.laws.specs.Cells.{at-header, at-other, length-put}
-use Rattle.laws.specs.Queues.{Off, queue-width, word-valid, appended-off, appended-count, appended-length, appended-queued, taken-off, taken-length, taken-queued}
+use Rattle.laws.specs.Queues.{Off, word-valid, same-queue, appended-off, appended-count, appended-length, appended-queued, taken-off, taken-length, taken-queued}
 
 -- an image of the size that its shape gives: what reading a cell needs; shut, as contracts say it
 unfoldable pub Sized : Shape → List ℕ → Type 0
@@ -141,29 +140,13 @@ off-table s q p i k ne e = absurd (T-not (eqb (fixed p) lead) ne (rw (ap fixed e
 -- so does a change of one queue's row that leaves it a queue
 module _ (s : Shape) (im im′ : List ℕ) (q : Queue) (hq : Has s q) (long : length im′ ≡ length im)
     (off : (c : Cell) → Valid s c → Off s q c → at s im′ c ≡ at s im c) (r : Queued s im′ q) where
-  other-queue : Sound s im → (p : Queue) → Has s p → Dec (place s (head s p) .0 ≡ place s (head s q) .0) → Queued s im′ p
-  other-queue h p hp (yes e) =
-      let same = one-cell s (head s p) (head s q) (word-valid s p 0 hp (omega arith)) (word-valid s q 0 hq (omega arith)) e in
-      let part : part-of p ≡ part-of q = ap (λ (c : Cell). c .part) same in
-      let row : row-of s p ≡ row-of s q = ap (λ (c : Cell). c .row) same in
-      let size : header-capacity s p ≡ header-capacity s q = omega (arith, queue-width s p, queue-width s q, ap (width s) part) in
-      record {
-        sized = rw (part, row, size) (r .sized);
-        headed = rw (part, row) (r .headed);
-        tailed = rw (part, row) (r .tailed);
-        counted = rw (part, row) (r .counted);
-        round = rw (part, row) (r .round);
-      }
-  other-queue h p hp (no ne) =
-      queued-frame s im im′ p (sound h .queues p hp) (λ k hk.
-      off (queue-word s p k) (word-valid s p k hp (omega arith)) (λ part row. ne (rw (part, row) refl)))
-
   pub row-sound : Sound s im → Sound s im′
   row-sound h =
       shut record {
         laid = laid-frame s im im′ (sound h .laid) long (λ k hk. off (cell Part.Header 0 k) (omega arith, omega arith) (off-table s q Part.Header 0 k tt))
             (λ i k hi hk. off (cell Part.SegmentTable (i .0) k) (hi, hk) (off-table s q Part.SegmentTable (i .0) k tt));
-        queues = λ p hp. other-queue h p hp (ℕ-discrete (place s (head s p) .0) (place s (head s q) .0));
+        queues = λ p hp.
+            ⊎-elim (λ e. rw e r) (λ o. queued-frame s im im′ p (sound h .queues p hp) (λ k hk. off (queue-word s p k) (word-valid s p k hp (omega arith)) (o k))) (same-queue s p q hp hq);
       }
 
 module _ (s : Shape) (im : List ℕ) (q : Queue) (hq : Has s q) (h : Sound s im) where

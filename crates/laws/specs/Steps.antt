@@ -1,7 +1,6 @@
 -- The wrapped step, and several steps on: as the paper's remainder. Assumes nothing.
 use mathlib.Core.Path.{_≡_, refl, sym, ap, _∙_}
-use mathlib.Core.Bool.{Bool, true, false, cond}
-use mathlib.Core.Logic.{_≢_, _⊎_, inl, inr, ⊎-elim}
+use mathlib.Core.Logic.{_≢_, _⊎_, inl, inr, ⊎-elim, dite}
 use Prim.Native.Nat.{ℕ, zero, suc, _+_, _-_, _%_, _<_, _≤_}
 use native.Mathlib.Nat.{mod-eq-of-lt, mod-eq-sub-mod, mod-add-mod, add-zero}
 use native.Mathlib.Decide.{decLt}
@@ -9,15 +8,14 @@ use native.Mathlib.Omega.{arith}
 use borrow.Author.Tests.{ltb-true, ltb-false}
 use lib.Dec.{ltb}
 use Rattle.paper.specs.Queues.{step}
+use Rattle.laws.specs.Cases.{when}
 
 -- one more, or 0 where the capacity is reached
 pub step-cases : (k c : ℕ) → ((k + 1 < c) × (step k c ≡ k + 1)) ⊎ ((c ≤ k + 1) × (step k c ≡ 0))
 unfolding step
-step-cases k c = go (ltb (k + 1) c) refl
-  where
-    go : (b : Bool) → ltb (k + 1) c ≡ b → ((k + 1 < c) × (cond b (k + 1) 0 ≡ k + 1)) ⊎ ((c ≤ k + 1) × (cond b (k + 1) 0 ≡ 0))
-    go true e = inl (ltb-true (k + 1) c e, refl)
-    go false e = inr (ltb-false (k + 1) c e, refl)
+step-cases k c =
+    when (λ x. ((k + 1 < c) × (x ≡ k + 1)) ⊎ ((c ≤ k + 1) × (x ≡ 0))) (ltb (k + 1) c) (λ e. inl (ltb-true (k + 1) c e, refl))
+    (λ e. inr (ltb-false (k + 1) c e, refl))
 
 -- a step stays below the capacity
 pub step-below : (k c : ℕ) → k < c → step k c < c
@@ -59,14 +57,9 @@ steps-on h (suc n) c = steps-on (step h c) n c
 
 -- fewer than capacity steps do not come back
 steps-away : (h n c : ℕ) → h < c → suc n < c → h ≢ steps h (suc n) c
-steps-away h n c hc hn e = go (decLt (h + suc n) c)
-  where
-    f : h ≡ (h + suc n) % c
-    f = e ∙ steps-mod h (suc n) c hc
-
-    go : Dec (h + suc n < c) → ⊥
-    go (yes l) = omega (arith, f, mod-low l)
-    go (no g) = omega (arith, f, mod-high {x = h + suc n} {c = c} (omega (arith, g)) (omega arith))
+steps-away h n c hc hn e =
+    let f : h ≡ (h + suc n) % c = e ∙ steps-mod h (suc n) c hc in
+    dite (decLt (h + suc n) c) (λ l. omega (arith, f, mod-low l)) (λ g. omega (arith, f, mod-high {x = h + suc n} {c = c} (omega (arith, g)) (omega arith)))
 
 pub steps-apart : (h k n c : ℕ) → h < c → k < n → n < c → steps h k c ≢ steps h n c
 steps-apart h k zero c hc hk hn e = omega arith

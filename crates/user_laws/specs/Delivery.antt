@@ -2,18 +2,18 @@
 use mathlib.Core.Path.{_≡_, refl, sym, ap, _∙_}
 use mathlib.Core.List.{List, [], _∷_, _++_}
 use mathlib.Core.Bool.{true, false, true≢false}
-use mathlib.Core.Logic.{_≢_, _↔_}
-use Prim.Native.Nat.{ℕ, suc, _+_, _<_}
+use mathlib.Core.Logic.{_≢_, _↔_, dite}
+use Prim.Native.Nat.{ℕ, suc, _<_}
 use native.Mathlib.Decide.{ℕ-discrete}
 use native.Mathlib.Omega.{arith}
 use borrow.Author.Tests.{eq-eqb, ne-eqb, eqb-true, leb-false, lt-leb}
 use lib.Dec.{leb}
 use lib.ListN.{length, getD, drop}
 use Rattle.paper.specs.Image.{at, clock, reg, flags}
-use Rattle.paper.specs.Queues.{part-of, Has, count, capacity, appended, first, taken, held, empty, full}
+use Rattle.paper.specs.Queues.{part-of, Has, count, capacity, first, taken, held, empty, full}
 use Rattle.paper.specs.Flags.{error, pending, waits}
 use Rattle.paper.specs.Waking.{Outcome, accepted}
-use Rattle.paper.specs.Services.{other, given, error-if, fault-of, buffer, blocked, waiting, delivered, moved, served}
+use Rattle.paper.specs.Services.{other, given, error-if, fault-of, blocked, waiting, delivered, moved, served}
 use Rattle.paper.specs.Events.{running, tick}
 use Rattle.paper.specs.Numbers.{kind}
 use Rattle.paper.specs.Rules.{Empty, Good}
@@ -29,7 +29,7 @@ use Rattle.paper.specs.declared.Reply.{Reply}
 use Rattle.laws.specs.Cells.{at-same, at-other}
 use Rattle.laws.specs.Queues.{held-length, appended-held, taken-held}
 use Rattle.laws.specs.Sound.{Sound, sound, put-sound, appended-sound, taken-sound, has-room, has-word}
-use Rattle.laws.specs.Frame.{Apart, frame-none, frame-more, frame-put, frame-then, kept, kept-empty, kept-full, kept-held}
+use Rattle.laws.specs.Frame.{Apart, frame-none, frame-more, frame-put, kept, kept-empty, kept-full, kept-held}
 use Rattle.laws.specs.Changes.{turn-parts, error-none, buffer-has, status-sound, frame-status, frame-left, frame-woken}
 use Rattle.event_laws.specs.Own.{own-parts, header-part, clock-apart}
 use Rattle.event_laws.specs.Standing.{waits-not}
@@ -72,11 +72,8 @@ module _ (s : Shape) (im : List ℕ) (g : Good s im) (some : empty s im Queue.Re
   l = first-leads s im g some
 
   calm : error s im (running s im) ≡ 0
-  calm = go (ℕ-discrete (error s im (running s im)) 0)
-    where
-      go : Dec (error s im (running s im) ≡ 0) → error s im (running s im) ≡ 0
-      go (yes e) = e
-      go (no ne) = absurd (waits-not v (sym (g .flags (running s im) (first-task s im g some) .never-both ne) ∙ asks))
+  calm =
+      dite (ℕ-discrete (error s im (running s im)) 0) (λ e. e) (λ ne. absurd (waits-not v (sym (g .flags (running s im) (first-task s im g some) .never-both ne) ∙ asks)))
 
   -- it waits exactly where the service is not wrong and its buffer stops it
   pub waits-exactly : Tells (tick s im .reply) 4 ↔ ((fault-of s im (running s im) v ≡ Fault.Nothing) × (blocked s im (running s im) v ≡ true))

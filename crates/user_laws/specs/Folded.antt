@@ -11,6 +11,7 @@ use Rattle.paper.specs.Numbers.{check, refused-if}
 use Rattle.paper.specs.Rules.{Good}
 use Rattle.paper.specs.Calls.{Ran, event-if, event, stopped-at, one-more, goes-on, run-from, check-run, run}
 use Rattle.paper.specs.declared.Shape.{Shape}
+use Rattle.paper.specs.declared.Answer.{Answer}
 use Rattle.paper.specs.declared.Refusal.{Refusal}
 use Rattle.paper.specs.declared.Reply.{Reply}
 use Rattle.paper.specs.declared.Verdict.{Verdict}
@@ -31,19 +32,34 @@ pub event-is : (s : Shape) (im : List ℕ) → Good s im → (k d c : ℕ) → e
 unfolding event
 event-is s im g k d c = rw (good-checked s im g, shape-is s im (g .laid))
 
-goes-same : (r : Reply) (m : List ℕ) (f g : List ℕ → Ran) → f m ≡ g m → goes-on r m f ≡ goes-on r m g
-goes-same (Reply.Accepted a) m f g e = ap one-more e
-goes-same (Reply.Refused r) m f g e = refl
+-- whatever holds of a run of no event, of words that are none, of one more event and of a refused one holds of every run
+pub run-any : (s : Shape) (P : List ℕ → List ℕ → Ran → Type 0) → ((im : List ℕ) → P im [] (stopped-at Verdict.Fine im))
+    → ((im : List ℕ) (k : ℕ) → P im (k ∷ []) (stopped-at (Verdict.Refused Refusal.MalformedEvent) im))
+    → ((im : List ℕ) (k d : ℕ) → P im (k ∷ d ∷ []) (stopped-at (Verdict.Refused Refusal.MalformedEvent) im))
+    → ((im : List ℕ) (k d c : ℕ) (later : List ℕ) (a : Answer) → happening s im (event-of s k d c) .reply ≡ Reply.Accepted a
+    → P (happening s im (event-of s k d c) .image) later (run-from s (happening s im (event-of s k d c) .image) later)
+    → P im (k ∷ d ∷ c ∷ later) (one-more (run-from s (happening s im (event-of s k d c) .image) later)))
+    → ((im : List ℕ) (k d c : ℕ) (later : List ℕ) (r : Refusal) → happening s im (event-of s k d c) .reply ≡ Reply.Refused r
+    → P im (k ∷ d ∷ c ∷ later) (stopped-at (Verdict.Refused r) (happening s im (event-of s k d c) .image)))
+    → (events im : List ℕ) → P im events (run-from s im events)
+run-any s P none one two more last [] im = none im
+run-any s P none one two more last (k ∷ []) im = one im k
+run-any s P none one two more last (k ∷ d ∷ []) im = two im k d
+run-any s P none one two more last (k ∷ d ∷ c ∷ later) im =
+    go (happening s im (event-of s k d c) .reply) refl (run-any s P none one two more last later (happening s im (event-of s k d c) .image))
+  where
+    m : List ℕ
+    m = happening s im (event-of s k d c) .image
+
+    go : (r : Reply) → happening s im (event-of s k d c) .reply ≡ r → P m later (run-from s m later) → P im (k ∷ d ∷ c ∷ later) (goes-on r m (λ next. run-from s next later))
+    go (Reply.Accepted a) e ih = more im k d c later a e ih
+    go (Reply.Refused r) e ih = last im k d c later r e
 
 -- events from a good image are calls of event, one after another
 pub from-folds : (s : Shape) (im : List ℕ) → Good s im → (events : List ℕ) → run-from s im events ≡ each-event im events
-from-folds s im g [] = refl
-from-folds s im g (k ∷ []) = refl
-from-folds s im g (k ∷ d ∷ []) = refl
-from-folds s im g (k ∷ d ∷ c ∷ events) =
-    rw (event-is s im g k d c)
-    (goes-same (happening s im (event-of s k d c) .reply) (happening s im (event-of s k d c) .image) (λ next. run-from s next events) (λ next. each-event next events)
-    (from-folds s (happening s im (event-of s k d c) .image) (words-good s im g k d c) events))
+from-folds s im g events =
+    run-any s (λ im events ran. Good s im → ran ≡ each-event im events) (λ im g. refl) (λ im k g. refl) (λ im k d g. refl)
+    (λ im k d c later a e ih g. rw (event-is s im g k d c, e) (ap one-more (ih (words-good s im g k d c)))) (λ im k d c later r e g. rw (event-is s im g k d c, e)) events im g
 
 -- a run that is not refused as a whole is of an image that passes the check, and is the fold of event
 checked-first : (im events : List ℕ) → check-run im events ≡ Verdict.Fine → check im ≡ Verdict.Fine

@@ -1,23 +1,23 @@
 -- What a run takes: the first events of its list, and by themselves they leave the image that it left. Assumes nothing.
 use mathlib.Core.Path.{_≡_, refl, ap, _∙_}
 use mathlib.Core.List.{List, [], _∷_, _++_}
-use mathlib.Core.Logic.{_≢_}
-use Prim.Native.Nat.{ℕ, zero, suc, _+_, _*_, _%_, _≤_}
+use mathlib.Core.Logic.{_≢_, dite}
+use Prim.Native.Nat.{ℕ, zero, suc, _-_, _*_, _%_, _≤_}
 use native.Mathlib.Decide.{ℕ-discrete}
 use native.Mathlib.Numerals.{one-add}
 use native.Mathlib.Omega.{arith}
 use borrow.Author.Tests.{eq-eqb, ne-eqb}
 use lib.ListN.{length}
 use Rattle.paper.specs.Image.{shape-of}
-use Rattle.paper.specs.Events.{event-of, happening}
+use Rattle.paper.specs.Events.{event-of}
 use Rattle.paper.specs.Numbers.{verdict-number, check}
-use Rattle.paper.specs.Calls.{Ran, stopped-at, goes-on, run-from, run}
+use Rattle.paper.specs.Calls.{Ran, stopped-at, run-from, run}
 use Rattle.paper.specs.declared.Shape.{Shape}
 use Rattle.paper.specs.declared.Refusal.{Refusal}
-use Rattle.paper.specs.declared.Reply.{Reply}
 use Rattle.paper.specs.declared.Verdict.{Verdict}
 use Rattle.laws.specs.Checked.{never-fine, zero-is}
 use Rattle.event_laws.specs.Walk.{happening-unchanged}
+use Rattle.user_laws.specs.Folded.{run-any}
 
 -- the first n events of a list
 abbrev pub first-events : ℕ → List ℕ → List ℕ
@@ -60,53 +60,27 @@ events-whole (suc n) (x ∷ y ∷ z ∷ later) = omega (arith, events-whole n la
 module _ (s : Shape) where
   -- the events that were taken, alone
   pub taken-first : (events im : List ℕ) → run-from s im (first-events (run-from s im events .taken) events) ≡ all-taken (run-from s im events)
-  taken-first [] im = refl
-  taken-first (x ∷ []) im = refl
-  taken-first (x ∷ y ∷ []) im = refl
-  taken-first (x ∷ y ∷ z ∷ later) im =
-      go (happening s im (event-of s x y z) .reply) refl (taken-first later (happening s im (event-of s x y z) .image))
-    where
-      go : (r : Reply) → happening s im (event-of s x y z) .reply ≡ r
-          → run-from s (happening s im (event-of s x y z) .image) (first-events (run-from s (happening s im (event-of s x y z) .image) later .taken) later)
-          ≡ all-taken (run-from s (happening s im (event-of s x y z) .image) later)
-          → run-from s im (first-events (goes-on r (happening s im (event-of s x y z) .image) (λ next. run-from s next later) .taken) (x ∷ y ∷ z ∷ later))
-          ≡ all-taken (goes-on r (happening s im (event-of s x y z) .image) (λ next. run-from s next later))
-      go (Reply.Accepted a) e ih = rw (one-add, e, ih, one-add)
-      go (Reply.Refused r) e ih = rw (happening-unchanged s im (event-of s x y z) r e)
+  taken-first =
+      run-any s (λ im events ran. run-from s im (first-events (ran .taken) events) ≡ all-taken ran) (λ im. refl) (λ im k. refl) (λ im k d. refl)
+      (λ im x y z later a e ih. rw (one-add, e, ih, one-add)) (λ im x y z later r e. rw (happening-unchanged s im (event-of s x y z) r e))
 
   -- where all events are accepted, those of a prefix are, and are taken
   pub prefix-taken : (part rest im : List ℕ) (n : ℕ) → run-from s im (part ++ rest) .stop ≡ Verdict.Fine → length part ≡ 3 * n
       → (run-from s im part .stop ≡ Verdict.Fine) × (run-from s im part .taken ≡ n)
-  prefix-taken [] rest im n f w = (refl, omega arith)
-  prefix-taken (x ∷ []) rest im n f w = absurd (let l : 1 ≡ 3 * n = w in omega arith)
-  prefix-taken (x ∷ y ∷ []) rest im n f w = absurd (let l : 2 ≡ 3 * n = w in omega arith)
-  prefix-taken (x ∷ y ∷ z ∷ part) rest im zero f w = absurd (let l : suc (suc (suc (length part))) ≡ 3 * 0 = w in omega arith)
-  prefix-taken (x ∷ y ∷ z ∷ part) rest im (suc n) f w =
-      let l : suc (suc (suc (length part))) ≡ 3 * suc n = w in
-      go (happening s im (event-of s x y z) .reply) f (λ h. prefix-taken part rest (happening s im (event-of s x y z) .image) n h (omega arith))
-    where
-      go : (r : Reply) → goes-on r (happening s im (event-of s x y z) .image) (λ next. run-from s next (part ++ rest)) .stop ≡ Verdict.Fine
-          → (run-from s (happening s im (event-of s x y z) .image) (part ++ rest) .stop ≡ Verdict.Fine
-          → (run-from s (happening s im (event-of s x y z) .image) part .stop ≡ Verdict.Fine) × (run-from s (happening s im (event-of s x y z) .image) part .taken ≡ n))
-          → (goes-on r (happening s im (event-of s x y z) .image) (λ next. run-from s next part) .stop ≡ Verdict.Fine) ×
-          (goes-on r (happening s im (event-of s x y z) .image) (λ next. run-from s next part) .taken ≡ suc n)
-      go (Reply.Accepted a) f ih = (ih f .0, rw (one-add, ih f .1))
-      go (Reply.Refused r) f ih = absurd (never-fine r f)
+  prefix-taken part rest im n f w =
+      run-any s (λ im part ran. (n : ℕ) → run-from s im (part ++ rest) .stop ≡ Verdict.Fine → length part ≡ 3 * n → (ran .stop ≡ Verdict.Fine) × (ran .taken ≡ n))
+      (λ im n f w. (refl, omega arith)) (λ im k n f w. absurd (let l : 1 ≡ 3 * n = w in omega arith)) (λ im k d n f w. absurd (let l : 2 ≡ 3 * n = w in omega arith))
+      (λ im x y z later a e ih n f w.
+      let l : suc (suc (suc (length later))) ≡ 3 * n = w in
+      let h = ih (n - 1) (rw e at f) (omega arith) in
+      (h .0, omega (arith, h .1, l)))
+      (λ im x y z later r e n f w. absurd (never-fine r (rw e at f))) part im n f w
 
   -- and the events that were taken are the whole list
   pub taken-all : (events im : List ℕ) → run-from s im events .stop ≡ Verdict.Fine → first-events (run-from s im events .taken) events ≡ events
-  taken-all [] im f = refl
-  taken-all (x ∷ []) im f = absurd (never-fine Refusal.MalformedEvent f)
-  taken-all (x ∷ y ∷ []) im f = absurd (never-fine Refusal.MalformedEvent f)
-  taken-all (x ∷ y ∷ z ∷ later) im f =
-      go (happening s im (event-of s x y z) .reply) f (λ h. taken-all later (happening s im (event-of s x y z) .image) h)
-    where
-      go : (r : Reply) → goes-on r (happening s im (event-of s x y z) .image) (λ next. run-from s next later) .stop ≡ Verdict.Fine
-          → (run-from s (happening s im (event-of s x y z) .image) later .stop ≡ Verdict.Fine
-          → first-events (run-from s (happening s im (event-of s x y z) .image) later .taken) later ≡ later)
-          → first-events (goes-on r (happening s im (event-of s x y z) .image) (λ next. run-from s next later) .taken) (x ∷ y ∷ z ∷ later) ≡ x ∷ y ∷ z ∷ later
-      go (Reply.Accepted a) f ih = rw (one-add, ih f)
-      go (Reply.Refused r) f ih = absurd (never-fine r f)
+  taken-all =
+      run-any s (λ im events ran. ran .stop ≡ Verdict.Fine → first-events (ran .taken) events ≡ events) (λ im f. refl)
+      (λ im k f. absurd (never-fine _ f)) (λ im k d f. absurd (never-fine _ f)) (λ im x y z later a e ih f. rw (one-add, ih f)) (λ im x y z later r e f. absurd (never-fine r f))
 
 -- a run on an image that passes the check goes over its list, where that is of whole events
 pub run-whole : (im : List ℕ) → check im ≡ Verdict.Fine → (events : List ℕ) → length events % 3 ≡ 0 → run im events ≡ run-from (shape-of im) im events
@@ -121,22 +95,17 @@ module _ (im : List ℕ) (fine : check im ≡ Verdict.Fine) (events : List ℕ) 
 
   -- the events that were taken, run alone: all are taken, the number is 0, and the image is the one that the run left
   pub run-taken : run im (first-events (run im events .taken) events) ≡ all-taken (run im events)
-  run-taken = go (ℕ-discrete (length events % 3) 0)
-    where
-      go : Dec (length events % 3 ≡ 0) → run im (first-events (run im events .taken) events) ≡ all-taken (run im events)
-      go (yes w) =
-          rw (run-whole im fine events w)
-          (run-whole im fine (first-events (run-from (shape-of im) im events .taken) events) (events-whole (run-from (shape-of im) im events .taken) events) ∙
-          taken-first (shape-of im) events im)
-      go (no w) = rw (run-broken w) (run-whole im fine [] refl)
+  run-taken =
+      dite (ℕ-discrete (length events % 3) 0)
+      (λ w.
+      rw (run-whole im fine events w)
+      (run-whole im fine (first-events (run-from (shape-of im) im events .taken) events) (events-whole (run-from (shape-of im) im events .taken) events) ∙
+      taken-first (shape-of im) events im))
+      (λ w. rw (run-broken w) (run-whole im fine [] refl))
 
   -- with number 0 they are the whole list
   pub run-all : verdict-number (run im events .stop) ≡ 0 → first-events (run im events .taken) events ≡ events
-  run-all e = go (ℕ-discrete (length events % 3) 0)
-    where
-      f : run im events .stop ≡ Verdict.Fine
-      f = zero-is (run im events .stop) .0 e
-
-      go : Dec (length events % 3 ≡ 0) → first-events (run im events .taken) events ≡ events
-      go (yes w) = rw (run-whole im fine events w) (taken-all (shape-of im) events im (rw (run-whole im fine events w) at f))
-      go (no w) = absurd (never-fine Refusal.MalformedEvent (rw (run-broken w) at f))
+  run-all e =
+      let f : run im events .stop ≡ Verdict.Fine = zero-is (run im events .stop) .0 e in
+      dite (ℕ-discrete (length events % 3) 0) (λ w. rw (run-whole im fine events w) (taken-all (shape-of im) events im (rw (run-whole im fine events w) at f)))
+      (λ w. absurd (never-fine Refusal.MalformedEvent (rw (run-broken w) at f)))
