@@ -48,7 +48,7 @@ module _ (s : Shape) (im : List ℕ) (g : Good s im) (x y z : ℕ) (i : Task) (k
           record {
             good = words-good s im g x y z;
             nears = rw (h .told) (event-nears s im g i k b x y z (h .answer) (h .told));
-            untouched = event-untouched s im g i k b x y z (h .answer) (h .told);
+            untouched = event-untouched s im g i k b x y z;
           }
 
       refused : (r : Refusal) × RefusedFor im o r → Steps s im (o .image) i (suc k) (if-accepted (o .reply) (tick-count x y z))
