@@ -1,15 +1,15 @@
 -- Words that are the same up to a place, and words that are as salted. Assumes nothing.
-use mathlib.Core.Path.{_≡_, refl, _∙_}
+use mathlib.Core.Path.{_≡_, refl, ap, _∙_}
 use mathlib.Core.Bool.{Bool, true, false}
 use mathlib.Core.List.{List}
-use Prim.Native.Nat.{ℕ, _+_, _*_, _-_, _%_, _<_, _≤_}
+use Prim.Native.Nat.{ℕ, zero, suc, _+_, _*_, _-_, _%_, _<_, _≤_}
 use borrow.Author.Tests.{ltb-true, ltb-false}
 use lib.Dec.{ltb}
 use native.Mathlib.Numerals.{add-one}
 use native.Mathlib.Omega.{arith}
 use lib.ListN.{length, getD, take, drop, set, length-take, length-drop}
 use native.Mathlib.Nat.{min-le-left}
-use lib.Seq.{length-take-le, take-suc, take-suc-set, take-all, getD-set-same, getD-set-other}
+use lib.Seq.{length-take-le, take-suc, take-suc-set, take-all, getD-set-same, getD-set-other, set-set, set-getD}
 
 module _ (a b : List ℕ) (i : ℕ) (e : take i a ≡ take i b) where
   -- one word more is the same
@@ -37,6 +37,23 @@ part-room bytes words size at end below inside e =
     let few : length (take size bytes) ≤ size = rw length-take (min-le-left size (length bytes)) in
     let many : length (take (end - at) (drop at words)) ≡ end - at = length-take-le (end - at) (drop at words) (rw length-drop (omega arith)) in
     omega (arith, few, many)
+
+-- words with a count of changes made in them, each a place and its word, the last one first
+unfoldable pub with-changes : List ℕ → List ℕ → ℕ → List ℕ
+with-changes words changes zero = words
+with-changes words changes (suc k) = with-changes (set words (getD changes (2 * k) 0) (getD changes (2 * k + 1) 0)) changes k
+
+pub no-changes : (words changes : List ℕ) → with-changes words changes 0 ≡ words
+unfolding with-changes
+no-changes words changes = refl
+
+-- one more is taken back
+pub taken-back : (words changes before : List ℕ) (k p v : ℕ) → with-changes words changes k ≡ before → p ≡ getD changes (2 * k) 0
+    → getD words p 0 ≡ getD changes (2 * k + 1) 0 → with-changes (set words p v) changes (k + 1) ≡ before
+unfolding with-changes
+taken-back words changes before k p v e ep ew =
+    let same : set (set words p v) (getD changes (2 * k) 0) (getD changes (2 * k + 1) 0) ≡ words = rw (← ep, ← ew, set-set words p v (getD words p 0)) (set-getD words p 0) in
+    rw add-one (ap (λ (ws : List ℕ). with-changes ws changes k) same ∙ e)
 
 -- the word at a place of a salted target
 unfoldable pub salted-word : ℕ → ℕ → ℕ

@@ -1,7 +1,10 @@
 // The words that a case changes: reading them, and the image that they leave.
 ghost use mathlib.Core.Path.{_≡_};
+ghost use mathlib.Core.Bool.{true};
 ghost use Prim.Native.Nat.{_<_, _≤_};
 ghost use lib.ListN.{length};
+ghost use Rattle.vectors.specs.Words.{with-changes};
+ghost use Rattle.vectors.specs.declared.tally.Answer.the-variants.{Same};
 use crate::images::are_same;
 use crate::records::Found;
 use crate::records::WORD_END;
@@ -27,6 +30,7 @@ const WORD_AT: usize = 1;
 // A word as a place or a count.
 pub fn as_count(word: u16) -> usize
     ensures { λ r. do ⌜ r < (← ⟦WORD_END⟧ .entry) ⌝ }
+    ensures { λ r. ⌜ r ≡ word ⌝ }
 {
     word as usize
 }
@@ -53,7 +57,7 @@ pub fn are_places(changes: &[u16; CHANGE_WORDS], count: usize, words: usize) -> 
     true
 }
 
-// Takes count changes back in the words of an image, and answers whether each was made; a place is the image's own again then.
+// Takes count changes back in the words of an image, and answers whether each was made: a yes means that the words were those that it leaves, with these changes.
 pub fn take_back(
     words: &mut [u16],
     image: &[u16],
@@ -62,11 +66,15 @@ pub fn take_back(
 ) -> bool
     requires { ⌜ length (now words) ≡ length (now image) ⌝ }
     requires { do ⌜ count ≤ (← ⟦MOST_CHANGES⟧) ⌝ }
+    ensures { λ r. ⌜ (r ≡ true → with-changes (now (words .exit)) (now (changes .entry)) count ≡ now (words .entry)) ⌝ }
 {
     for i in 0..count {
         let low = CHANGE_SIZE * i;
-        let place = as_count(changes[low + PLACE_AT]);
-        if place >= words.len() || words[place] != changes[low + WORD_AT] {
+        let place = as_count(changes[low]);
+        if place >= words.len() {
+            return false;
+        }
+        if words[place] != changes[low + WORD_AT] {
             return false;
         }
         words[place] = image[place];
@@ -96,9 +104,13 @@ fn make_changes(fd: i32, image: &mut [u16], count: usize) -> bool {
 // Makes the next count changes of a file in an image, and answers whether the words are then its own and what was said is the same.
 pub fn changed_answer(fd: i32, words: &[u16], image: &mut [u16], count: usize, same: bool) -> Answer
     requires { ⌜ length (now words) ≡ length (now image) ⌝ }
+    ensures { λ r. ⌜ (r ≡ Same → (same ≡ true) × (now (words .entry) ≡ now (image .exit))) ⌝ }
 {
     if !make_changes(fd, image, count) {
         return Answer::Bad;
     }
-    compared(same && are_same(words, image))
+    if !same {
+        return Answer::Differs;
+    }
+    compared(are_same(words, image))
 }

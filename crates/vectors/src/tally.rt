@@ -1,4 +1,7 @@
 // Counts the cases of a file and prints the counts.
+ghost use mathlib.Core.Path.{_≡_};
+ghost use mathlib.Core.Bool.{true};
+ghost use Rattle.vectors.specs.declared.tally.Answer.the-variants.{Same};
 use libc::STDOUT_FILENO;
 
 // An expected number is less than this.
@@ -72,7 +75,9 @@ pub fn listed(numbers: &[u16], number: u16) -> bool {
 }
 
 // The answer to what is the same or differs.
-pub fn compared(same: bool) -> Answer {
+pub fn compared(same: bool) -> Answer
+    ensures { λ r. ⌜ (r ≡ Same → same ≡ true) ⌝ }
+{
     if same { Answer::Same } else { Answer::Differs }
 }
 
