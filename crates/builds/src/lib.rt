@@ -12,7 +12,11 @@ ghost use Rattle.writes.specs.Written.{written};
 ghost use Rattle.parts.specs.Needs.{Plan};
 ghost use Rattle.builds.specs.Needs.{Blank};
 use numbers::number_of_verdict;
+use paper::NOT_REFUSED;
+use paper::PORT_WORDS;
 use paper::Refusal;
+use paper::SEGMENTS;
+use paper::STATUS_WORDS;
 use paper::Shape;
 use paper::Size;
 use paper::Verdict;
@@ -26,8 +30,6 @@ use parts::put_tasks;
 use plans::shape_sized;
 use plans::size;
 use writes::put_zeros;
-
-const PAIR_WORDS: usize = 2;
 
 // The ready queue: all tasks in order.
 fn put_ready(s: Shape, plan: &[u16], out: &mut [u16], at: usize) -> usize
@@ -53,7 +55,7 @@ fn put_tables(s: Shape, plan: &[u16], out: &mut [u16]) -> usize
     let tasks = put_header(s, out);
     let ready = put_tasks(s, plan, out, tasks);
     let status = put_ready(s, plan, out, ready);
-    status + s.n * PAIR_WORDS
+    status + s.n * STATUS_WORDS
 }
 
 // The input, output and message buffers.
@@ -78,7 +80,7 @@ fn put_rest(s: Shape, plan: &[u16], out: &mut [u16], at: usize) -> usize
     ensures { λ r. ⌜ r ≡ total s ⌝ }
     ensures { λ _. ⌜ now (out .exit) ≡ written (now (out .entry)) at ((fresh-part s (now (plan .entry)) Ports ++ fresh-part s (now (plan .entry)) SegmentTable) ++ fresh-part s (now (plan .entry)) Segments) ⌝ }
 {
-    let table = at + s.n * PAIR_WORDS;
+    let table = at + s.n * PORT_WORDS;
     let segments = put_table(s, plan, out, table);
     put_segments(s, plan, out, segments)
 }
@@ -91,7 +93,7 @@ fn put_image(s: Shape, plan: &[u16], out: &mut [u16])
     ensures { λ _. ⌜ now (out .exit) ≡ fresh (now (plan .entry)) ⌝ }
 {
     let starts = s.starts;
-    put_zeros(out, 0, starts[8]);
+    put_zeros(out, 0, starts[SEGMENTS]);
     let inputs = put_tables(s, plan, out);
     let ports = put_buffers(s, plan, out, inputs);
     put_rest(s, plan, out, ports);
@@ -109,7 +111,7 @@ pub fn build(plan: &[u16], target: &mut [u16]) -> u16
                 return number_of_verdict(Verdict::Refused(Refusal::WrongTarget));
             }
             put_image(shape_sized(plan, whole), plan, target);
-            0
+            NOT_REFUSED
         }
     }
 }

@@ -5,6 +5,8 @@ ghost use lib.ListN.{length, take};
 ghost use Rattle.disk.specs.Bytes.{chunk, chunk-bytes, bytes-of, Loads};
 use libc::STDERR_FILENO;
 use libc::STDOUT_FILENO;
+use paper::BYTE_END;
+use paper::WORD_BYTES;
 
 // What became of a run: its output is written, its input was refused, or could not be had, or its output could not be written.
 pub enum Outcome {
@@ -19,11 +21,6 @@ pub enum Loaded {
     Bytes(usize),
     Nothing,
 }
-
-// The bytes of a word, and the values of a byte.
-const WORD_BYTES: usize = 2;
-
-const BYTE_END: u16 = 256;
 
 // The words that are written at a time.
 const CHUNK_WORDS: usize = 32768;

@@ -1,11 +1,11 @@
 // Replays a record of an event on the image that stands.
 ghost use mathlib.Core.Path.{_≡_};
 ghost use lib.ListN.{length};
-use crate::replies::ACCEPTED;
 use crate::replies::EventWords;
 use crate::replies::are_same;
 use crate::replies::said_to;
 use kernel_c::Told;
+use paper::NOT_REFUSED;
 use vectors::changes::changed_answer;
 use vectors::images::lay_out;
 use vectors::records::Found;
@@ -75,7 +75,7 @@ fn read_case(fd: i32, head: Head) -> Asked {
 // Whether an event may have the number of a case and as many changes.
 fn is_right(case: Case) -> bool {
     let number = case.expected.number;
-    listed(&EVENT_NUMBERS, number) && (number == ACCEPTED || case.changes == 0)
+    listed(&EVENT_NUMBERS, number) && (number == NOT_REFUSED || case.changes == 0)
 }
 
 // The tally with a case, unless the record is bad. The image takes the changes that follow in the file.

@@ -4,9 +4,6 @@ ghost use mathlib.Core.Bool.{true};
 use kernel_c::Told;
 use kernel_c::kernel_event;
 
-// The number of an event that is accepted.
-pub const ACCEPTED: u16 = 0;
-
 // The three words of an event.
 pub struct EventWords {
     pub kind: u16,

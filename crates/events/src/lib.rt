@@ -16,11 +16,20 @@ ghost use Rattle.laws.specs.Events.{Formed};
 ghost use Rattle.words.specs.Names.{Rowed};
 use paper::Answer;
 use paper::Event;
+use paper::IDLE;
+use paper::INPUT;
+use paper::MOST_CHARACTER;
+use paper::OUTPUT_DONE;
+use paper::PENDING;
 use paper::Queue;
 use paper::Refusal;
 use paper::Reply;
+use paper::STOPPED;
 use paper::Shape;
+use paper::TICK;
 use paper::Task;
+use paper::WAITS_FOR_INPUT;
+use paper::WAITS_FOR_OUTPUT;
 use paper::Woken;
 use services::print;
 use services::service;
@@ -36,29 +45,6 @@ use words::full;
 use words::get;
 use words::put;
 use words::take;
-
-// The kinds of events.
-const TICK: u16 = 0;
-
-const INPUT: u16 = 1;
-
-const OUTPUT_DONE: u16 = 2;
-
-// Flags from this on have a service pending, whose number is counted by this.
-const PENDING: u16 = 32;
-
-// A character is at most this.
-const MOST_CHARACTER: u16 = 255;
-
-// The statuses that an event looks at or sets.
-const WAITS_FOR_INPUT: u16 = 3;
-
-const WAITS_FOR_OUTPUT: u16 = 4;
-
-const STOPPED: u16 = 5;
-
-// A port that is idle.
-const IDLE: u16 = 0;
 
 // The event of three words.
 pub fn event_of(s: Shape, kind: u16, device: u16, character: u16) -> Event

@@ -12,13 +12,16 @@ ghost use Rattle.feeding.specs.Needs.{number-end, text-room, FeedsShort,
 use files::word;
 use happening::step;
 use lines::put_line;
+use paper::EVENT_WORDS;
+use paper::HIGH_BYTES;
 use paper::Refusal;
 use paper::Reply;
 use paper::Shape;
 use paper::Verdict;
+use paper::WORD_BYTES;
 
 // The bytes of an event: its kind, its device and its character, a word each.
-pub const EVENT_BYTES: usize = 6;
+pub const EVENT_BYTES: usize = WORD_BYTES * EVENT_WORDS;
 
 // What came of the events of a buffer: how many bytes of text were written, how many events were taken, and whether one was refused.
 pub struct Fed {
@@ -28,7 +31,7 @@ pub struct Fed {
 }
 
 // Carries out the event whose bytes start at a place.
-fn step_at(s: Shape, im: &mut [u16], shapes: &[u16; 256], bytes: &[u8], at: usize) -> Reply
+fn step_at(s: Shape, im: &mut [u16], shapes: &[u16; HIGH_BYTES], bytes: &[u8], at: usize) -> Reply
     requires { ⌜ Lawful s (now im) ⌝ }
     requires { ⌜ Shapes (now shapes) ⌝ }
     requires { ⌜ at + event-bytes ≤ length (now bytes) ⌝ }
@@ -56,7 +59,14 @@ fn feed_short(text: usize, taken: usize, n: u64, out: &mut [u8]) -> Fed
 }
 
 // Takes the events of a buffer, the first of which has the number n, and writes their lines.
-fn feed(s: Shape, im: &mut [u16], shapes: &[u16; 256], bytes: &[u8], n: u64, out: &mut [u8]) -> Fed
+fn feed(
+    s: Shape,
+    im: &mut [u16],
+    shapes: &[u16; HIGH_BYTES],
+    bytes: &[u8],
+    n: u64,
+    out: &mut [u8],
+) -> Fed
     requires { ⌜ Lawful s (now im) ⌝ }
     requires { ⌜ Shapes (now shapes) ⌝ }
     requires { ⌜ n + length (now bytes) < number-end ⌝ }
@@ -97,7 +107,7 @@ fn feed(s: Shape, im: &mut [u16], shapes: &[u16; 256], bytes: &[u8], n: u64, out
 pub fn feed_buffer(
     s: Shape,
     im: &mut [u16],
-    shapes: &[u16; 256],
+    shapes: &[u16; HIGH_BYTES],
     buffer: &[u8],
     found: usize,
     n: u64,

@@ -9,15 +9,11 @@ ghost use Rattle.paper.specs.declared.Verdict.the-variants.{Fine};
 ghost use Rattle.writes.specs.Written.{written};
 ghost use Rattle.files.specs.Bytes.{OddAfter, enough, Decides};
 ghost use Rattle.files.specs.Needs.{ReadsPlan};
+use paper::BYTE_END;
 use paper::Refusal;
 use paper::Verdict;
+use paper::WORD_BYTES;
 use plans::verdict;
-
-// The bytes of a word.
-pub const WORD_BYTES: usize = 2;
-
-// A byte is less than this.
-const BYTE_END: u16 = 256;
 
 // What a plan's file comes to: how many words were read, and the verdict.
 pub struct PlanRead {

@@ -12,13 +12,12 @@ ghost use Rattle.happening.specs.Ahead.{zeros-at, Ahead, Stops};
 use events::event_of;
 use events::report;
 use paper::Answer;
+use paper::EVENT_WORDS;
+use paper::HIGH_BYTES;
 use paper::Reply;
 use paper::Shape;
 use ticks::ticks;
 use truths::both;
-
-// The words of an event.
-const EVENT_WORDS: usize = 3;
 
 // How many events are looked at together: first a few, then more.
 const LOOK: usize = 4;
@@ -101,7 +100,7 @@ fn report_at(s: Shape, im: &mut [u16], events: &[u16], k: usize) -> Reply
 }
 
 // Takes the events of a list, one after another, up to the first refused one.
-pub fn take_events(s: Shape, im: &mut [u16], shapes: &[u16; 256], events: &[u16]) -> Took
+pub fn take_events(s: Shape, im: &mut [u16], shapes: &[u16; HIGH_BYTES], events: &[u16]) -> Took
     requires { ⌜ Lawful s (now im) ⌝ }
     requires { ⌜ Shapes (now shapes) ⌝ }
     requires { ⌜ length (now events) % 3 ≡ 0 ⌝ }
@@ -145,7 +144,7 @@ pub fn take_events(s: Shape, im: &mut [u16], shapes: &[u16; 256], events: &[u16]
 pub fn step(
     s: Shape,
     im: &mut [u16],
-    shapes: &[u16; 256],
+    shapes: &[u16; HIGH_BYTES],
     kind: u16,
     device: u16,
     character: u16,

@@ -10,28 +10,41 @@ ghost use Rattle.paper.specs.Tests.{every, every-task};
 ghost use Rattle.paper.specs.Numbers.{within as is-within, out-of-range as is-out-of-range, not-packed as is-not-packed, segment-right as is-segment-right, wrong-segments as has-wrong-segments};
 ghost use Rattle.laws.specs.Sound.{Sized};
 ghost use Rattle.laws.specs.Layout.{Ranged};
+use paper::BASE;
+use paper::CI_AT;
+use paper::CM_AT;
+use paper::CO_AT;
 use paper::Cell;
+use paper::ENTRY_WORDS;
+use paper::HEADER_WORDS;
+use paper::INPUT_BUFFERS_AT;
+use paper::LEAD_WORDS;
+use paper::LENGTH;
+use paper::MESSAGE_BUFFERS_AT;
+use paper::MOST_CAPACITY;
+use paper::MOST_SLICE;
+use paper::MOST_TASKS;
+use paper::MOST_WORDS;
+use paper::OFFSETS;
+use paper::OUTPUT_BUFFERS_AT;
+use paper::PORT_WORDS;
+use paper::PORTS_AT;
 use paper::Part;
+use paper::READY_QUEUE_AT;
+use paper::SEGMENT_TABLE_AT;
+use paper::SEGMENTS;
+use paper::SEGMENTS_AT;
+use paper::SLICE_AT;
+use paper::STATUS_TABLE_AT;
+use paper::STATUS_WORDS;
 use paper::Shape;
+use paper::TASK_TABLE_AT;
+use paper::TASK_WORDS;
+use paper::TASKS_AT;
+use paper::TOTAL_AT;
 use places::wide;
 use places::word_of;
 use truths::both;
-
-const HEADER_WORDS: usize = 18;
-
-const TASK_WORDS: usize = 9;
-
-const LEAD_WORDS: usize = 4;
-
-const PAIR_WORDS: usize = 2;
-
-const MOST_TASKS: usize = 16;
-
-const MOST_SLICE: usize = 65535;
-
-const MOST_CAPACITY: usize = 32;
-
-const MOST_WORDS: usize = 32768;
 
 // What a is more than b, or 0.
 fn rest(a: usize, b: usize) -> usize
@@ -61,19 +74,19 @@ pub fn header_word(im: &[u16], k: usize) -> usize
 }
 
 // The nine offsets in the header.
-fn starts_of(im: &[u16]) -> [usize; 9]
+fn starts_of(im: &[u16]) -> [usize; OFFSETS]
     ensures { λ r. ⌜ r ≡ map (word-of-header (now (im .entry))) offset-words ⌝ }
 {
     [
-        header_word(im, 7),
-        header_word(im, 8),
-        header_word(im, 9),
-        header_word(im, 10),
-        header_word(im, 11),
-        header_word(im, 12),
-        header_word(im, 13),
-        header_word(im, 14),
-        header_word(im, 15),
+        header_word(im, TASK_TABLE_AT),
+        header_word(im, READY_QUEUE_AT),
+        header_word(im, STATUS_TABLE_AT),
+        header_word(im, INPUT_BUFFERS_AT),
+        header_word(im, OUTPUT_BUFFERS_AT),
+        header_word(im, MESSAGE_BUFFERS_AT),
+        header_word(im, PORTS_AT),
+        header_word(im, SEGMENT_TABLE_AT),
+        header_word(im, SEGMENTS_AT),
     ]
 }
 
@@ -81,14 +94,14 @@ fn starts_of(im: &[u16]) -> [usize; 9]
 pub fn shape_of(im: &[u16]) -> Shape
     ensures { λ r. ⌜ r ≡ shape-given (now (im .entry)) ⌝ }
 {
-    let words = rest(header_word(im, 16), header_word(im, 15));
+    let words = rest(header_word(im, TOTAL_AT), header_word(im, SEGMENTS_AT));
     let starts = starts_of(im);
     Shape {
-        n: header_word(im, 2),
-        slice: word_or_zero(im, 3),
-        ci: header_word(im, 4),
-        co: header_word(im, 5),
-        cm: header_word(im, 6),
+        n: header_word(im, TASKS_AT),
+        slice: word_or_zero(im, SLICE_AT),
+        ci: header_word(im, CI_AT),
+        co: header_word(im, CO_AT),
+        cm: header_word(im, CM_AT),
         starts: starts,
         words: words,
     }
@@ -123,7 +136,7 @@ fn end_of(start: usize, rows: usize, width: usize) -> usize
 }
 
 // The packed offsets of a shape in range.
-pub fn offsets(s: Shape) -> [usize; 9]
+pub fn offsets(s: Shape) -> [usize; OFFSETS]
     requires { ⌜ Ranged s ⌝ }
     ensures { λ r. ⌜ r ≡ packed-offsets s ⌝ }
 {
@@ -131,12 +144,12 @@ pub fn offsets(s: Shape) -> [usize; 9]
     let tasks = HEADER_WORDS;
     let ready = end_of(tasks, n, TASK_WORDS);
     let status = end_of(ready, 1, LEAD_WORDS + n);
-    let inputs = end_of(status, n, PAIR_WORDS);
+    let inputs = end_of(status, n, STATUS_WORDS);
     let outputs = end_of(inputs, n, LEAD_WORDS + s.ci);
     let messages = end_of(outputs, n, LEAD_WORDS + s.co);
     let ports = end_of(messages, n * n, LEAD_WORDS + s.cm);
-    let table = end_of(ports, n, PAIR_WORDS);
-    let segments = end_of(table, n, PAIR_WORDS);
+    let table = end_of(ports, n, PORT_WORDS);
+    let segments = end_of(table, n, ENTRY_WORDS);
     [
         tasks,
         ready,
@@ -151,11 +164,11 @@ pub fn offsets(s: Shape) -> [usize; 9]
 }
 
 // Whether nine numbers are the same as nine others.
-fn same(a: [usize; 9], b: [usize; 9]) -> bool
+fn same(a: [usize; OFFSETS], b: [usize; OFFSETS]) -> bool
     ensures { λ r. ⌜ r ≡ every 9 (λ k. eqb (getD a k 0) (getD b k 0)) ⌝ }
 {
     let mut k = 0;
-    while k < 9 {
+    while k < OFFSETS {
         if a[k] != b[k] {
             return false;
         }
@@ -186,7 +199,7 @@ fn segment_right(s: Shape, im: &[u16], k: usize, start: usize) -> bool
         Cell {
             part: Part::SegmentTable,
             row: k,
-            column: 0,
+            column: BASE,
         },
     ));
     let length = word_of(
@@ -195,7 +208,7 @@ fn segment_right(s: Shape, im: &[u16], k: usize, start: usize) -> bool
         Cell {
             part: Part::SegmentTable,
             row: k,
-            column: 1,
+            column: LENGTH,
         },
     );
     both(base == start, 1 <= length)
@@ -207,7 +220,7 @@ fn segments_right(s: Shape, im: &[u16]) -> bool
     ensures { λ r. ⌜ r ≡ (every-task s (is-segment-right s (now (im .entry))) && eqb (segment-start s (now (im .entry)) (s .n)) (total s)) ⌝ }
 {
     let starts = s.starts;
-    let mut end = starts[8];
+    let mut end = starts[SEGMENTS];
     let mut k: usize = 0;
     while k < s.n {
         if !segment_right(s, im, k, end) {
@@ -219,7 +232,7 @@ fn segments_right(s: Shape, im: &[u16]) -> bool
             Cell {
                 part: Part::SegmentTable,
                 row: k,
-                column: 1,
+                column: LENGTH,
             },
         ));
         k += 1;
@@ -234,8 +247,8 @@ pub fn wrong_segments(s: Shape, im: &[u16]) -> bool
     requires { ⌜ is-not-packed s ≡ false ⌝ }
     ensures { λ r. ⌜ r ≡ has-wrong-segments s (now (im .entry)) ⌝ }
 {
-    let total = header_word(im, 16);
-    if total < header_word(im, 15) {
+    let total = header_word(im, TOTAL_AT);
+    if total < header_word(im, SEGMENTS_AT) {
         return true;
     }
     if MOST_WORDS < total {

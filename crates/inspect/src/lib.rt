@@ -16,7 +16,14 @@ use headers::out_of_range;
 use headers::shape_of;
 use headers::wrong_segments;
 use numbers::number_of_verdict;
+use paper::CLOCK_AT;
 use paper::Cell;
+use paper::EDITION;
+use paper::EDITION_AT;
+use paper::HEADER_WORDS;
+use paper::MARK;
+use paper::MARK_AT;
+use paper::MOST_TASKS;
 use paper::Part;
 use paper::Queue;
 use paper::Refusal;
@@ -35,14 +42,6 @@ use standing::readied_once;
 use standing::status_holds;
 use truths::both;
 use truths::implies;
-
-const HEADER_WORDS: usize = 18;
-
-const MOST_TASKS: usize = 16;
-
-const MARK: usize = 19284;
-
-const EDITION: usize = 1;
 
 // What one inspection of an image tells: the verdict, and the shape that its header gives.
 pub struct Inspected {
@@ -100,7 +99,7 @@ fn clock_holds(s: Shape, im: &[u16]) -> bool
         Cell {
             part: Part::Header,
             row: 0,
-            column: 17,
+            column: CLOCK_AT,
         },
     );
     both(
@@ -141,7 +140,10 @@ fn verdict(s: Shape, im: &[u16]) -> Verdict
     if im.len() < HEADER_WORDS {
         return Verdict::Refused(Refusal::TooShort);
     }
-    if !both(header_word(im, 0) == MARK, header_word(im, 1) == EDITION) {
+    if !both(
+        header_word(im, MARK_AT) == MARK as usize,
+        header_word(im, EDITION_AT) == EDITION as usize,
+    ) {
         return Verdict::Refused(Refusal::NotMarked);
     }
     if out_of_range(s) {

@@ -3,6 +3,12 @@ ghost use Prim.Native.Nat.{_+_, _*_, _≤_};
 ghost use lib.ListN.{length};
 ghost use Rattle.joining.specs.Texts.{Begins};
 use grammar::Worked;
+use paper::LEADING_WORDS;
+use paper::MOST_CAPACITY;
+use paper::PAIR_WORDS;
+use paper::PLAN_CI_AT;
+use paper::PLAN_CO_AT;
+use paper::PLAN_SLICE_AT;
 use tokens::LABEL;
 use tokens::Token;
 use tokens::next_token;
@@ -36,13 +42,6 @@ enum Wrong {
     Is(Cause),
     Nothing,
 }
-
-// The words of a plan before its pairs, and of a pair.
-pub const LEADING_WORDS: usize = 5;
-
-pub const PAIR_WORDS: usize = 2;
-
-const MOST_CAPACITY: u16 = 32;
 
 // The number that a text begins with, and the place after it.
 fn leading(text: &[u8]) -> Task
@@ -88,20 +87,20 @@ pub fn read_task(text: &[u8]) -> Task
 
 // Whether a word is no capacity.
 fn is_no_capacity(n: u16) -> bool {
-    n < 1 || MOST_CAPACITY < n
+    n < 1 || MOST_CAPACITY < n as usize
 }
 
 // Why a plan with 1 to 16 tasks has a number out of range.
 pub fn range_cause(plan: &[u16]) -> Cause
     requires { ⌜ 5 ≤ length (now plan) ⌝ }
 {
-    if plan[1] < 1 {
+    if plan[PLAN_SLICE_AT] < 1 {
         return Cause::Slice;
     }
-    if is_no_capacity(plan[2]) {
+    if is_no_capacity(plan[PLAN_CI_AT]) {
         return Cause::Inputs;
     }
-    if is_no_capacity(plan[3]) {
+    if is_no_capacity(plan[PLAN_CO_AT]) {
         return Cause::Outputs;
     }
     Cause::Messages

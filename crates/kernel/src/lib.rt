@@ -13,15 +13,13 @@ use happening::step;
 use happening::take_events;
 pub use inspect::check;
 use inspect::inspect;
+use paper::EVENT_WORDS;
 use paper::Ended;
 use paper::Refusal;
 use paper::Reply;
 use paper::Verdict;
 pub use plans::size;
 use shapes::order_shapes;
-
-// The words of an event.
-const EVENT_WORDS: usize = 3;
 
 // One event: kind, device, character.
 pub fn event(im: &mut [u16], kind: u16, device: u16, character: u16) -> Reply

@@ -15,6 +15,7 @@ use numbers::kind_of;
 use numbers::number_of;
 use numbers::number_of_verdict;
 use numbers::task_of;
+use paper::NOT_REFUSED;
 use paper::Reply;
 use paper::Size;
 
@@ -51,7 +52,7 @@ fn measure(size: Size) -> Measured
     match size {
         Size::Words(words) => Measured {
             words: words as u64,
-            number: 0,
+            number: NOT_REFUSED,
         },
         Size::Refused(r) => Measured {
             words: 0,
@@ -68,7 +69,7 @@ pub fn tell(reply: Reply) -> Told
 {
     match reply {
         Reply::Accepted(a) => Told {
-            number: 0,
+            number: NOT_REFUSED,
             kind: kind_of(a),
             task: task_of(a),
         },

@@ -6,6 +6,7 @@ use flaws::number_of;
 use grammar::Judged;
 use grammar::Text;
 use grammar::Translation;
+use paper::NOT_REFUSED;
 use texts::judge;
 use texts::translate;
 
@@ -51,7 +52,7 @@ fn tell_translation(answer: Translation) -> Translated
     match answer {
         Translation::Words(words) => Translated {
             words: words as u64,
-            number: 0,
+            number: NOT_REFUSED,
             text: NO_TEXT,
         },
         Translation::Refused(r, text) => Translated {

@@ -14,6 +14,26 @@ ghost use Rattle.machine.specs.Parts.{Lent, address-of, reach-of, held, 
 ghost use Rattle.machine.specs.After.{InHand, Fetched, Fell, Done, Worked, After, Carried};
 ghost use Rattle.machine.specs.declared.Went.{Went};
 use paper::Address;
+use paper::BAD_ORDER;
+use paper::BAD_SERVICE;
+use paper::ERROR;
+use paper::FIELD;
+use paper::FLAGS;
+use paper::HIGH_BYTES;
+use paper::JUMP;
+use paper::MOST_CC;
+use paper::MOST_SERVICE;
+use paper::NEXT_ORDER;
+use paper::OP;
+use paper::OUTSIDE;
+use paper::PENDING;
+use paper::QUOTIENT;
+use paper::REGISTERS;
+use paper::SEND;
+use paper::SERVICE;
+use paper::STACK;
+use paper::WORD_END;
+use paper::ZERO_DIVISOR;
 use results::both_bits;
 use results::compared;
 use results::difference;
@@ -21,48 +41,13 @@ use results::either_bit;
 use results::one_bit;
 use results::product;
 use results::sum;
+use shapes::KIND;
 use shapes::entry;
 use truths::both;
 use truths::either;
 
-// The words of the part that orders name: R0 is the next order's address, R1 the stack pointer.
-const NEXT_ORDER: usize = 0;
-
-const STACK: usize = 1;
-
-const FLAGS: usize = 8;
-
-// The errors of orders.
-const OUTSIDE: u16 = 1;
-
-const BAD_ORDER: u16 = 2;
-
-const BAD_SERVICE: u16 = 3;
-
-const ZERO_DIVISOR: u16 = 4;
-
-// What an error and a pending service count in the flags.
-const ERROR: u16 = 4;
-
-const PENDING: u16 = 32;
-
-// The first word of an order has its op from this on, field a from this on, and below this field b.
-const OP: u16 = 256;
-
-const FIELD: u16 = 16;
-
-// A register is below this; a condition, and a service, is at most this.
-const REGISTERS: u16 = 8;
-
-const MOST_CC: u16 = 2;
-
-const MOST_SERVICE: u16 = 4;
-
 // Added mod 65536, the last word lowers by 1.
-const LAST_WORD: u16 = 65535;
-
-// An entry of the table has the kind of its order from this on.
-const KIND: u16 = 4096;
+const LAST_WORD: u16 = (WORD_END - 1) as u16;
 
 // The kinds of orders, as the table has them.
 const SERVICE_OR_UNKNOWN: u16 = 0;
@@ -94,13 +79,6 @@ const RETURN: u16 = 12;
 const COMPARE: u16 = 13;
 
 const CALL: u16 = 14;
-
-// The orders that share a kind with another.
-const QUOTIENT: u16 = 8;
-
-const JUMP: u16 = 14;
-
-const SERVICE: u16 = 18;
 
 // Where an address leads, counted from the part's first word: in the segment or past it.
 pub struct Aim(pub usize);
@@ -293,7 +271,7 @@ fn field_b(w: u16) -> usize
 }
 
 // The order of two registers with first word w, which names R0: R0 is moved past it before operands are read.
-fn named(p: &mut [u16], shapes: &[u16; 256], g: Segment, at: Aim, w: u16)
+fn named(p: &mut [u16], shapes: &[u16; HIGH_BYTES], g: Segment, at: Aim, w: u16)
     requires { ⌜ InHand g (now p) at ⌝ }
     requires { ⌜ Shapes (now shapes) ⌝ }
     requires { ⌜ Fetched g (now p) at w ⌝ }
@@ -430,7 +408,7 @@ fn asks(p: &mut [u16], g: Segment, at: Aim, w: u16) -> Went
         return fault(p, g, at, BAD_ORDER);
     }
     let a = w / FIELD % FIELD;
-    if !both(1 <= a, a <= MOST_SERVICE) {
+    if !both(SEND <= a, a <= MOST_SERVICE) {
         return fault(p, g, at, BAD_SERVICE);
     }
     stand(p, g, onward(at, 1));
@@ -466,7 +444,7 @@ fn by_kind(p: &mut [u16], g: Segment, at: Aim, kind: u16, w: u16) -> Went
 }
 
 // The order with first word w: its fields have no bit that its entry of the table wants 0.
-fn known(p: &mut [u16], shapes: &[u16; 256], g: Segment, at: Aim, w: u16) -> Went
+fn known(p: &mut [u16], shapes: &[u16; HIGH_BYTES], g: Segment, at: Aim, w: u16) -> Went
     requires { ⌜ InHand g (now p) at ⌝ }
     requires { ⌜ Shapes (now shapes) ⌝ }
     requires { ⌜ at .0 < g .to ⌝ }
@@ -481,7 +459,7 @@ fn known(p: &mut [u16], shapes: &[u16; 256], g: Segment, at: Aim, w: u16) -> Wen
 }
 
 // The order that R0 in hand leads to.
-fn order(p: &mut [u16], shapes: &[u16; 256], g: Segment, at: Aim) -> Went
+fn order(p: &mut [u16], shapes: &[u16; HIGH_BYTES], g: Segment, at: Aim) -> Went
     requires { ⌜ InHand g (now p) at ⌝ }
     requires { ⌜ Shapes (now shapes) ⌝ }
     ensures { λ r. ⌜ After g (now (p .entry)) at r (now (p .exit)) ⌝ }
@@ -495,7 +473,7 @@ fn order(p: &mut [u16], shapes: &[u16; 256], g: Segment, at: Aim) -> Went
 }
 
 // Orders in a row, at most so many: up to one that faults, asks for a service or names R0 in a field. How many there were.
-pub fn orders(p: &mut [u16], shapes: &[u16; 256], g: Segment, most: u16) -> u16
+pub fn orders(p: &mut [u16], shapes: &[u16; HIGH_BYTES], g: Segment, most: u16) -> u16
     requires { ⌜ Lent g (now p) ⌝ }
     requires { ⌜ Shapes (now shapes) ⌝ }
     requires { ⌜ getD (now p) 8 0 < 4 ⌝ }

@@ -2,6 +2,7 @@
 ghost use mathlib.Core.Path.{_≡_};
 ghost use Rattle.paper.specs.Numbers.{number, verdict-number, kind, answer-task};
 use paper::Answer;
+use paper::NOT_REFUSED;
 use paper::Refusal;
 use paper::Verdict;
 
@@ -30,7 +31,7 @@ pub fn number_of_verdict(v: Verdict) -> u16
     ensures { λ n. ⌜ n ≡ verdict-number v ⌝ }
 {
     match v {
-        Verdict::Fine => 0,
+        Verdict::Fine => NOT_REFUSED,
         Verdict::Refused(r) => number_of(r),
     }
 }

@@ -5,6 +5,8 @@ ghost use lib.ListN.{length};
 ghost use Rattle.shapes.specs.Entries.{Shapes};
 use crate::outcomes::Outcome;
 use crate::outcomes::outcome_of;
+use paper::HIGH_BYTES;
+use paper::WORD_END;
 use vectors::changes::CHANGE_WORDS;
 use vectors::changes::MOST_CHANGES;
 use vectors::changes::are_places;
@@ -15,7 +17,6 @@ use vectors::images::are_same;
 use vectors::images::lay_out;
 use vectors::records::Found;
 use vectors::records::Head;
-use vectors::records::WORD_END;
 use vectors::records::read_words;
 use vectors::tally::Answer;
 use vectors::tally::ORDER_NUMBERS;
@@ -70,7 +71,7 @@ fn read_case(fd: i32, head: Head) -> Asked {
 
 // The answer to one order on an image.
 fn order_answer(
-    shapes: &[u16; 256],
+    shapes: &[u16; HIGH_BYTES],
     trial: &mut [u16],
     image: &[u16],
     changes: &[u16; CHANGE_WORDS],
@@ -93,7 +94,7 @@ fn order_answer(
 
 // The answer to one word of the span, put where the case says.
 fn word_answer(
-    shapes: &[u16; 256],
+    shapes: &[u16; HIGH_BYTES],
     trial: &mut [u16],
     image: &mut [u16],
     changes: &[u16; CHANGE_WORDS],
@@ -112,7 +113,7 @@ fn word_answer(
 
 // The tally with an order for each word of the span. The image is left as it was.
 fn span_tally(
-    shapes: &[u16; 256],
+    shapes: &[u16; HIGH_BYTES],
     trial: &mut [u16],
     image: &mut [u16],
     changes: &[u16; CHANGE_WORDS],
@@ -145,7 +146,7 @@ fn is_right(changes: &[u16; CHANGE_WORDS], case: Case, words: usize) -> bool
 
 // The tally with a case whose changes are read, unless the record is bad.
 fn checked_tally(
-    shapes: &[u16; 256],
+    shapes: &[u16; HIGH_BYTES],
     trial: &mut [u16],
     image: &mut [u16],
     changes: &[u16; CHANGE_WORDS],
@@ -171,7 +172,7 @@ fn checked_tally(
 // The tally with a case, its changes read from the file.
 fn case_tally(
     fd: i32,
-    shapes: &[u16; 256],
+    shapes: &[u16; HIGH_BYTES],
     trial: &mut [u16],
     image: &mut [u16],
     case: Case,
@@ -194,7 +195,7 @@ fn case_tally(
 // The tally with a record of orders on an image.
 pub fn orders_tally(
     fd: i32,
-    shapes: &[u16; 256],
+    shapes: &[u16; HIGH_BYTES],
     trial: &mut [u16],
     image: &mut [u16],
     head: Head,

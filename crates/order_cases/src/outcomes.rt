@@ -5,41 +5,30 @@ ghost use Rattle.shapes.specs.Entries.{Shapes};
 use happening::step;
 use inspect::inspect;
 use paper::Answer;
+use paper::CLOCK_AT;
+use paper::ERROR;
+use paper::ERROR_END;
+use paper::FLAGS;
+use paper::HIGH_BYTES;
+use paper::LEAD_WORDS;
+use paper::NO_ERROR;
+use paper::NOTHING_PENDING;
+use paper::PENDING;
+use paper::READY_QUEUE_AT;
 use paper::Reply;
+use paper::TASK_TABLE_AT;
+use paper::TASK_WORDS;
+use paper::TICK;
 use paper::Verdict;
-
-// The kind of a tick.
-const TICK: u16 = 0;
-
-// The places of the task table's offset, the ready queue's offset and the clock.
-const TASKS_AT: usize = 7;
-
-const READY_AT: usize = 8;
-
-const CLOCK_AT: usize = 17;
 
 // A clock by which a tick is an order.
 const SOME_TIME: u16 = 1;
-
-// The words of a queue before those that it holds, the words of a task, and where its flags stand in them.
-const LEAD: usize = 4;
-
-const TASK_WORDS: usize = 9;
-
-const FLAGS_AT: usize = 8;
 
 // The outcome of an order that is done.
 const DONE: u16 = 0;
 
 // The outcome of any answer that no order gives.
 const OTHER: u16 = 65535;
-
-// The error stands in the flags from this on, and is less than the end; the pending service stands above it.
-const ERROR: u16 = 4;
-
-const ERROR_END: u16 = 8;
-
-const PENDING: u16 = 32;
 
 // The number that an order comes to, or that the image allows none.
 pub enum Outcome {
@@ -74,18 +63,18 @@ fn word_at(im: &[u16], at: usize) -> u16 {
 
 // The place of the first ready task's flags, by what the words of an image say.
 fn flags_place(im: &[u16]) -> usize {
-    let ready = word_at(im, READY_AT) as usize;
-    let first = ready + LEAD + word_at(im, ready) as usize;
+    let ready = word_at(im, READY_QUEUE_AT) as usize;
+    let first = ready + LEAD_WORDS + word_at(im, ready) as usize;
     let task = word_at(im, first) as usize;
-    word_at(im, TASKS_AT) as usize + TASK_WORDS * task + FLAGS_AT
+    word_at(im, TASK_TABLE_AT) as usize + TASK_WORDS * task + FLAGS
 }
 
 // The flags after an order, with the error and the pending service that it left as they were.
 fn with_kept(before: u16, after: u16) -> u16 {
-    if after / ERROR % ERROR_END != 0 {
+    if after / ERROR % ERROR_END != NO_ERROR {
         return after % PENDING + before / PENDING * PENDING;
     }
-    if after / PENDING != 0 {
+    if after / PENDING != NOTHING_PENDING {
         return after + before / ERROR % ERROR_END * ERROR;
     }
     after + before / ERROR * ERROR
@@ -108,7 +97,7 @@ fn put_back(im: &mut [u16], at: usize, clock: u16, flags: u16)
 }
 
 // The outcome of a tick of an image, whose first ready task's flags stand at a place.
-fn ticked(im: &mut [u16], shapes: &[u16; 256], at: usize) -> Outcome
+fn ticked(im: &mut [u16], shapes: &[u16; HIGH_BYTES], at: usize) -> Outcome
     requires { ⌜ Shapes (now shapes) ⌝ }
     requires { ⌜ at < length (now im) ⌝ }
 {
@@ -122,7 +111,7 @@ fn ticked(im: &mut [u16], shapes: &[u16; 256], at: usize) -> Outcome
 }
 
 // Carries out one order of the first ready task of an image, and answers its outcome. No order looks at what is put aside.
-pub fn outcome_of(im: &mut [u16], shapes: &[u16; 256]) -> Outcome
+pub fn outcome_of(im: &mut [u16], shapes: &[u16; HIGH_BYTES]) -> Outcome
     requires { ⌜ Shapes (now shapes) ⌝ }
 {
     let at = flags_place(im);

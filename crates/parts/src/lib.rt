@@ -11,7 +11,24 @@ ghost use Rattle.plans.specs.Needs.{Packed};
 ghost use Rattle.writes.specs.Written.{written};
 ghost use Rattle.writes.specs.Clear.{Clear};
 ghost use Rattle.parts.specs.Needs.{Plan};
+use paper::CAPACITY;
+use paper::EDITION;
+use paper::HEADER_WORDS;
+use paper::INPUT_BUFFERS;
+use paper::LEADING_WORDS;
+use paper::MARK;
+use paper::MESSAGE_BUFFERS;
+use paper::OUTPUT_BUFFERS;
+use paper::PAIR_WORDS;
+use paper::PORTS;
+use paper::READY_QUEUE;
+use paper::SEGMENT_TABLE;
+use paper::SEGMENTS;
+use paper::STACK;
+use paper::STATUS_TABLE;
 use paper::Shape;
+use paper::TASK_TABLE;
+use paper::TASK_WORDS;
 use places::wide;
 use plans::length_of;
 use plans::program_of;
@@ -20,24 +37,9 @@ use writes::put_word;
 use writes::put_words;
 use writes::put_zeros;
 
-const MARK: u16 = 19284;
-
-const EDITION: u16 = 1;
-
-const HEADER_WORDS: usize = 18;
-
-// The words of a plan before its pairs, and of a pair.
-const LEADING_WORDS: usize = 5;
-
-const PAIR_WORDS: usize = 2;
-
 // Where R1 stands among the words of a task, and how many words come after it.
-const STACK: usize = 1;
-
-const LATER_WORDS: usize = 7;
-
-// Where the capacity stands among the words of a queue.
-const CAPACITY: usize = 3;
+// How many words of a task come after R1.
+const LATER_WORDS: usize = TASK_WORDS - STACK - 1;
 
 // The most words for each task of a plan whose programs are short, so that it is faster to clear all segments at once.
 const SHORT_PLAN: usize = 128;
@@ -60,15 +62,15 @@ pub fn put_header(s: Shape, out: &mut [u16]) -> usize
         s.ci as u16,
         s.co as u16,
         s.cm as u16,
-        o[0] as u16,
-        o[1] as u16,
-        o[2] as u16,
-        o[3] as u16,
-        o[4] as u16,
-        o[5] as u16,
-        o[6] as u16,
-        o[7] as u16,
-        o[8] as u16,
+        o[TASK_TABLE] as u16,
+        o[READY_QUEUE] as u16,
+        o[STATUS_TABLE] as u16,
+        o[INPUT_BUFFERS] as u16,
+        o[OUTPUT_BUFFERS] as u16,
+        o[MESSAGE_BUFFERS] as u16,
+        o[PORTS] as u16,
+        o[SEGMENT_TABLE] as u16,
+        o[SEGMENTS] as u16,
         t,
         s.slice,
     ];
@@ -200,7 +202,7 @@ pub fn put_table(s: Shape, plan: &[u16], out: &mut [u16], at: usize) -> usize
     ensures { λ _. ⌜ now (out .exit) ≡ written (now (out .entry)) at (fresh-part s (now (plan .entry)) SegmentTable) ⌝ }
 {
     let starts = s.starts;
-    let mut base = starts[8];
+    let mut base = starts[SEGMENTS];
     let mut next = at;
     let mut k: usize = 0;
     while k < s.n {

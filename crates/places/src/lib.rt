@@ -7,23 +7,26 @@ ghost use Rattle.paper.specs.Queues.{Has, head};
 ghost use Rattle.paper.specs.Rules.{Fit};
 ghost use Rattle.laws.specs.Sound.{Sized};
 use paper::Cell;
+use paper::ENTRY_WORDS;
+use paper::HEAD;
+use paper::HEADER_WORDS;
+use paper::INPUT_BUFFERS;
+use paper::LEAD_WORDS;
+use paper::MESSAGE_BUFFERS;
+use paper::OUTPUT_BUFFERS;
+use paper::PORT_WORDS;
+use paper::PORTS;
 use paper::Part;
 use paper::Place;
 use paper::Queue;
+use paper::READY_QUEUE;
+use paper::SEGMENT_TABLE;
+use paper::SEGMENTS;
+use paper::STATUS_TABLE;
+use paper::STATUS_WORDS;
 use paper::Shape;
-
-// The words of a row: of the header, of a task, of a queue before its slots, of a status, of a port, of a segment's entry.
-const HEADER_WORDS: usize = 18;
-
-const TASK_WORDS: usize = 9;
-
-const LEAD_WORDS: usize = 4;
-
-const STATUS_WORDS: usize = 2;
-
-const PORT_WORDS: usize = 2;
-
-const ENTRY_WORDS: usize = 2;
+use paper::TASK_TABLE;
+use paper::TASK_WORDS;
 
 // A word as a number of any size.
 pub fn wide(x: u16) -> usize
@@ -40,15 +43,15 @@ fn start_of(s: Shape, p: Part) -> usize
     let starts = s.starts;
     match p {
         Part::Header => 0,
-        Part::TaskTable => starts[0],
-        Part::ReadyQueue => starts[1],
-        Part::StatusTable => starts[2],
-        Part::InputBuffers => starts[3],
-        Part::OutputBuffers => starts[4],
-        Part::MessageBuffers => starts[5],
-        Part::Ports => starts[6],
-        Part::SegmentTable => starts[7],
-        Part::Segments => starts[8],
+        Part::TaskTable => starts[TASK_TABLE],
+        Part::ReadyQueue => starts[READY_QUEUE],
+        Part::StatusTable => starts[STATUS_TABLE],
+        Part::InputBuffers => starts[INPUT_BUFFERS],
+        Part::OutputBuffers => starts[OUTPUT_BUFFERS],
+        Part::MessageBuffers => starts[MESSAGE_BUFFERS],
+        Part::Ports => starts[PORTS],
+        Part::SegmentTable => starts[SEGMENT_TABLE],
+        Part::Segments => starts[SEGMENTS],
     }
 }
 
@@ -118,22 +121,22 @@ pub fn head_of(s: Shape, q: Queue) -> Cell
         Queue::Ready => Cell {
             part: Part::ReadyQueue,
             row: 0,
-            column: 0,
+            column: HEAD,
         },
         Queue::Input(t) => Cell {
             part: Part::InputBuffers,
             row: t.0 as usize,
-            column: 0,
+            column: HEAD,
         },
         Queue::Output(t) => Cell {
             part: Part::OutputBuffers,
             row: t.0 as usize,
-            column: 0,
+            column: HEAD,
         },
         Queue::Message(i, j) => Cell {
             part: Part::MessageBuffers,
             row: i.0 as usize * s.n + j.0 as usize,
-            column: 0,
+            column: HEAD,
         },
     }
 }

@@ -14,22 +14,22 @@ use disk::tell;
 use files::put_words;
 use joining::Asked;
 use joining::Cause;
-use joining::LEADING_WORDS;
-use joining::PAIR_WORDS;
 use joining::Task;
 use joining::pairs_cause;
 use joining::range_cause;
 use joining::read_task;
 use joining::read_word;
 use numbers::number_of;
+use paper::LEADING_WORDS;
+use paper::MOST_TASKS;
+use paper::PAIR_WORDS;
 use paper::Refusal;
 use paper::Size;
+use paper::WORD_BYTES;
 use plans::size;
 
-// The arguments before the tasks, the program's own name among them, and the most tasks.
+// The arguments before the tasks, the program's own name among them.
 const LEADING_ARGUMENTS: usize = 6;
-
-const MOST_TASKS: usize = 16;
 
 // The most words of a program: those of the longest segment.
 const PROGRAM_BYTES: usize = 65430;
@@ -94,7 +94,7 @@ fn put_program(path: &[u8], plan: &mut [u16], at: usize) -> Joined
     let Loaded::Bytes(found) = load(path, &mut bytes) else {
         return Joined::Nothing;
     };
-    if found % 2 != 0 {
+    if found % WORD_BYTES != 0 {
         say_not(path, b": an odd count of bytes\n");
         return Joined::Nothing;
     }

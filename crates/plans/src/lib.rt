@@ -13,20 +13,23 @@ use headers::header_word;
 use headers::offsets;
 use headers::out_of_range;
 use headers::word_or_zero;
+use paper::LEADING_WORDS;
+use paper::MOST_WORDS;
+use paper::OFFSETS;
+use paper::PAIR_WORDS;
+use paper::PLAN_CI_AT;
+use paper::PLAN_CM_AT;
+use paper::PLAN_CO_AT;
+use paper::PLAN_SLICE_AT;
+use paper::PLAN_TASKS_AT;
 use paper::Refusal;
+use paper::SEGMENTS;
 use paper::Shape;
 use paper::Size;
 use paper::Verdict;
 use places::wide;
 use truths::both;
 use truths::either;
-
-// The words of a plan before its pairs, and of a pair.
-const LEADING_WORDS: usize = 5;
-
-const PAIR_WORDS: usize = 2;
-
-const MOST_WORDS: usize = 32768;
 
 // What the pairs of a plan add up to: whether each is right, the words of all segments, and where the last program ends.
 struct Sums {
@@ -81,12 +84,12 @@ fn sizes_of(plan: &[u16]) -> Shape
     ensures { λ r. ⌜ SizesOf (now (plan .entry)) r ⌝ }
 {
     Shape {
-        n: header_word(plan, 0),
-        slice: word_or_zero(plan, 1),
-        ci: header_word(plan, 2),
-        co: header_word(plan, 3),
-        cm: header_word(plan, 4),
-        starts: [0; 9],
+        n: header_word(plan, PLAN_TASKS_AT),
+        slice: word_or_zero(plan, PLAN_SLICE_AT),
+        ci: header_word(plan, PLAN_CI_AT),
+        co: header_word(plan, PLAN_CO_AT),
+        cm: header_word(plan, PLAN_CM_AT),
+        starts: [0; OFFSETS],
         words: 0,
     }
 }
@@ -117,7 +120,7 @@ pub fn shape_of_plan(plan: &[u16]) -> Shape
     ensures { λ r. ⌜ r ≡ shape-planned (now (plan .entry)) ⌝ }
     ensures { λ r. ⌜ Packed r ⌝ }
 {
-    let all = add_up(plan, header_word(plan, 0));
+    let all = add_up(plan, header_word(plan, PLAN_TASKS_AT));
     shape_with(plan, all.words)
 }
 
@@ -127,7 +130,7 @@ pub fn total_of(s: Shape) -> usize
     ensures { λ r. ⌜ r ≡ total s ⌝ }
 {
     let starts = s.starts;
-    starts[8] + s.words
+    starts[SEGMENTS] + s.words
 }
 
 // Where the segments of a shape in range start.
@@ -136,7 +139,7 @@ fn first_segment(s: Shape) -> usize
     ensures { λ r. ⌜ r ≡ start s Segments ⌝ }
 {
     let starts = offsets(s);
-    starts[8]
+    starts[SEGMENTS]
 }
 
 // The shape of an accepted plan whose T is known.

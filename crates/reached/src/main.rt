@@ -4,17 +4,24 @@ use kernel::event;
 use kernel::size;
 use libc::STDOUT_FILENO;
 use numbers::task_of;
+use paper::LEADING_WORDS;
+use paper::MOST_TASKS;
+use paper::MOST_WORDS;
+use paper::PAIR_WORDS;
+use paper::PLAN_CI_AT;
+use paper::PLAN_CM_AT;
+use paper::PLAN_CO_AT;
+use paper::PLAN_SLICE_AT;
+use paper::PLAN_TASKS_AT;
 use paper::Reply;
 use paper::Size;
+use paper::TICK;
 ghost use mathlib.Core.Path.{_≡_};
 ghost use Prim.Native.Nat.{_≤_};
 ghost use lib.ListN.{length};
 
 // The most others that can be ahead.
-const MOST_AHEAD: usize = 15;
-
-// The most tasks of a plan.
-const MOST_TASKS: usize = 16;
+const MOST_AHEAD: usize = MOST_TASKS - 1;
 
 // The slice of every plan.
 const SLICE: u16 = 2;
@@ -28,20 +35,11 @@ const FIRST_TURN: usize = 4;
 // Two ticks more, a service and an order, and the clock of the first task has fallen to 1 with its send pending.
 const SERVICE_AND_ORDER: usize = 2;
 
-// The first word of a plan's pairs.
-const PAIRS: usize = 5;
-
-// The words of a pair.
-const PAIR: usize = 2;
-
 // The words of a program, which fill its segment.
 const PROGRAM: usize = 16;
 
 // The words of the longest plan.
 const PLAN_WORDS: usize = 293;
-
-// The most words of an image.
-const IMAGE_WORDS: usize = 32768;
 
 // The order of every program: send R3 to task 0.
 const SEND: u16 = 4624;
@@ -58,20 +56,20 @@ fn plan_of(tasks: usize) -> [u16; PLAN_WORDS]
     ensures { λ r. do ⌜ (← ⟦PLAN_WORDS⟧ .entry) ≡ length r ⌝ }
 {
     let mut plan = [SEND; PLAN_WORDS];
-    plan[0] = tasks as u16;
-    plan[1] = SLICE;
-    plan[2] = 1;
-    plan[3] = 1;
-    plan[4] = MESSAGES;
-    for i in 0..PAIR * tasks {
-        plan[PAIRS + i] = PROGRAM as u16;
+    plan[PLAN_TASKS_AT] = tasks as u16;
+    plan[PLAN_SLICE_AT] = SLICE;
+    plan[PLAN_CI_AT] = 1;
+    plan[PLAN_CO_AT] = 1;
+    plan[PLAN_CM_AT] = MESSAGES;
+    for i in 0..PAIR_WORDS * tasks {
+        plan[LEADING_WORDS + i] = PROGRAM as u16;
     }
     plan
 }
 
 // Whether a tick finds a task first: its answer names the one that was.
 fn is_first(im: &mut [u16], task: usize) -> bool {
-    let reply = event(im, 0, 0, 0);
+    let reply = event(im, TICK, 0, 0);
     match reply {
         Reply::Accepted(a) => task_of(a) as usize == task,
         Reply::Refused(_) => false,
@@ -81,7 +79,7 @@ fn is_first(im: &mut [u16], task: usize) -> bool {
 // So many ticks.
 fn tick(im: &mut [u16], ticks: usize) {
     for _ in 0..ticks {
-        event(im, 0, 0, 0);
+        event(im, TICK, 0, 0);
     }
 }
 
@@ -126,8 +124,8 @@ fn ticks_of(k: usize) -> usize
 {
     let tasks = k + 1;
     let plan = plan_of(tasks);
-    let words = PAIRS + (PAIR + PROGRAM) * tasks;
-    let mut room = [0u16; IMAGE_WORDS];
+    let words = LEADING_WORDS + (PAIR_WORDS + PROGRAM) * tasks;
+    let mut room = [0u16; MOST_WORDS];
     ticks_in(&plan[..words], &mut room, k)
 }
 

@@ -3,6 +3,7 @@ ghost use mathlib.Core.Path.{_≡_};
 ghost use mathlib.Core.Bool.{true};
 ghost use Rattle.paper.specs.Calls.{size-number, size-value};
 use numbers::number_of;
+use paper::NOT_REFUSED;
 use paper::Size;
 use vectors::records::Found;
 use vectors::records::Head;
@@ -35,9 +36,6 @@ const SIZE_LOW_AT: usize = 4;
 
 // The place of the high word of the expected size.
 const SIZE_HIGH_AT: usize = 5;
-
-// The number of a build that is not refused.
-const BUILT: u16 = 0;
 
 // What a record of a build says before its plan: counts of words, and what is expected.
 struct Case {
@@ -74,7 +72,7 @@ fn read_case(fd: i32, head: Head) -> Asked {
 
 // Compares a target after the build with what it must hold.
 fn target_answer(fd: i32, target: &[u16], case: Case) -> Answer {
-    if case.number == BUILT {
+    if case.number == NOT_REFUSED {
         return stored_answer(fd, target);
     }
     compared(is_salted(target, 0, case.salt))
@@ -95,7 +93,7 @@ fn size_number(size: Size) -> u16
     ensures { λ r. ⌜ r ≡ size-number size ⌝ }
 {
     match size {
-        Size::Words(_) => 0,
+        Size::Words(_) => NOT_REFUSED,
         Size::Refused(r) => number_of(r),
     }
 }

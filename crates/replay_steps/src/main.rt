@@ -1,10 +1,11 @@
 // Replays the stored orders, events and runs and prints how many cases each number has, how many differ, and how many of those that are wrong on purpose were told.
 use event_cases::cases::event_tally;
 use order_cases::cases::orders_tally;
+use paper::HIGH_BYTES;
+use paper::MOST_WORDS;
 use run_cases::cases::run_tally;
 use shapes::order_shapes;
 use vectors::images::KIND_IMAGE;
-use vectors::images::MOST_WORDS;
 use vectors::images::Replayed;
 use vectors::images::nothing_replayed;
 use vectors::images::replay_image;
@@ -37,7 +38,7 @@ const KIND_RUN: u16 = 6;
 // The tally with a record on the image to go by, as it stands.
 fn record_tally(
     fd: i32,
-    shapes: &[u16; 256],
+    shapes: &[u16; HIGH_BYTES],
     trial: &mut [u16],
     image: &mut [u16],
     head: Head,
@@ -61,7 +62,7 @@ fn record_tally(
 // The tally with a record on the image to go by: alone where it is wrong on purpose.
 fn marked_tally(
     fd: i32,
-    shapes: &[u16; 256],
+    shapes: &[u16; HIGH_BYTES],
     trial: &mut [u16],
     image: &mut [u16],
     head: Head,
@@ -80,7 +81,7 @@ fn marked_tally(
 // One more record replayed.
 fn replay_one(
     fd: i32,
-    shapes: &[u16; 256],
+    shapes: &[u16; HIGH_BYTES],
     trial: &mut [u16],
     image: &mut [u16],
     head: Head,
@@ -111,7 +112,7 @@ fn replay_one(
 }
 
 // The tally of a file's records up to its end or a bad one.
-fn replay_file(fd: i32, shapes: &[u16; 256], trial: &mut [u16], image: &mut [u16]) -> Tally
+fn replay_file(fd: i32, shapes: &[u16; HIGH_BYTES], trial: &mut [u16], image: &mut [u16]) -> Tally
     requires { ⌜ Shapes (now shapes) ⌝ }
     requires { ⌜ length (now trial) ≡ length (now image) ⌝ }
 {
@@ -130,7 +131,7 @@ fn replay_file(fd: i32, shapes: &[u16; 256], trial: &mut [u16], image: &mut [u16
 }
 
 // Replays the file of a path and prints its tally under a name, or why there is none.
-fn replay_path(path: &[u8], name: &[u8], numbers: &[u16], shapes: &[u16; 256])
+fn replay_path(path: &[u8], name: &[u8], numbers: &[u16], shapes: &[u16; HIGH_BYTES])
     requires { ⌜ Shapes (now shapes) ⌝ }
 {
     let fd = os::open_read(path);

@@ -3,22 +3,22 @@ ghost use mathlib.Core.Path.{_≡_};
 ghost use Prim.Native.Nat.{_+_, _-_, _*_, _%_, _<_, min, max};
 ghost use Rattle.paper.specs.Flags.{flags-of, cc-of as cc-field, error-of as error-field};
 ghost use Rattle.paper.specs.Orders.{mod-word as word-mod, on-bits, compared as condition};
+use paper::EQUAL;
+use paper::ERROR;
+use paper::ERROR_END;
+use paper::GREATER;
+use paper::LESS;
+use paper::PENDING;
+use paper::WORD_END;
 
 // Words are counted mod this.
-const WORD_END: u32 = 65536;
-
-// Where the error and pending stand in the flags.
-const ERROR: u16 = 4;
-
-const PENDING: u16 = 32;
-
-const ERROR_END: u16 = 8;
+const MODULUS: u32 = WORD_END as u32;
 
 // A number mod 65536.
 fn mod_word(v: u32) -> u16
     ensures { λ r. ⌜ r ≡ word-mod v ⌝ }
 {
-    (v % WORD_END) as u16
+    (v % MODULUS) as u16
 }
 
 // x + y mod 65536.
@@ -32,7 +32,7 @@ pub fn sum(x: u16, y: u16) -> u16
 pub fn difference(x: u16, y: u16) -> u16
     ensures { λ r. ⌜ r ≡ word-mod (x + 65536 - y) ⌝ }
 {
-    mod_word(x as u32 + WORD_END - y as u32)
+    mod_word(x as u32 + MODULUS - y as u32)
 }
 
 // x times y mod 65536.
@@ -68,9 +68,9 @@ pub fn compared(x: u16, y: u16) -> u16
     ensures { λ r. ⌜ r ≡ condition x y ⌝ }
 {
     if x == y {
-        return 0;
+        return EQUAL;
     }
-    if x < y { 1 } else { 2 }
+    if x < y { LESS } else { GREATER }
 }
 
 // The flags with another service pending.

@@ -5,7 +5,11 @@ ghost use lib.ListN.{getD};
 ghost use lib.Dec.{eqb};
 ghost use Rattle.paper.specs.Queues.{step as next-slot};
 ghost use Rattle.rings.specs.Ring.{Ring, append-at, first-at, take-at};
+use paper::CAPACITY;
+use paper::COUNT;
+use paper::LEAD_WORDS;
 use paper::Place;
+use paper::TAIL;
 
 // The slot after slot k of a queue of capacity c.
 pub fn step(k: u16, c: u16) -> u16
@@ -22,12 +26,12 @@ pub fn append_at(im: &mut [u16], q: Place, v: u16)
     ensures { λ _. ⌜ now (im .exit) ≡ append-at (now (im .entry)) (q .0) v ⌝ }
 {
     let at = q.0;
-    let tail = im[at + 1];
-    let count = im[at + 2];
-    let capacity = im[at + 3];
-    im[at + 4 + tail as usize] = v;
-    im[at + 1] = step(tail, capacity);
-    im[at + 2] = count + 1;
+    let tail = im[at + TAIL];
+    let count = im[at + COUNT];
+    let capacity = im[at + CAPACITY];
+    im[at + LEAD_WORDS + tail as usize] = v;
+    im[at + TAIL] = step(tail, capacity);
+    im[at + COUNT] = count + 1;
 }
 
 // Takes the first word of the queue at q, which holds one.
@@ -38,11 +42,11 @@ pub fn take_at(im: &mut [u16], q: Place) -> u16
 {
     let at = q.0;
     let head = im[at];
-    let count = im[at + 2];
-    let capacity = im[at + 3];
-    let v = im[at + 4 + head as usize];
+    let count = im[at + COUNT];
+    let capacity = im[at + CAPACITY];
+    let v = im[at + LEAD_WORDS + head as usize];
     im[at] = step(head, capacity);
-    im[at + 2] = count - 1;
+    im[at + COUNT] = count - 1;
     v
 }
 
@@ -53,7 +57,7 @@ pub fn first_at(im: &[u16], q: Place) -> u16
 {
     let at = q.0;
     let head = im[at] as usize;
-    im[at + 4 + head]
+    im[at + LEAD_WORDS + head]
 }
 
 // How many words the queue at q holds.
@@ -62,7 +66,7 @@ pub fn count_at(im: &[u16], q: Place) -> u16
     ensures { λ r. ⌜ r ≡ getD (now (im .entry)) (q .0 + 2) 0 ⌝ }
 {
     let at = q.0;
-    im[at + 2]
+    im[at + COUNT]
 }
 
 // Whether the queue at q is full.
@@ -71,5 +75,5 @@ pub fn full_at(im: &[u16], q: Place) -> bool
     ensures { λ r. ⌜ r ≡ eqb (getD (now (im .entry)) (q .0 + 2) 0) (getD (now (im .entry)) (q .0 + 3) 0) ⌝ }
 {
     let at = q.0;
-    im[at + 2] == im[at + 3]
+    im[at + COUNT] == im[at + CAPACITY]
 }

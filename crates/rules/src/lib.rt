@@ -10,22 +10,28 @@ ghost use Rattle.paper.specs.declared.Queue.the-variants.{Ready};
 ghost use Rattle.laws.specs.Sound.{Sized};
 ghost use Rattle.rules.specs.Leads.{leads};
 ghost use Rattle.rules.specs.Rows.{row-right, Rows, Passed, Covers, None-found, All-found};
+use paper::CAPACITY;
+use paper::COUNT;
 use paper::Cell;
+use paper::HEAD;
+use paper::INPUT_BUFFERS;
+use paper::LEAD_WORDS;
+use paper::MESSAGE_BUFFERS;
+use paper::MOST_CHARACTER;
+use paper::MOST_TASKS;
+use paper::OUTPUT_BUFFERS;
 use paper::Queue;
 use paper::Shape;
+use paper::TAIL;
 use paper::Task;
+use paper::WORD_END;
 use places::head_of;
 use places::wide;
 use places::word_of;
 use truths::both;
 
-const LEAD_WORDS: usize = 4;
-
-const MOST_TASKS: usize = 16;
-
-const CHARACTERS: usize = 256;
-
-const WORD_END: usize = 65536;
+// Characters are below this.
+const CHARACTERS: usize = MOST_CHARACTER as usize + 1;
 
 // The capacity that the header gives a queue.
 fn capacity_of(s: Shape, q: Queue) -> usize
@@ -101,7 +107,13 @@ fn row_queued(im: &[u16], at: usize, given: usize) -> bool
     requires { ⌜ at + lead ≤ length (now im) ⌝ }
     ensures { λ r. ⌜ r ≡ row-right (now (im .entry)) at given ⌝ }
 {
-    leads_right(given, im[at], im[at + 1], im[at + 2], im[at + 3])
+    leads_right(
+        given,
+        im[at],
+        im[at + TAIL],
+        im[at + COUNT],
+        im[at + CAPACITY],
+    )
 }
 
 // Whether the row at a place is a queue never used, of the capacity given.
@@ -110,7 +122,13 @@ fn row_unused(im: &[u16], at: usize, given: usize) -> bool
     requires { ⌜ at + lead ≤ length (now im) ⌝ }
     ensures { λ r. ⌜ (r ≡ true → row-right (now (im .entry)) at given ≡ true) ⌝ }
 {
-    leads_unused(given, im[at], im[at + 1], im[at + 2], im[at + 3])
+    leads_unused(
+        given,
+        im[at],
+        im[at + TAIL],
+        im[at + COUNT],
+        im[at + CAPACITY],
+    )
 }
 
 // The first row from a place on that is not a queue never used, or the end.
@@ -154,10 +172,10 @@ pub fn queued(s: Shape, im: &[u16], q: Queue) -> bool
     requires { ⌜ Has s q ⌝ }
     ensures { λ r. ⌜ r ≡ is-queued s (now (im .entry)) q ⌝ }
 {
-    let head = queue_word(s, im, q, 0);
-    let tail = queue_word(s, im, q, 1);
-    let count = queue_word(s, im, q, 2);
-    let capacity = queue_word(s, im, q, 3);
+    let head = queue_word(s, im, q, HEAD);
+    let tail = queue_word(s, im, q, TAIL);
+    let count = queue_word(s, im, q, COUNT);
+    let capacity = queue_word(s, im, q, CAPACITY);
     leads_right(capacity_of(s, q), head, tail, count, capacity)
 }
 
@@ -168,9 +186,9 @@ fn held_below(s: Shape, im: &[u16], q: Queue, m: usize) -> bool
     requires { ⌜ is-queued s (now im) q ≡ true ⌝ }
     ensures { λ r. ⌜ r ≡ all-below m (held s (now (im .entry)) q) ⌝ }
 {
-    let capacity = wide(queue_word(s, im, q, 3));
-    let mut at = wide(queue_word(s, im, q, 0));
-    let mut left = queue_word(s, im, q, 2);
+    let capacity = wide(queue_word(s, im, q, CAPACITY));
+    let mut at = wide(queue_word(s, im, q, HEAD));
+    let mut left = queue_word(s, im, q, COUNT);
     while 0 < left {
         if m <= wide(queue_word(s, im, q, LEAD_WORDS + at)) {
             return false;
@@ -189,8 +207,8 @@ pub fn count_ready(s: Shape, im: &[u16], found: &mut [u8; MOST_TASKS]) -> bool
     ensures { λ r. ⌜ r ≡ all-below (s .n) (held s (now (im .entry)) Ready) ⌝ }
     ensures { λ r. ⌜ (r ≡ true → All-found (now (found .exit)) (held s (now (im .entry)) Ready)) ⌝ }
 {
-    let mut at = wide(queue_word(s, im, Queue::Ready, 0));
-    let mut left = queue_word(s, im, Queue::Ready, 2);
+    let mut at = wide(queue_word(s, im, Queue::Ready, HEAD));
+    let mut left = queue_word(s, im, Queue::Ready, COUNT);
     while 0 < left {
         let task = wide(queue_word(s, im, Queue::Ready, LEAD_WORDS + at));
         if s.n <= task {
@@ -209,13 +227,13 @@ pub fn buffers_hold(s: Shape, im: &[u16]) -> bool
     ensures { λ r. ⌜ r ≡ every-task s (do-buffers-hold s (now (im .entry))) ⌝ }
 {
     let starts = s.starts;
-    if !rows_queued(im, starts[3], s.n, s.ci) {
+    if !rows_queued(im, starts[INPUT_BUFFERS], s.n, s.ci) {
         return false;
     }
-    if !rows_queued(im, starts[4], s.n, s.co) {
+    if !rows_queued(im, starts[OUTPUT_BUFFERS], s.n, s.co) {
         return false;
     }
-    rows_queued(im, starts[5], s.n * s.n, s.cm)
+    rows_queued(im, starts[MESSAGE_BUFFERS], s.n * s.n, s.cm)
 }
 
 // Whether the words held in the input and output buffer of task i are characters.
@@ -250,7 +268,7 @@ pub fn characters_hold(s: Shape, im: &[u16]) -> bool
     ensures { λ r. ⌜ r ≡ every-task s (are-characters s (now (im .entry))) ⌝ }
 {
     let starts = s.starts;
-    if wide(bits_of(im, starts[3], starts[5])) < CHARACTERS {
+    if wide(bits_of(im, starts[INPUT_BUFFERS], starts[MESSAGE_BUFFERS])) < CHARACTERS {
         return true;
     }
     let mut k: usize = 0;

@@ -12,16 +12,17 @@ use builds::build;
 use feeding::EVENT_BYTES;
 use feeding::feed_buffer;
 use feeding::is_followed;
-use files::WORD_BYTES;
 use files::is_odd;
 use files::read_plan;
 use libc::STDOUT_FILENO;
 use lines::MOST_LINE;
 use lines::put_line;
+use paper::MOST_WORDS;
 use paper::Refusal;
 use paper::Reply;
 use paper::Shape;
 use paper::Verdict;
+use paper::WORD_BYTES;
 use plans::shape_of_plan;
 use plans::total_of;
 use shapes::order_shapes;
@@ -30,9 +31,6 @@ use shapes::order_shapes;
 const PLAN_WORDS: usize = 32806;
 
 const PLAN_BYTES: usize = WORD_BYTES * PLAN_WORDS;
-
-// The most words of an image.
-const IMAGE_WORDS: usize = 32768;
 
 // The events that are read at a time.
 const EVENTS: usize = 4096;
@@ -97,7 +95,7 @@ fn run_plan(plan: &[u16], fd: i32)
 {
     let s = shape_of_plan(plan);
     let size = total_of(s);
-    let mut image = [0u16; IMAGE_WORDS];
+    let mut image = [0u16; MOST_WORDS];
     run_fresh(s, plan, &mut image[..size], fd);
 }
 

@@ -15,19 +15,35 @@ ghost use Rattle.paper.specs.declared.Service.the-variants.{Send, Receive, Inpu
 ghost use Rattle.laws.specs.Sound.{Sound};
 ghost use Rattle.words.specs.Names.{Rowed};
 ghost use Rattle.services.specs.Done.{done};
+use paper::ASK_INPUT;
 use paper::Answer;
+use paper::BUSY;
+use paper::FLAGS;
+use paper::IDLE;
+use paper::MOST_CHARACTER;
+use paper::NO_CHARACTER;
+use paper::NO_PEER;
+use paper::NO_SUCH_TASK;
+use paper::NOTHING_PENDING;
+use paper::OTHER;
 use paper::Queue;
+use paper::RECEIVE;
 use paper::Refusal;
 use paper::Reply;
+use paper::SEND;
 use paper::Shape;
 use paper::Task;
+use paper::WAITS_FOR_INPUT;
+use paper::WAITS_FOR_OUTPUT;
+use paper::WAITS_TO_RECEIVE;
+use paper::WAITS_TO_SEND;
+use paper::WORD;
 use results::with_fault;
 use results::with_pending;
 use truths::both;
 use waking::leave;
 use waking::wake;
 use waking::with_status;
-use words::FLAGS;
 use words::Row;
 use words::Spot;
 use words::append;
@@ -38,46 +54,6 @@ use words::own;
 use words::put;
 use words::put_own;
 use words::take;
-
-// The registers of services: R2 names the other task, R3 holds the word.
-const OTHER: usize = 2;
-
-const WORD: usize = 3;
-
-// The numbers of the services.
-const SEND: u16 = 1;
-
-const RECEIVE: u16 = 2;
-
-const ASK_INPUT: u16 = 3;
-
-// The errors of services.
-const NO_SUCH_TASK: u16 = 5;
-
-const NO_CHARACTER: u16 = 6;
-
-// A character is at most this.
-const MOST_CHARACTER: u16 = 255;
-
-// The statuses of tasks that wait.
-const WAITS_TO_SEND: u16 = 1;
-
-const WAITS_TO_RECEIVE: u16 = 2;
-
-const WAITS_FOR_INPUT: u16 = 3;
-
-const WAITS_FOR_OUTPUT: u16 = 4;
-
-// The peer field of a task that waits for no other.
-const NO_PEER: u16 = 0;
-
-// A port is idle or busy.
-const IDLE: u16 = 0;
-
-const BUSY: u16 = 1;
-
-// Nothing is pending.
-const SERVED: u16 = 0;
 
 // Whether a task waits with a status for another.
 fn waits_for(s: Shape, im: &[u16], j: Task, status: u16, t: Task) -> bool
@@ -125,7 +101,7 @@ fn cleared(s: Shape, im: &[u16], x: Row) -> u16
     requires { ⌜ Rowed s x ⌝ }
     ensures { λ r. ⌜ r ≡ flags-of (cc s (now (im .entry)) (x .task)) (error s (now (im .entry)) (x .task)) 0 ⌝ }
 {
-    with_pending(own(s, im, x, FLAGS), SERVED)
+    with_pending(own(s, im, x, FLAGS), NOTHING_PENDING)
 }
 
 // The word in R3 goes to a buffer that has room, and nothing is pending.

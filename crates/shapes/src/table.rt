@@ -1,21 +1,24 @@
 // The constant table of order shapes.
+use paper::FIELD;
+use paper::HIGH_BYTES;
+use paper::REGISTERS;
 
 // An entry of the table: 4096 x the kind of its order, sixteen in all, and the bits that are 0 in the low byte of such an order.
-const KIND: u16 = 4096;
+pub const KIND: u16 = 4096;
 
 // The bits of a field a that is unused, a register, a condition or a service.
-const NO_A: u16 = 16 * 15;
+const NO_A: u16 = FIELD * NO_B;
 
-const REGISTER_A: u16 = 16 * 8;
+const REGISTER_A: u16 = FIELD * REGISTER_B;
 
-const CONDITION_A: u16 = 16 * 12;
+const CONDITION_A: u16 = FIELD * 12;
 
 const SERVICE_A: u16 = 0;
 
 // And of a field b.
-const NO_B: u16 = 15;
+const NO_B: u16 = FIELD - 1;
 
-const REGISTER_B: u16 = 8;
+const REGISTER_B: u16 = REGISTERS;
 
 // The orders: quotient and remainder share a kind, jump and jump if do, and a service and an unknown op.
 const UNKNOWN: u16 = 0;
@@ -57,7 +60,7 @@ const RETURN: u16 = 12 * KIND + NO_A + NO_B;
 const SERVICE: u16 = SERVICE_A + NO_B;
 
 // One entry for each high byte: ops 1 to 18 by their names, ops 0 and 19 to 255 unknown.
-pub const ORDER_SHAPES: [u16; 256] = [
+pub const ORDER_SHAPES: [u16; HIGH_BYTES] = [
     UNKNOWN,
     LOAD, // 1
     COPY, // 2

@@ -9,40 +9,49 @@ ghost use Rattle.paper.specs.declared.Queue.the-variants.{Ready};
 ghost use Rattle.paper.specs.declared.Service.the-variants.{Send, Receive, Input, Output};
 ghost use Rattle.laws.specs.Sound.{Sized};
 ghost use Rattle.rules.specs.Rows.{All-found};
+use paper::ASK_INPUT;
+use paper::ASK_OUTPUT;
+use paper::BUSY;
+use paper::CAPACITY;
+use paper::CHARACTER;
+use paper::COUNT;
 use paper::Cell;
+use paper::ERROR;
+use paper::ERROR_END;
+use paper::FLAGS;
+use paper::IDLE;
+use paper::MOST_CC;
+use paper::MOST_CHARACTER;
+use paper::MOST_ERROR;
+use paper::MOST_SERVICE;
+use paper::MOST_TASKS;
+use paper::NO_ERROR;
+use paper::NO_PEER;
+use paper::NOTHING_PENDING;
+use paper::OTHER;
+use paper::PEER;
+use paper::PENDING;
+use paper::PORT;
 use paper::Part;
 use paper::Queue;
+use paper::READY;
+use paper::RECEIVE;
+use paper::SEND;
+use paper::STATUS;
+use paper::STOPPED;
 use paper::Shape;
 use paper::Task;
+use paper::WAITS_FOR_INPUT;
+use paper::WAITS_FOR_OUTPUT;
+use paper::WAITS_TO_RECEIVE;
+use paper::WAITS_TO_SEND;
+use paper::WORD;
 use places::wide;
 use places::word_of;
 use rules::queue_word;
 use truths::both;
 use truths::either;
 use truths::implies;
-
-// The numbers of the services, which are those of the statuses that wait for them.
-const SEND: u16 = 1;
-
-const RECEIVE: u16 = 2;
-
-const INPUT: u16 = 3;
-
-const OUTPUT: u16 = 4;
-
-const READY: u16 = 0;
-
-const STOPPED: u16 = 5;
-
-const MOST_TASKS: usize = 16;
-
-const MOST_CHARACTER: u16 = 255;
-
-const MOST_CC: u16 = 2;
-
-const MOST_ERROR: u16 = 6;
-
-const MOST_PENDING: u16 = 4;
 
 // A register of task i.
 fn register(s: Shape, im: &[u16], i: Task, r: usize) -> u16
@@ -73,7 +82,7 @@ fn flags(s: Shape, im: &[u16], i: Task) -> u16
         Cell {
             part: Part::TaskTable,
             row: i.0 as usize,
-            column: 8,
+            column: FLAGS,
         },
     )
 }
@@ -84,7 +93,7 @@ fn error(s: Shape, im: &[u16], i: Task) -> u16
     requires { ⌜ i .0 < s .n ⌝ }
     ensures { λ v. ⌜ v ≡ error-of-task s (now (im .entry)) i ⌝ }
 {
-    flags(s, im, i) / 4 % 8
+    flags(s, im, i) / ERROR % ERROR_END
 }
 
 // The pending service of task i.
@@ -93,7 +102,7 @@ fn pending(s: Shape, im: &[u16], i: Task) -> u16
     requires { ⌜ i .0 < s .n ⌝ }
     ensures { λ v. ⌜ v ≡ pending-of-task s (now (im .entry)) i ⌝ }
 {
-    flags(s, im, i) / 32
+    flags(s, im, i) / PENDING
 }
 
 // The status of task i.
@@ -108,7 +117,7 @@ fn status(s: Shape, im: &[u16], i: Task) -> u16
         Cell {
             part: Part::StatusTable,
             row: i.0 as usize,
-            column: 0,
+            column: STATUS,
         },
     )
 }
@@ -125,7 +134,7 @@ fn peer(s: Shape, im: &[u16], i: Task) -> u16
         Cell {
             part: Part::StatusTable,
             row: i.0 as usize,
-            column: 1,
+            column: PEER,
         },
     )
 }
@@ -136,7 +145,7 @@ fn is_full(s: Shape, im: &[u16], q: Queue) -> bool
     requires { ⌜ Has s q ⌝ }
     ensures { λ r. ⌜ r ≡ full-of s (now (im .entry)) q ⌝ }
 {
-    queue_word(s, im, q, 2) == queue_word(s, im, q, 3)
+    queue_word(s, im, q, COUNT) == queue_word(s, im, q, CAPACITY)
 }
 
 // Whether a queue is empty.
@@ -145,7 +154,7 @@ pub fn is_empty(s: Shape, im: &[u16], q: Queue) -> bool
     requires { ⌜ Has s q ⌝ }
     ensures { λ r. ⌜ r ≡ empty-of s (now (im .entry)) q ⌝ }
 {
-    queue_word(s, im, q, 2) == 0
+    queue_word(s, im, q, COUNT) == 0
 }
 
 // Whether the ready queue holds task i once if it is ready, and else not; found tells how often it holds each task.
@@ -175,7 +184,7 @@ pub fn port_holds(s: Shape, im: &[u16], i: Task) -> bool
         Cell {
             part: Part::Ports,
             row: i.0 as usize,
-            column: 0,
+            column: PORT,
         },
     );
     let character = word_of(
@@ -184,13 +193,13 @@ pub fn port_holds(s: Shape, im: &[u16], i: Task) -> bool
         Cell {
             part: Part::Ports,
             row: i.0 as usize,
-            column: 1,
+            column: CHARACTER,
         },
     );
     let idle = both(character == 0, is_empty(s, im, Queue::Output(i)));
     both(
-        both(busy <= 1, character <= MOST_CHARACTER),
-        implies(busy == 0, idle),
+        both(busy <= BUSY, character <= MOST_CHARACTER),
+        implies(busy == IDLE, idle),
     )
 }
 
@@ -201,13 +210,16 @@ pub fn flags_hold(s: Shape, im: &[u16], i: Task) -> bool
     ensures { λ r. ⌜ r ≡ do-flags-hold s (now (im .entry)) i ⌝ }
 {
     let f = flags(s, im, i);
-    let error = f / 4 % 8;
-    let pending = f / 32;
+    let error = f / ERROR % ERROR_END;
+    let pending = f / PENDING;
     let ranges = both(
-        both(f % 4 <= MOST_CC, error <= MOST_ERROR),
-        pending <= MOST_PENDING,
+        both(f % ERROR <= MOST_CC, error <= MOST_ERROR),
+        pending <= MOST_SERVICE,
     );
-    both(ranges, either(error == 0, pending == 0))
+    both(
+        ranges,
+        either(error == NO_ERROR, pending == NOTHING_PENDING),
+    )
 }
 
 // Whether R2 = peer < N.
@@ -217,7 +229,7 @@ fn peered(s: Shape, im: &[u16], i: Task) -> bool
     ensures { λ r. ⌜ r ≡ is-peered s (now (im .entry)) i ⌝ }
 {
     let p = peer(s, im, i);
-    both(register(s, im, i, 2) == p, wide(p) < s.n)
+    both(register(s, im, i, OTHER) == p, wide(p) < s.n)
 }
 
 // Whether task i stands as one that waits to send.
@@ -252,7 +264,10 @@ fn may_input(s: Shape, im: &[u16], i: Task) -> bool
     requires { ⌜ i .0 < s .n ⌝ }
     ensures { λ r. ⌜ r ≡ is-standing s (now (im .entry)) i Input ⌝ }
 {
-    both(pending(s, im, i) == INPUT, is_empty(s, im, Queue::Input(i)))
+    both(
+        pending(s, im, i) == ASK_INPUT,
+        is_empty(s, im, Queue::Input(i)),
+    )
 }
 
 // Whether task i stands as one that waits for output.
@@ -262,8 +277,8 @@ fn may_output(s: Shape, im: &[u16], i: Task) -> bool
     ensures { λ r. ⌜ r ≡ is-standing s (now (im .entry)) i Output ⌝ }
 {
     let asked = both(
-        pending(s, im, i) == OUTPUT,
-        register(s, im, i, 3) <= MOST_CHARACTER,
+        pending(s, im, i) == ASK_OUTPUT,
+        register(s, im, i, WORD) <= MOST_CHARACTER,
     );
     both(asked, is_full(s, im, Queue::Output(i)))
 }
@@ -276,22 +291,22 @@ pub fn status_holds(s: Shape, im: &[u16], i: Task) -> bool
 {
     let k = status(s, im, i);
     if k == READY {
-        return peer(s, im, i) == 0;
+        return peer(s, im, i) == NO_PEER;
     }
-    if k == SEND {
+    if k == WAITS_TO_SEND {
         return may_send(s, im, i);
     }
-    if k == RECEIVE {
+    if k == WAITS_TO_RECEIVE {
         return may_receive(s, im, i);
     }
-    if peer(s, im, i) != 0 {
+    if peer(s, im, i) != NO_PEER {
         return false;
     }
-    if k == INPUT {
+    if k == WAITS_FOR_INPUT {
         return may_input(s, im, i);
     }
-    if k == OUTPUT {
+    if k == WAITS_FOR_OUTPUT {
         return may_output(s, im, i);
     }
-    both(k == STOPPED, error(s, im, i) != 0)
+    both(k == STOPPED, error(s, im, i) != NO_ERROR)
 }

@@ -18,12 +18,17 @@ use events::turn;
 use machine::Segment;
 use machine::orders;
 use paper::Answer;
+use paper::BASE;
+use paper::ERROR;
+use paper::FLAGS;
+use paper::HIGH_BYTES;
+use paper::LENGTH;
+use paper::NO_ERROR;
 use paper::Queue;
 use paper::Reply;
 use paper::Shape;
 use paper::Task;
 use results::error_of;
-use words::FLAGS;
 use words::Row;
 use words::Spot;
 use words::empty;
@@ -33,14 +38,6 @@ use words::get;
 use words::own;
 use words::put;
 use words::row_of;
-
-// Flags from this on have an error or a service pending.
-const ERROR: u16 = 4;
-
-// The words of an entry of the segment table.
-const BASE: usize = 0;
-
-const LENGTH: usize = 1;
 
 // A task's row, and where its segment lies from there.
 pub struct Seat {
@@ -98,7 +95,7 @@ fn least(a: usize, b: u16) -> u16
 fn run_orders(
     s: Shape,
     im: &mut [u16],
-    shapes: &[u16; 256],
+    shapes: &[u16; HIGH_BYTES],
     x: Seat,
     clock: u16,
     most: usize,
@@ -124,7 +121,7 @@ fn run_orders(
 fn by_flags(f: u16, t: Task) -> Reply
     ensures { λ r. ⌜ r ≡ by-flags f t ⌝ }
 {
-    if error_of(f) == 0 {
+    if error_of(f) == NO_ERROR {
         return Reply::Accepted(Answer::OrderDone(t));
     }
     Reply::Accepted(Answer::OrderFaulted(t))
@@ -173,7 +170,7 @@ fn rule(s: Shape, im: &mut [u16], x: Seat, flags: u16, clock: u16) -> Gone
 }
 
 // One tick by the rules of the first task, or orders of it in a row.
-fn go_on(s: Shape, im: &mut [u16], shapes: &[u16; 256], x: Seat, most: usize) -> Gone
+fn go_on(s: Shape, im: &mut [u16], shapes: &[u16; HIGH_BYTES], x: Seat, most: usize) -> Gone
     requires { ⌜ Lawful s (now im) ⌝ }
     requires { ⌜ Shapes (now shapes) ⌝ }
     requires { ⌜ First s (now im) x ⌝ }
@@ -225,7 +222,7 @@ fn idled(most: usize) -> Passed
 }
 
 // At most so many ticks, up to one that is refused.
-pub fn ticks(s: Shape, im: &mut [u16], shapes: &[u16; 256], most: usize) -> Passed
+pub fn ticks(s: Shape, im: &mut [u16], shapes: &[u16; HIGH_BYTES], most: usize) -> Passed
     requires { ⌜ Lawful s (now im) ⌝ }
     requires { ⌜ Shapes (now shapes) ⌝ }
     requires { ⌜ 0 < most ⌝ }

@@ -7,10 +7,10 @@ ghost use Rattle.vectors.specs.Words.{with-changes};
 ghost use Rattle.vectors.specs.declared.tally.Answer.the-variants.{Same};
 use crate::images::are_same;
 use crate::records::Found;
-use crate::records::WORD_END;
 use crate::records::read_words;
 use crate::tally::Answer;
 use crate::tally::compared;
+use paper::WORD_END;
 
 // The most changes that a record of orders may list.
 pub const MOST_CHANGES: usize = 16;

@@ -10,9 +10,6 @@ use crate::tally::Tally;
 use crate::tally::empty;
 use crate::tally::spoiled;
 
-// The most words of an image.
-pub const MOST_WORDS: usize = 32768;
-
 // The kind of a record that gives the image to go by.
 pub const KIND_IMAGE: u16 = 3;
 

@@ -2,17 +2,15 @@
 ghost use mathlib.Core.Path.{_≡_};
 ghost use Prim.Native.Nat.{_+_, _*_, _<_, _≤_, min};
 ghost use lib.ListN.{length};
-use files::WORD_BYTES;
 use files::put_words;
+use paper::WORD_BYTES;
+use paper::WORD_END;
 
 // The most words that are read at a time.
 pub const CHUNK_WORDS: usize = 4096;
 
 // The most bytes that are read at a time.
 const CHUNK_BYTES: usize = WORD_BYTES * CHUNK_WORDS;
-
-// A word is less than this.
-pub const WORD_END: usize = 65536;
 
 // The words of a record's head.
 const HEAD_WORDS: usize = 4;

@@ -7,12 +7,12 @@ ghost use Rattle.vectors.specs.Words.{salted-word, Salted};
 use crate::images::are_same;
 use crate::records::CHUNK_WORDS;
 use crate::records::Found;
-use crate::records::WORD_END;
 use crate::records::least;
 use crate::records::read_words;
 use crate::tally::Answer;
 use crate::tally::compared;
 use crate::tally::worse;
+use paper::WORD_END;
 
 // How much each word of a salted target adds to the one before.
 const SALT_STEP: usize = 31;

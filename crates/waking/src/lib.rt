@@ -7,7 +7,9 @@ ghost use Rattle.paper.specs.Waking.{dispatched, with-status as statused, readi
 ghost use Rattle.paper.specs.declared.Queue.the-variants.{Ready};
 ghost use Rattle.laws.specs.Sound.{Sound};
 ghost use Rattle.waking.specs.Room.{Room, has-room};
+use paper::NO_PEER;
 use paper::Queue;
+use paper::READY;
 use paper::Shape;
 use paper::Task;
 use paper::Woken;
@@ -17,12 +19,6 @@ use words::empty;
 use words::full;
 use words::put;
 use words::take;
-
-// The status of a ready task.
-const READY: u16 = 0;
-
-// The peer field of a task that waits for no other.
-const NO_PEER: u16 = 0;
 
 // Dispatch: the clock becomes S, or 0 if the ready queue is empty.
 pub fn dispatch(s: Shape, im: &mut [u16])

@@ -8,10 +8,15 @@ ghost use Rattle.paper.specs.Rules.{Fit};
 ghost use Rattle.paper.specs.Queues.{Has, head, appended, first as first-of, taken, count as count-cell, empty as empty-of, full as full-of};
 ghost use Rattle.laws.specs.Sound.{Sound};
 ghost use Rattle.words.specs.Names.{spot-cell, Names, Rowed};
+use paper::CHARACTER;
+use paper::CLOCK_AT;
 use paper::Cell;
+use paper::PEER;
+use paper::PORT;
 use paper::Part;
 use paper::Place;
 use paper::Queue;
+use paper::STATUS;
 use paper::Shape;
 use paper::Task;
 use places::head_of;
@@ -39,9 +44,6 @@ pub struct Row {
     pub place: Place,
 }
 
-// The column of the flags in a row of the task table; before it are the registers.
-pub const FLAGS: usize = 8;
-
 // The cell that a spot names.
 fn cell_of(x: Spot) -> Cell
     ensures { λ r. ⌜ r ≡ spot-cell x ⌝ }
@@ -50,27 +52,27 @@ fn cell_of(x: Spot) -> Cell
         Spot::Clock => Cell {
             part: Part::Header,
             row: 0,
-            column: 17,
+            column: CLOCK_AT,
         },
         Spot::Status(t) => Cell {
             part: Part::StatusTable,
             row: t.0 as usize,
-            column: 0,
+            column: STATUS,
         },
         Spot::Peer(t) => Cell {
             part: Part::StatusTable,
             row: t.0 as usize,
-            column: 1,
+            column: PEER,
         },
         Spot::Busy(t) => Cell {
             part: Part::Ports,
             row: t.0 as usize,
-            column: 0,
+            column: PORT,
         },
         Spot::Character(t) => Cell {
             part: Part::Ports,
             row: t.0 as usize,
-            column: 1,
+            column: CHARACTER,
         },
     }
 }
