@@ -1,2 +1,3 @@
 pub mod Worked
 pub mod Impostors
+pub mod Careful

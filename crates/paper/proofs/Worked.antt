@@ -32,7 +32,7 @@ line-of (Reply.Refused r) = number r ∷ []
 abbrev shown : Outcome → Shown
 shown o = record { line = line-of (o .reply); image = o .image }
 
-abbrev shows : List ℕ → List ℕ → Shown
+abbrev pub shows : List ℕ → List ℕ → Shown
 shows l im = record { line = l; image = im }
 
 -- the event after the first k of a list, on the image that those leave of a plan's fresh one
@@ -42,15 +42,15 @@ nth-word events k j = getD events (3 * k + j) 0
 abbrev after : List ℕ → List ℕ → ℕ → List ℕ
 after plan events k = run (fresh plan) (take (3 * k) events) .image
 
-abbrev event-after : List ℕ → List ℕ → ℕ → Shown
+abbrev pub event-after : List ℕ → List ℕ → ℕ → Shown
 event-after plan events k =
     shown (event (after plan events k) (nth-word events k 0) (nth-word events k 1) (nth-word events k 2))
 
-abbrev ticks : ℕ → List ℕ
+abbrev pub ticks : ℕ → List ℕ
 ticks n = replicate (3 * n) 0
 
 -- what a plan's last of n ticks shows of a plan of one task: the line, and that task's R0..R7 and flags
-abbrev last-tick : List ℕ → ℕ → Shown
+abbrev pub last-tick : List ℕ → ℕ → Shown
 last-tick plan n =
     let o = event-after plan (ticks n) (n - 1) in
     shows (o .line) (take 9 (drop 18 (o .image)))
