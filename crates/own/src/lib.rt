@@ -1,1 +1,1 @@
-// Laws about the definitions of the paper: they stand in specs/, and there is no code.
+// Laws of a task's own machine, of where it lies and how it is put back: they stand in specs/, and there is no code.
