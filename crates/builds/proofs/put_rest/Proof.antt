@@ -21,9 +21,4 @@ pub put-rest-spec : {M : Type 1} → statement M
 put-rest-spec =
     tie.close
     (tie.spec
-    (λ c. search needs)
-    add-table
-    put-table-requires
-    put-segments-requires
-    (λ c. search needs)
-    returns)
+    (λ c. search needs) add-table put-table-requires put-segments-requires (λ c. search needs) returns)

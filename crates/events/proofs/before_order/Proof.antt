@@ -20,12 +20,5 @@ pub before-order-spec : {M : Type 1} → statement M
 before-order-spec =
     tie.close
     (tie.spec
-    (λ c κs. search needs)
-    (λ c. search needs)
-    returns
-    (λ c κs. search needs)
-    (λ c. search needs)
-    returns-2
-    service-requires
-    (λ c. search needs)
-    returns-3)
+    (λ c κs. search needs) (λ c. search needs) returns (λ c κs. search needs) (λ c. search needs) returns-2
+    service-requires (λ c. search needs) returns-3)

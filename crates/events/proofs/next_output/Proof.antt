@@ -17,11 +17,5 @@ pub next-output-spec : {M : Type 1} → statement M
 next-output-spec =
     tie.close
     (tie.spec
-    (λ c κs. search needs)
-    (λ c κs. search needs)
-    (λ c κs. search needs)
-    (λ c. search needs)
-    returns
-    print-requires
-    (λ c. search needs)
-    returns-2)
+    (λ c κs. search needs) (λ c κs. search needs) (λ c κs. search needs) (λ c. search needs) returns print-requires
+    (λ c. search needs) returns-2)

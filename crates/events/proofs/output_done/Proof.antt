@@ -34,14 +34,5 @@ pub output-done-spec : {M : Type 1} → statement M
 output-done-spec =
     tie.close
     (tie.spec
-    (λ c κs. search needs)
-    (λ c. search needs)
-    returns
-    (λ c κs. search needs)
-    (λ c κs. search needs)
-    (λ c. search needs)
-    returns-2
-    (λ c κs. search needs)
-    with-woken-requires
-    (λ c. search needs)
-    returns-3)
+    (λ c κs. search needs) (λ c. search needs) returns (λ c κs. search needs) (λ c κs. search needs) (λ c. search needs)
+    returns-2 (λ c κs. search needs) with-woken-requires (λ c. search needs) returns-3)

@@ -37,12 +37,5 @@ pub report-spec : {M : Type 1} → statement M
 report-spec =
     tie.close
     (tie.spec
-    (λ c. search needs)
-    input-requires
-    (λ c. search needs)
-    output-done-requires
-    (λ c. search needs)
-    returns
-    (λ c. search needs)
-    returns-2
-    returns-3)
+    (λ c. search needs) input-requires (λ c. search needs) output-done-requires (λ c. search needs) returns
+    (λ c. search needs) returns-2 returns-3)

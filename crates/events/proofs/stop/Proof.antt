@@ -14,7 +14,4 @@ pub stop-spec : {M : Type 1} → statement M
 stop-spec =
     tie.close
     (tie.spec
-    (λ c κs. search needs)
-    leave-requires
-    (λ c. search needs)
-    returns)
+    (λ c κs. search needs) leave-requires (λ c. search needs) returns)

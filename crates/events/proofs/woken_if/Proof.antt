@@ -14,6 +14,4 @@ pub woken-if-spec : {M : Type 1} → statement M
 woken-if-spec =
     tie.close
     (tie.spec
-    (λ c κs. search needs)
-    returns
-    returns-2)
+    (λ c κs. search needs) returns returns-2)

@@ -14,7 +14,4 @@ pub feed-short-spec : {M : Type 1} → statement M
 feed-short-spec =
     tie.close
     (tie.spec
-    add-put-line
-    (λ c κs. search needs)
-    (λ c. search needs)
-    returns)
+    add-put-line (λ c κs. search needs) (λ c. search needs) returns)

@@ -10,7 +10,4 @@ pub is-followed-spec : {M : Type 1} → statement M
 is-followed-spec =
     tie.close
     (tie.spec
-    (λ c. search needs)
-    (λ c. search needs)
-    returns
-    (λ c. search needs))
+    (λ c. search needs) (λ c. search needs) returns (λ c. search needs))

@@ -18,7 +18,4 @@ pub file-verdict-spec : {M : Type 1} → statement M
 file-verdict-spec =
     tie.close
     (tie.spec
-    (λ c κs. search needs)
-    returns
-    (λ c κs. search needs)
-    returns-2)
+    (λ c κs. search needs) returns (λ c κs. search needs) returns-2)

@@ -17,7 +17,9 @@ loop-holds : tie.Need-loop-holds Inv-loop μ-loop
 loop-holds c = no-words _ _
 
 slice-write-words : tie.Need-slice-write-words Inv-loop μ-loop
-slice-write-words c = word-room _ _ _ _ _ (c .before .before .before .before .loop .inv) (c .before .before .before .before .before .before .before .pre) (omega arith)
+slice-write-words c =
+    let c5 = c .before .before .before .before .before in
+    word-room _ _ _ _ _ (c .before .before .before .before .loop .inv) (c5 .before .before .pre) (omega arith)
 
 loop-again : tie.Need-loop-again Inv-loop μ-loop
 loop-again c = word-more _ _ _ _ _ (c .before .before .before .before .loop .inv) _ (omega arith) (c .word .ensures)
@@ -32,19 +34,6 @@ pub put-words-spec : {M : Type 1} → statement M
 put-words-spec =
     tie.close
     (tie.spec
-    Inv-loop
-    μ-loop
-    loop-holds
-    (λ c. search needs)
-    (λ c. search needs)
-    (λ c. search needs)
-    (λ c. search needs)
-    (λ c κs. search needs)
-    (λ c. search needs)
-    slice-write-words
-    (λ c. search needs)
-    (λ c. search needs)
-    (λ c. search needs)
-    loop-again
-    same-length
-    returns)
+    Inv-loop μ-loop loop-holds (λ c. search needs) (λ c. search needs) (λ c. search needs) (λ c. search needs)
+    (λ c κs. search needs) (λ c. search needs) slice-write-words (λ c. search needs) (λ c. search needs)
+    (λ c. search needs) loop-again same-length returns)

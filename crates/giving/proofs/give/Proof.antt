@@ -8,13 +8,15 @@ use Rattle.giving.proofs.give.Tie as tie
 
 insert-requires : tie.Need-insert-requires
 insert-requires c κs =
-    let entry = c .before .before .before .before .before .before .before .before in
+    let c5 = c .before .before .before .before .before in
+    let entry = c5 .before .before .before in
     let room : entry .args .filled < most = omega arith in
     (entry .pre .0, (entry .pre .1 .0, (room, entry .pre .1 .1 room)))
 
 returns : tie.Need-returns
 returns c =
-    entry-gives _ _ _ _ _ _ _ (c .before .before .before .before .before .before .if1 .taken) (c .insert .ensures)
+    let c5 = c .before .before .before .before .before in
+    entry-gives _ _ _ _ _ _ _ (c5 .before .if1 .taken) (c .insert .ensures)
 
 returns-2 : tie.Need-returns-2
 returns-2 c =

@@ -34,22 +34,6 @@ pub looked-ahead-spec : {M : Type 1} → statement M
 looked-ahead-spec =
     tie.close
     (tie.spec
-    Inv-loop
-    μ-loop
-    (λ c. omega arith)
-    returns
-    (λ c. omega arith)
-    (λ c. omega arith)
-    (λ c κs. omega arith)
-    returns-2
-    (λ c. omega arith)
-    loop-holds
-    (λ c. omega arith)
-    (λ c. omega arith)
-    (λ c. omega arith)
-    (λ c κs. omega arith)
-    returns-3
-    (λ c. omega arith)
-    (λ c. omega arith)
-    loop-again
-    returns-4)
+    Inv-loop μ-loop (λ c. omega arith) returns (λ c. omega arith) (λ c. omega arith) (λ c κs. omega arith) returns-2
+    (λ c. omega arith) loop-holds (λ c. omega arith) (λ c. omega arith) (λ c. omega arith) (λ c κs. omega arith)
+    returns-3 (λ c. omega arith) (λ c. omega arith) loop-again returns-4)

@@ -18,8 +18,9 @@ abbrev μ-loop : tie.MeasureT-loop
 
 -- after the ticks ahead, if there are any
 reached : (c : tie.Joined1 Inv-loop μ-loop)
-    → let a = c .before .before .before .before .before .before .args in Reached (a .s) (a .im .now) (a .events .now) (c .before .ticks-ahead .result) (c .if1 .taken) (c .if1 .last) (c .if1 .im)
-reached c = ⊎-elim (λ w. search ticks-reach) (λ w. search none-reach) (c .if1 .came)
+    → let b = c .before .before .before .before .before in let a = b .before .args in Reached (a .s) (a .im .now) (a .events .now) (c .before .ticks-ahead .result) (c .if1 .taken) (c .if1 .last) (c .if1 .im)
+reached c =
+    ⊎-elim (λ w. search ticks-reach) (λ w. search none-reach) (c .if1 .came)
 
 loop-holds : tie.Need-loop-holds Inv-loop μ-loop
 loop-holds c = search (taken-none, needs)
@@ -58,7 +59,9 @@ same-length-2 : tie.Need-same-length-2 Inv-loop μ-loop
 same-length-2 c = search lawful-long
 
 returns-2 : tie.Need-returns-2 Inv-loop μ-loop
-returns-2 c = (search (taken-refused, event-there, reached (c .before .before .before .before .before .before .before)), search needs)
+returns-2 c =
+    let c5 = c .before .before .before .before .before in
+    (search (taken-refused, event-there, reached (c5 .before .before)), search needs)
 
 enum-told-4 : tie.Need-enum-told-4 Inv-loop μ-loop
 enum-told-4 c = search needs
@@ -67,7 +70,9 @@ add-taken-2 : tie.Need-add-taken-2 Inv-loop μ-loop
 add-taken-2 c = omega arith
 
 loop-less : tie.Need-loop-less Inv-loop μ-loop
-loop-less c = omega (arith, reached (c .before .before .before .before .before .before .before .before) .there)
+loop-less c =
+    let c5 = c .before .before .before .before .before in
+    omega (arith, reached (c5 .before .before .before) .there)
 
 loop-again : tie.Need-loop-again Inv-loop μ-loop
 loop-again c = let b = c .before .before .before .before .before in
@@ -90,26 +95,6 @@ pub take-events-spec : {M : Type 1} → statement M
 take-events-spec =
     tie.close
     (tie.spec
-    Inv-loop
-    μ-loop
-    loop-holds
-    ticks-ahead-requires
-    sub-ticks
-    ticks-requires
-    add-taken
-    enum-told
-    same-length
-    returns
-    enum-told-2
-    report-at-requires
-    enum-told-3
-    same-length-2
-    returns-2
-    enum-told-4
-    add-taken-2
-    loop-less
-    loop-again
-    loop-less-2
-    loop-again-2
-    same-length-3
-    returns-3)
+    Inv-loop μ-loop loop-holds ticks-ahead-requires sub-ticks ticks-requires add-taken enum-told same-length returns
+    enum-told-2 report-at-requires enum-told-3 same-length-2 returns-2 enum-told-4 add-taken-2 loop-less loop-again
+    loop-less-2 loop-again-2 same-length-3 returns-3)

@@ -35,14 +35,5 @@ pub zeros-spec : {M : Type 1} → statement M
 zeros-spec =
     tie.close
     (tie.spec
-    Inv-loop
-    μ-loop
-    loop-holds
-    add-both
-    mul-both
-    shared-slice-read-both
-    (λ c κs. search needs)
-    (λ c. search needs)
-    (λ c. search needs)
-    loop-again
-    returns)
+    Inv-loop μ-loop loop-holds add-both mul-both shared-slice-read-both (λ c κs. search needs) (λ c. search needs)
+    (λ c. search needs) loop-again returns)

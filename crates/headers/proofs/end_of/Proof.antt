@@ -20,6 +20,4 @@ pub end-of-spec : {M : Type 1} → statement M
 end-of-spec =
     tie.close
     (tie.spec
-    mul-result
-    add-result
-    returns)
+    mul-result add-result returns)

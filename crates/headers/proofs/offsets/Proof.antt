@@ -6,11 +6,14 @@ use Rattle.headers.proofs.offsets.Statement.{statement}
 use Rattle.headers.proofs.offsets.Tie as tie
 
 mul-end-of : tie.Need-mul-end-of
-mul-end-of c = omega (arith, square-small _ (c .before .before .before .before .before .before .before .pre .tasks .1))
+mul-end-of c =
+    let c5 = c .before .before .before .before .before in
+    omega (arith, square-small _ (c5 .before .before .pre .tasks .1))
 
 end-of-requires-6 : tie.Need-end-of-requires-6
 end-of-requires-6 c κs =
-    let b = c .before .before .before .before .before .before .before .before in
+    let c5 = c .before .before .before .before .before in
+    let b = c5 .before .before .before in
     (omega arith, square-small _ (b .pre .tasks .1), omega arith)
 
 returns : tie.Need-returns
@@ -20,17 +23,6 @@ pub offsets-spec : {M : Type 1} → statement M
 offsets-spec =
     tie.close
     (tie.spec
-    (λ c κs. search needs)
-    (λ c. search needs)
-    (λ c κs. search needs)
-    (λ c κs. search needs)
-    (λ c. search needs)
-    (λ c κs. search needs)
-    (λ c. search needs)
-    (λ c κs. search needs)
-    mul-end-of
-    (λ c. search needs)
-    end-of-requires-6
-    (λ c κs. search needs)
-    (λ c κs. search needs)
-    returns)
+    (λ c κs. search needs) (λ c. search needs) (λ c κs. search needs) (λ c κs. search needs) (λ c. search needs)
+    (λ c κs. search needs) (λ c. search needs) (λ c κs. search needs) mul-end-of (λ c. search needs) end-of-requires-6
+    (λ c κs. search needs) (λ c κs. search needs) returns)

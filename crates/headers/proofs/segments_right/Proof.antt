@@ -32,13 +32,19 @@ loop-holds : tie.Need-loop-holds Inv-loop μ-loop
 loop-holds c = record { passed = every-none _; upto = omega arith; next = first-start _ _ (c .before .before .pre); small = first-small _ _ (c .before .before .pre) }
 
 returns : tie.Need-returns Inv-loop μ-loop
-returns c = segment-fails _ _ (c .before .before .before .before .before .before .before .pre) _ _ (c .before .before .if1 .taken) (c .before .segment-right .ensures) (c .if2 .taken)
+returns c =
+    let c5 = c .before .before .before .before .before in
+    segment-fails _ _ (c5 .before .before .pre) _ _ (c .before .before .if1 .taken) (c .before .segment-right .ensures) (c .if2 .taken)
 
 add-end : tie.Need-add-end Inv-loop μ-loop
-add-end c = omega (arith, sized-few _ _ (c .before .before .before .before .before .before .before .before .before .pre))
+add-end c =
+    let c5 = c .before .before .before .before .before in
+    omega (arith, sized-few _ _ (c5 .before .before .before .before .pre))
 
 loop-again : tie.Need-loop-again Inv-loop μ-loop
-loop-again c = record { passed = every-more _ _ (c .before .before .before .before .before .before .loop .inv .passed) (sym (c .before .before .before .segment-right .ensures) ∙ not-false _ (c .before .before .if2 .left)); upto = omega arith; next = next-start _ _ (c .before .before .before .before .before .before .before .before .before .pre) _ _ _ _ (c .before .before .before .before .before .before .loop .inv .next) (c .before .word-of .ensures) (c .wide .ensures); small = omega arith }
+loop-again c =
+    let c5 = c .before .before .before .before .before in
+    record { passed = every-more _ _ (c5 .before .loop .inv .passed) (sym (c .before .before .before .segment-right .ensures) ∙ not-false _ (c .before .before .if2 .left)); upto = omega arith; next = next-start _ _ (c5 .before .before .before .before .pre) _ _ _ _ (c5 .before .loop .inv .next) (c .before .word-of .ensures) (c .wide .ensures); small = omega arith }
 
 returns-2 : tie.Need-returns-2 Inv-loop μ-loop
 returns-2 c = segments-end _ _ (c .before .before .before .before .before .pre) _ _ (c .before .before .loop .inv .passed) (c .if1 .left) (c .before .before .loop .inv .upto) (c .before .before .loop .inv .next)
@@ -47,16 +53,5 @@ pub segments-right-spec : {M : Type 1} → statement M
 segments-right-spec =
     tie.close
     (tie.spec
-    Inv-loop
-    μ-loop
-    (λ c. search needs)
-    loop-holds
-    (λ c κs. search needs)
-    returns
-    (λ c κs. search needs)
-    (λ c κs. search needs)
-    add-end
-    (λ c. search needs)
-    (λ c. search needs)
-    loop-again
-    returns-2)
+    Inv-loop μ-loop (λ c. search needs) loop-holds (λ c κs. search needs) returns (λ c κs. search needs)
+    (λ c κs. search needs) add-end (λ c. search needs) (λ c. search needs) loop-again returns-2)

@@ -11,7 +11,4 @@ pub word-or-zero-spec : {M : Type 1} → statement M
 word-or-zero-spec =
     tie.close
     (tie.spec
-    (λ c. search needs)
-    (λ c. search needs)
-    (λ c. search needs)
-    returns-2)
+    (λ c. search needs) (λ c. search needs) (λ c. search needs) returns-2)

@@ -16,36 +16,36 @@ returns-3 : tie.Need-returns-3
 returns-3 c = search buffers-fail
 
 characters-hold-requires : tie.Need-characters-hold-requires
-characters-hold-requires c κs = (c .before .before .before .before .before .before .before .pre, passed-so _ _ (c .before .buffers-hold .ensures) (c .if3 .left))
+characters-hold-requires c κs =
+    let c5 = c .before .before .before .before .before in
+    (c5 .before .before .pre, passed-so _ _ (c .before .buffers-hold .ensures) (c .if3 .left))
 
 returns-4 : tie.Need-returns-4
 returns-4 c = search characters-fail
 
 count-ready-requires : tie.Need-count-ready-requires
-count-ready-requires c κs = (c .before .before .before .before .before .before .before .before .before .before .pre, (passed-so _ _ (c .before .before .before .before .before .before .before .before .queued .ensures) (c .before .before .before .before .before .before .before .if1 .left), none-found))
+count-ready-requires c κs =
+    let c5 = c .before .before .before .before .before in
+    (c5 .before .before .before .before .before .pre, (passed-so _ _ (c5 .before .before .before .queued .ensures) (c5 .before .before .if1 .left), none-found))
 
 returns-5 : tie.Need-returns-5
 returns-5 c = search others-fail
 
 tasks-hold-requires : tie.Need-tasks-hold-requires
-tasks-hold-requires c κs = (c .before .before .before .before .before .before .before .before .before .before .before .before .before .pre, (passed-so _ _ (c .before .before .before .before .before .before .before .buffers-hold .ensures) (c .before .before .before .before .before .before .if3 .left), (passed-so _ _ (c .before .before .before .before .before .characters-hold .ensures) (c .before .before .before .before .if4 .left), c .before .before .count-ready .ensures .1 (not-false _ (c .before .if5 .left)))))
+tasks-hold-requires c κs =
+    let c5 = c .before .before .before .before .before in
+    let c10 = c5 .before .before .before .before .before in
+    (c10 .before .before .before .pre, (passed-so _ _ (c5 .before .before .buffers-hold .ensures) (c5 .before .if3 .left), (passed-so _ _ (c .before .before .before .before .before .characters-hold .ensures) (c .before .before .before .before .if4 .left), c .before .before .count-ready .ensures .1 (not-false _ (c .before .if5 .left)))))
 
 returns-6 : tie.Need-returns-6
-returns-6 c = rules-tested _ _ _ _ _ _ (c .before .before .before .before .before .before .before .before .before .before .before .before .queued .ensures) (c .before .before .before .before .before .before .before .before .before .before .before .if1 .left) (c .before .before .before .before .before .before .before .before .before .before .clock-holds .ensures) (c .before .before .before .before .before .before .before .before .before .if2 .left) (c .before .before .before .count-ready .ensures .0) (c .before .before .if5 .left) (c .tasks-hold .ensures)
+returns-6 c =
+    let c5 = c .before .before .before .before .before in
+    let c10 = c5 .before .before .before .before .before in
+    rules-tested _ _ _ _ _ _ (c10 .before .before .queued .ensures) (c10 .before .if1 .left) (c5 .before .before .before .before .before .clock-holds .ensures) (c5 .before .before .before .before .if2 .left) (c .before .before .before .count-ready .ensures .0) (c .before .before .if5 .left) (c .tasks-hold .ensures)
 
 pub rules-hold-spec : {M : Type 1} → statement M
 rules-hold-spec =
     tie.close
     (tie.spec
-    (λ c κs. search needs)
-    returns
-    (λ c κs. search needs)
-    returns-2
-    (λ c κs. search needs)
-    returns-3
-    characters-hold-requires
-    returns-4
-    count-ready-requires
-    returns-5
-    tasks-hold-requires
-    returns-6)
+    (λ c κs. search needs) returns (λ c κs. search needs) returns-2 (λ c κs. search needs) returns-3
+    characters-hold-requires returns-4 count-ready-requires returns-5 tasks-hold-requires returns-6)

@@ -41,13 +41,5 @@ pub tasks-hold-spec : {M : Type 1} → statement M
 tasks-hold-spec =
     tie.close
     (tie.spec
-    Inv-loop
-    μ-loop
-    loop-holds
-    cast-t6
-    task-holds-requires
-    returns
-    (λ c. search needs)
-    (λ c. search needs)
-    loop-again
+    Inv-loop μ-loop loop-holds cast-t6 task-holds-requires returns (λ c. search needs) (λ c. search needs) loop-again
     returns-2)

@@ -45,15 +45,5 @@ pub judge-script-spec : {M : Type 1} → statement M
 judge-script-spec =
     tie.close
     (tie.spec
-    Inv-loop
-    μ-loop
-    loop-holds
-    (λ c κs. search needs)
-    add-end
-    judge-line-requires
-    add-at
-    loop-less
-    loop-again
-    with-room-requires
-    (λ c κs. search needs)
-    returns)
+    Inv-loop μ-loop loop-holds (λ c κs. search needs) add-end judge-line-requires add-at loop-less loop-again
+    with-room-requires (λ c κs. search needs) returns)

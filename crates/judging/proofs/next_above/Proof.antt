@@ -14,6 +14,4 @@ pub next-above-spec : {M : Type 1} → statement M
 next-above-spec =
     tie.close
     (tie.spec
-    (λ c. search needs)
-    returns
-    returns-2)
+    (λ c. search needs) returns returns-2)

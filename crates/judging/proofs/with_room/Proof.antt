@@ -14,7 +14,4 @@ pub with-room-spec : {M : Type 1} → statement M
 with-room-spec =
     tie.close
     (tie.spec
-    returns
-    (λ c. search needs)
-    (λ c κs. search needs)
-    returns-2)
+    returns (λ c. search needs) (λ c κs. search needs) returns-2)

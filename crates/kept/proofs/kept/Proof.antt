@@ -34,12 +34,5 @@ pub kept-spec : {M : Type 1} → statement M
 kept-spec =
     tie.close
     (tie.spec
-    returns
-    (λ c κs. search needs)
-    shared-slice-read-digit
-    sub-t7
-    cast-t8
-    returns-2
-    (λ c κs. search needs)
-    (λ c κs. search needs)
-    returns-3)
+    returns (λ c κs. search needs) shared-slice-read-digit sub-t7 cast-t8 returns-2 (λ c κs. search needs)
+    (λ c κs. search needs) returns-3)

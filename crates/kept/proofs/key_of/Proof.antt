@@ -36,14 +36,5 @@ pub key-of-spec : {M : Type 1} → statement M
 key-of-spec =
     tie.close
     (tie.spec
-    Inv-loop
-    μ-loop
-    loop-holds
-    (λ c. omega arith)
-    mul-sum
-    (λ c. omega arith)
-    (λ c κs. search needs)
-    add-sum
-    (λ c. omega arith)
-    loop-again
-    returns)
+    Inv-loop μ-loop loop-holds (λ c. omega arith) mul-sum (λ c. omega arith) (λ c κs. search needs) add-sum
+    (λ c. omega arith) loop-again returns)

@@ -8,9 +8,7 @@ pub names-register-spec : {M : Type 1} → statement M
 names-register-spec =
     tie.close
     (tie.spec
-    (λ c. another-length _ (c .if1 .taken))
-    (λ c. search needs)
-    (λ c. another-letter _ (c .before .before .if1 .left) (c .if2 .taken))
-    (λ c. search needs)
+    (λ c. another-length _ (c .if1 .taken)) (λ c. search needs)
+    (λ c. another-letter _ (c .before .before .if1 .left) (c .if2 .taken)) (λ c. search needs)
     (λ c. digit-decides _ (c .before .before .before .before .if1 .left) (c .before .before .if2 .left) (c .if3 .taken))
     (λ c. lower-digit _ (c .before .before .before .before .if1 .left) (c .before .before .if2 .left) (c .if3 .left)))

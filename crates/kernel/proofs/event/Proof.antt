@@ -18,12 +18,5 @@ pub event-spec : {M : Type 1} → statement M
 event-spec =
     tie.close
     (tie.spec
-    (λ c κs. search needs)
-    (λ c. search needs)
-    (λ c κs. search needs)
-    step-requires
-    (λ c. search needs)
-    (λ c. search needs)
-    returns
-    (λ c. search needs)
-    returns-2)
+    (λ c κs. search needs) (λ c. search needs) (λ c κs. search needs) step-requires (λ c. search needs)
+    (λ c. search needs) returns (λ c. search needs) returns-2)

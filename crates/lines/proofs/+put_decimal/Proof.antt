@@ -110,7 +110,9 @@ put-decimal-returns-2 : (t : ℕ) → put-decimal-lts.Need-returns-2 (
   put-decimal-below t,
   put-decimal.Post,
 ) (put-decimal-at t) put-decimal.Post
-put-decimal-returns-2 t c = (omega (arith, more-long _ (c .before .before .before .before .before .before .before .before .if1 .left)), more-made _ _ _ _ _ _ (c .before .before .before .before .before .before .before .before .if1 .left) (c .before .before .before .before .before .before .put-decimal .ensures .1) (c .before .before .before .before .before .before .put-decimal .ensures .0) (c .before .before .put-byte2 .ensures .1))
+put-decimal-returns-2 t c =
+    let c5 = c .before .before .before .before .before in
+    (omega (arith, more-long _ (c5 .before .before .before .if1 .left)), more-made _ _ _ _ _ _ (c5 .before .before .before .if1 .left) (c5 .before .put-decimal .ensures .1) (c5 .before .put-decimal .ensures .0) (c .before .before .put-byte2 .ensures .1))
 
 pub +put-decimal-spec : {M : Type 1} → statement M
 +put-decimal-spec = close μ-put-decimal λ t. put-decimal-lts.spec (

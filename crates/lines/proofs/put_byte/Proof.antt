@@ -12,7 +12,4 @@ pub put-byte-spec : {M : Type 1} → statement M
 put-byte-spec =
     tie.close
     (tie.spec
-    (λ c. search needs)
-    (λ c. search needs)
-    (λ c. search needs)
-    returns)
+    (λ c. search needs) (λ c. search needs) (λ c. search needs) returns)

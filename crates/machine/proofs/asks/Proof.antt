@@ -42,18 +42,5 @@ pub asks-spec : {M : Type 1} → statement M
 asks-spec =
     tie.close
     (tie.spec
-    fault-requires
-    (λ c. search needs)
-    returns
-    (λ c κs. search needs)
-    fault-requires-2
-    (λ c. search needs)
-    returns-2
-    onward-requires
-    stand-requires
-    slice-read-p
-    (λ c. search needs)
-    add-p
-    slice-write-p
-    (λ c. search needs)
-    returns-3)
+    fault-requires (λ c. search needs) returns (λ c κs. search needs) fault-requires-2 (λ c. search needs) returns-2
+    onward-requires stand-requires slice-read-p (λ c. search needs) add-p slice-write-p (λ c. search needs) returns-3)

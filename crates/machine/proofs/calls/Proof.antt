@@ -32,15 +32,5 @@ pub calls-spec : {M : Type 1} → statement M
 calls-spec =
     tie.close
     (tie.spec
-    onward-requires
-    (λ c κs. search needs)
-    (λ c. search needs)
-    (λ c. search needs)
-    fault-requires
-    (λ c. search needs)
-    returns
-    mul-n
-    slice-read-n
-    calls-to-requires
-    (λ c. search needs)
-    returns-2)
+    onward-requires (λ c κs. search needs) (λ c. search needs) (λ c. search needs) fault-requires (λ c. search needs)
+    returns mul-n slice-read-n calls-to-requires (λ c. search needs) returns-2)

@@ -43,20 +43,6 @@ pub calls-to-spec : {M : Type 1} → statement M
 calls-to-spec =
     tie.close
     (tie.spec
-    slice-read-sum
-    (λ c κs. search needs)
-    aimed-requires
-    (λ c κs. search needs)
-    (λ c. search needs)
-    (λ c. search needs)
-    fault-requires
-    (λ c. search needs)
-    returns
-    onward-requires
-    address-requires
-    mul-p
-    slice-write-p
-    slice-write-p-2
-    aimed-requires-2
-    (λ c. search needs)
-    returns-2)
+    slice-read-sum (λ c κs. search needs) aimed-requires (λ c κs. search needs) (λ c. search needs) (λ c. search needs)
+    fault-requires (λ c. search needs) returns onward-requires address-requires mul-p slice-write-p slice-write-p-2
+    aimed-requires-2 (λ c. search needs) returns-2)

@@ -33,16 +33,5 @@ pub divides-spec : {M : Type 1} → statement M
 divides-spec =
     tie.close
     (tie.spec
-    fault-requires
-    (λ c. search needs)
-    returns
-    onward-requires
-    (λ c. search needs)
-    set-requires
-    (λ c. search needs)
-    returns-2
-    onward-requires-2
-    (λ c. search needs)
-    set-requires-2
-    (λ c. search needs)
-    returns-3)
+    fault-requires (λ c. search needs) returns onward-requires (λ c. search needs) set-requires (λ c. search needs)
+    returns-2 onward-requires-2 (λ c. search needs) set-requires-2 (λ c. search needs) returns-3)

@@ -25,10 +25,4 @@ pub fault-spec : {M : Type 1} → statement M
 fault-spec =
     tie.close
     (tie.spec
-    stand-requires
-    slice-read-p
-    (λ c. search needs)
-    add-p
-    slice-write-p
-    (λ c. search needs)
-    returns)
+    stand-requires slice-read-p (λ c. search needs) add-p slice-write-p (λ c. search needs) returns)

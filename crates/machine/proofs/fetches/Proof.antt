@@ -33,16 +33,5 @@ pub fetches-spec : {M : Type 1} → statement M
 fetches-spec =
     tie.close
     (tie.spec
-    aimed-requires
-    (λ c κs. search needs)
-    (λ c. search needs)
-    (λ c. search needs)
-    fault-requires
-    (λ c. search needs)
-    returns
-    mul-v
-    slice-read-v
-    onward-requires
-    set-requires
-    (λ c. search needs)
-    returns-2)
+    aimed-requires (λ c κs. search needs) (λ c. search needs) (λ c. search needs) fault-requires (λ c. search needs)
+    returns mul-v slice-read-v onward-requires set-requires (λ c. search needs) returns-2)

@@ -53,21 +53,6 @@ pub jumps-spec : {M : Type 1} → statement M
 jumps-spec =
     tie.close
     (tie.spec
-    fault-requires
-    (λ c. search needs)
-    returns
-    onward-requires
-    (λ c κs. search needs)
-    (λ c. search needs)
-    (λ c. search needs)
-    fault-requires-2
-    (λ c. search needs)
-    returns-2
-    slice-read-either
-    (λ c κs. search needs)
-    mul-t21
-    slice-read-t23
-    aimed-requires
-    returns-3
-    onward-requires-2
-    returns-4)
+    fault-requires (λ c. search needs) returns onward-requires (λ c κs. search needs) (λ c. search needs)
+    (λ c. search needs) fault-requires-2 (λ c. search needs) returns-2 slice-read-either (λ c κs. search needs) mul-t21
+    slice-read-t23 aimed-requires returns-3 onward-requires-2 returns-4)

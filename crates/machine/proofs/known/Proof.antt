@@ -18,11 +18,5 @@ pub known-spec : {M : Type 1} → statement M
 known-spec =
     tie.close
     (tie.spec
-    (λ c κs. search needs)
-    (λ c κs. search needs)
-    fault-requires
-    (λ c. search needs)
-    returns
-    by-kind-requires
-    (λ c. search needs)
-    (λ c. search needs))
+    (λ c κs. search needs) (λ c κs. search needs) fault-requires (λ c. search needs) returns by-kind-requires
+    (λ c. search needs) (λ c. search needs))

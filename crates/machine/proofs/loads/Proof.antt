@@ -35,17 +35,5 @@ pub loads-spec : {M : Type 1} → statement M
 loads-spec =
     tie.close
     (tie.spec
-    onward-requires
-    (λ c κs. search needs)
-    (λ c. search needs)
-    (λ c. search needs)
-    fault-requires
-    (λ c. search needs)
-    returns
-    mul-n
-    slice-read-n
-    onward-requires-2
-    (λ c κs. search needs)
-    set-requires
-    (λ c. search needs)
-    returns-2)
+    onward-requires (λ c κs. search needs) (λ c. search needs) (λ c. search needs) fault-requires (λ c. search needs)
+    returns mul-n slice-read-n onward-requires-2 (λ c κs. search needs) set-requires (λ c. search needs) returns-2)

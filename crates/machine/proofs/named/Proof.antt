@@ -51,23 +51,7 @@ pub named-spec : {M : Type 1} → statement M
 named-spec =
     tie.close
     (tie.spec
-    (λ c κs. search needs)
-    onward-requires
-    stand-requires
-    (λ c κs. search needs)
-    (λ c. search needs)
-    slice-read-x
-    (λ c κs. search needs)
-    (λ c. search needs)
-    slice-read-y
-    works-requires
-    (λ c. search needs)
-    stand-requires-2
-    (λ c. search needs)
-    (λ c. search needs)
-    (λ c. search needs)
-    returns
-    (λ c. search needs)
-    returns-2
-    (λ c. search needs)
-    returns-3)
+    (λ c κs. search needs) onward-requires stand-requires (λ c κs. search needs) (λ c. search needs) slice-read-x
+    (λ c κs. search needs) (λ c. search needs) slice-read-y works-requires (λ c. search needs) stand-requires-2
+    (λ c. search needs) (λ c. search needs) (λ c. search needs) returns (λ c. search needs) returns-2
+    (λ c. search needs) returns-3)

@@ -26,14 +26,5 @@ pub order-spec : {M : Type 1} → statement M
 order-spec =
     tie.close
     (tie.spec
-    (λ c κs. search needs)
-    (λ c. search needs)
-    (λ c. search needs)
-    fault-requires
-    (λ c. search needs)
-    returns
-    mul-w
-    slice-read-w
-    known-requires
-    (λ c. search needs)
-    (λ c. search needs))
+    (λ c κs. search needs) (λ c. search needs) (λ c. search needs) fault-requires (λ c. search needs) returns mul-w
+    slice-read-w known-requires (λ c. search needs) (λ c. search needs))

@@ -91,25 +91,6 @@ pub orders-spec : {M : Type 1} → statement M
 orders-spec =
     tie.close
     (tie.spec
-    Inv-loop
-    μ-loop
-    slice-read-t11
-    aimed-requires
-    loop-holds
-    order-requires
-    (λ c. search needs)
-    (λ c. search needs)
-    (λ c. search needs)
-    loop-again
-    (λ c. search needs)
-    sub-result
-    same-length
-    returns
-    (λ c. search needs)
-    named-requires
-    sub-result-2
-    same-length-2
-    returns-2
-    stand-requires
-    same-length-3
-    returns-3)
+    Inv-loop μ-loop slice-read-t11 aimed-requires loop-holds order-requires (λ c. search needs) (λ c. search needs)
+    (λ c. search needs) loop-again (λ c. search needs) sub-result same-length returns (λ c. search needs) named-requires
+    sub-result-2 same-length-2 returns-2 stand-requires same-length-3 returns-3)

@@ -13,5 +13,4 @@ pub reached-spec : {M : Type 1} → statement M
 reached-spec =
     tie.close
     (tie.spec
-    returns
-    returns-2)
+    returns returns-2)

@@ -43,18 +43,6 @@ pub returns-spec : {M : Type 1} → statement M
 returns-spec =
     tie.close
     (tie.spec
-    slice-read-top
-    aimed-requires
-    (λ c κs. search needs)
-    (λ c. search needs)
-    (λ c. search needs)
-    fault-requires
-    (λ c. search needs)
-    returns
-    mul-n
-    slice-read-n
-    (λ c κs. search needs)
-    slice-write-p
-    aimed-requires-2
-    (λ c. search needs)
-    returns-2)
+    slice-read-top aimed-requires (λ c κs. search needs) (λ c. search needs) (λ c. search needs) fault-requires
+    (λ c. search needs) returns mul-n slice-read-n (λ c κs. search needs) slice-write-p aimed-requires-2
+    (λ c. search needs) returns-2)

@@ -11,7 +11,4 @@ pub stand-spec : {M : Type 1} → statement M
 stand-spec =
     tie.close
     (tie.spec
-    (λ c κs. search needs)
-    (λ c. search needs)
-    (λ c. search needs)
-    returns)
+    (λ c κs. search needs) (λ c. search needs) (λ c. search needs) returns)

@@ -30,15 +30,5 @@ pub stores-spec : {M : Type 1} → statement M
 stores-spec =
     tie.close
     (tie.spec
-    aimed-requires
-    (λ c κs. search needs)
-    (λ c. search needs)
-    (λ c. search needs)
-    fault-requires
-    (λ c. search needs)
-    returns
-    mul-p
-    slice-write-p
-    onward-requires
-    (λ c. search needs)
-    returns-2)
+    aimed-requires (λ c κs. search needs) (λ c. search needs) (λ c. search needs) fault-requires (λ c. search needs)
+    returns mul-p slice-write-p onward-requires (λ c. search needs) returns-2)

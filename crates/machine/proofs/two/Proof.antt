@@ -27,14 +27,5 @@ pub two-spec : {M : Type 1} → statement M
 two-spec =
     tie.close
     (tie.spec
-    (λ c κs. search needs)
-    (λ c κs. search needs)
-    returns
-    returns-2
-    (λ c. search needs)
-    slice-read-x
-    (λ c. search needs)
-    slice-read-y
-    works-requires
-    (λ c. search needs)
-    returns-3)
+    (λ c κs. search needs) (λ c κs. search needs) returns returns-2 (λ c. search needs) slice-read-x (λ c. search needs)
+    slice-read-y works-requires (λ c. search needs) returns-3)

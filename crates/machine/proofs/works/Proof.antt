@@ -49,49 +49,14 @@ pub works-spec : {M : Type 1} → statement M
 works-spec =
     tie.close
     (tie.spec
-    (λ c κs. (search is-near, search needs))
-    (λ c κs. search register-in)
-    fetches-requires
-    stores-requires
-    (λ c κs. (search is-near, search needs))
-    (λ c κs. search needs)
-    (λ c κs. search register-in)
-    (λ c κs. (search is-near, search needs))
-    (λ c κs. search needs)
-    (λ c κs. search register-in)
-    (λ c κs. (search is-near, search needs))
-    (λ c κs. search needs)
-    (λ c κs. search register-in)
-    divides-requires
-    (λ c κs. (search is-near, search needs))
-    (λ c κs. search needs)
-    (λ c κs. search register-in)
-    (λ c κs. (search is-near, search needs))
-    (λ c κs. search needs)
-    (λ c κs. search register-in)
-    (λ c κs. (search is-near, search needs))
-    (λ c κs. search needs)
-    (λ c κs. search register-in)
-    compares-requires
-    (λ c. search needs)
-    returns
-    (λ c. search needs)
-    (λ c. search needs)
-    (λ c. search needs)
-    returns-3
-    (λ c. search needs)
-    returns-4
-    (λ c. search needs)
-    returns-5
-    (λ c. search needs)
-    returns-6
-    (λ c. search needs)
-    (λ c. search needs)
-    (λ c. search needs)
-    returns-8
-    (λ c. search needs)
-    returns-9
-    (λ c. search needs)
-    returns-10
-    (λ c. search needs)
-    returns-11)
+    (λ c κs. (search is-near, search needs)) (λ c κs. search register-in) fetches-requires stores-requires
+    (λ c κs. (search is-near, search needs)) (λ c κs. search needs) (λ c κs. search register-in)
+    (λ c κs. (search is-near, search needs)) (λ c κs. search needs) (λ c κs. search register-in)
+    (λ c κs. (search is-near, search needs)) (λ c κs. search needs) (λ c κs. search register-in) divides-requires
+    (λ c κs. (search is-near, search needs)) (λ c κs. search needs) (λ c κs. search register-in)
+    (λ c κs. (search is-near, search needs)) (λ c κs. search needs) (λ c κs. search register-in)
+    (λ c κs. (search is-near, search needs)) (λ c κs. search needs) (λ c κs. search register-in) compares-requires
+    (λ c. search needs) returns (λ c. search needs) (λ c. search needs) (λ c. search needs) returns-3
+    (λ c. search needs) returns-4 (λ c. search needs) returns-5 (λ c. search needs) returns-6 (λ c. search needs)
+    (λ c. search needs) (λ c. search needs) returns-8 (λ c. search needs) returns-9 (λ c. search needs) returns-10
+    (λ c. search needs) returns-11)

@@ -20,12 +20,5 @@ pub sum-reason-spec : {M : Type 1} → statement M
 sum-reason-spec =
     tie.close
     (tie.spec
-    Inv-loop
-    μ-loop
-    (λ c. tt)
-    (λ c κs. search needs)
-    (λ c. search needs)
-    returns
-    (λ c. search needs)
-    loop-less
+    Inv-loop μ-loop (λ c. tt) (λ c κs. search needs) (λ c. search needs) returns (λ c. search needs) loop-less
     (λ c. tt))

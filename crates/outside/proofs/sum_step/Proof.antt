@@ -14,8 +14,4 @@ pub sum-step-spec : {M : Type 1} → statement M
 sum-step-spec =
     tie.close
     (tie.spec
-    (λ c κs. search needs)
-    (λ c κs. search needs)
-    returns
-    (λ c κs. search needs)
-    returns-2)
+    (λ c κs. search needs) (λ c κs. search needs) returns (λ c κs. search needs) returns-2)

@@ -29,20 +29,6 @@ pub term-step-spec : {M : Type 1} → statement M
 term-step-spec =
     tie.close
     (tie.spec
-    (λ c. search needs)
-    (λ c. search needs)
-    (λ c. search needs)
-    sub-kept
-    part-kept-start
-    part-kept-end
-    (λ c κs. search needs)
-    (λ c. search needs)
-    returns
-    (λ c. search needs)
-    (λ c κs. search needs)
-    (λ c. search needs)
-    (λ c. search needs)
-    returns-3
-    returns-4
-    returns-5
-    (λ c. search needs))
+    (λ c. search needs) (λ c. search needs) (λ c. search needs) sub-kept part-kept-start part-kept-end
+    (λ c κs. search needs) (λ c. search needs) returns (λ c. search needs) (λ c κs. search needs) (λ c. search needs)
+    (λ c. search needs) returns-3 returns-4 returns-5 (λ c. search needs))

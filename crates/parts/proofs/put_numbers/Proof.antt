@@ -38,13 +38,5 @@ pub put-numbers-spec : {M : Type 1} → statement M
 put-numbers-spec =
     tie.close
     (tie.spec
-    Inv-loop
-    μ-loop
-    loop-holds
-    (λ c. search needs)
-    put-word-requires
-    (λ c. search needs)
-    (λ c. search needs)
-    loop-again
-    same-length
-    returns)
+    Inv-loop μ-loop loop-holds (λ c. search needs) put-word-requires (λ c. search needs) (λ c. search needs) loop-again
+    same-length returns)

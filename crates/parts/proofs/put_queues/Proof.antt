@@ -38,12 +38,5 @@ pub put-queues-spec : {M : Type 1} → statement M
 put-queues-spec =
     tie.close
     (tie.spec
-    Inv-loop
-    μ-loop
-    loop-holds
-    put-queue-requires
-    (λ c. search needs)
-    (λ c. search needs)
-    loop-again
-    same-length
+    Inv-loop μ-loop loop-holds put-queue-requires (λ c. search needs) (λ c. search needs) loop-again same-length
     returns)

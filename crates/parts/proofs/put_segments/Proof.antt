@@ -22,11 +22,5 @@ pub put-segments-spec : {M : Type 1} → statement M
 put-segments-spec =
     tie.close
     (tie.spec
-    mul-if1
-    (λ c κs. search needs)
-    put-programs-requires
-    (λ c. search needs)
-    returns
-    put-programs-requires-2
-    (λ c. search needs)
-    (λ c. search needs))
+    mul-if1 (λ c κs. search needs) put-programs-requires (λ c. search needs) returns put-programs-requires-2
+    (λ c. search needs) (λ c. search needs))

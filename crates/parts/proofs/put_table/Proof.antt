@@ -22,19 +22,31 @@ loop-holds : tie.Need-loop-holds Inv-loop μ-loop
 loop-holds c = (no-wide-rows _ _ _ _, omega arith, first-base _ _ (c .before .before .before .pre .0))
 
 length-of-requires : tie.Need-length-of-requires Inv-loop μ-loop
-length-of-requires c κs = omega (arith, plan-few _ _ (c .before .before .before .before .before .before .pre .0))
+length-of-requires c κs =
+    let c5 = c .before .before .before .before .before in
+    omega (arith, plan-few _ _ (c5 .before .pre .0))
 
 cast-put-entry : tie.Need-cast-put-entry Inv-loop μ-loop
-cast-put-entry c = omega (arith, base-small _ _ (c .before .before .before .before .before .before .before .before .pre .0) _ _ (c .before .before .before .before .loop .inv .1) (c .before .before .before .before .loop .inv .2))
+cast-put-entry c =
+    let c5 = c .before .before .before .before .before in
+    omega (arith, base-small _ _ (c5 .before .before .before .pre .0) _ _ (c .before .before .before .before .loop .inv .1) (c .before .before .before .before .loop .inv .2))
 
 put-entry-requires : tie.Need-put-entry-requires Inv-loop μ-loop
-put-entry-requires c κs = wide-row-room _ _ _ _ _ _ _ (c .before .before .before .before .loop .inv .0) refl _ (c .before .before .if1 .taken) (c .before .before .before .before .before .before .before .before .pre .1)
+put-entry-requires c κs =
+    let c5 = c .before .before .before .before .before in
+    wide-row-room _ _ _ _ _ _ _ (c .before .before .before .before .loop .inv .0) refl _ (c .before .before .if1 .taken) (c5 .before .before .before .pre .1)
 
 add-base : tie.Need-add-base Inv-loop μ-loop
-add-base c = omega (arith, base-small _ _ (c .before .before .before .before .before .before .before .before .before .before .before .before .pre .0) _ _ (c .before .before .before .before .before .before .before .before .loop .inv .1) (c .before .before .before .before .before .before .before .before .loop .inv .2))
+add-base c =
+    let c5 = c .before .before .before .before .before in
+    let c10 = c5 .before .before .before .before .before in
+    omega (arith, base-small _ _ (c10 .before .before .pre .0) _ _ (c5 .before .before .before .loop .inv .1) (c5 .before .before .before .loop .inv .2))
 
 loop-again : tie.Need-loop-again Inv-loop μ-loop
-loop-again c = (wide-row-more _ _ _ _ _ _ _ (c .before .before .before .before .before .before .before .before .loop .inv .0) refl _ _ (entry-made (c .before .before .before .before .before .before .before .before .before .before .before .before .args .s) (c .before .before .before .before .before .before .before .before .before .before .before .before .args .plan .now) (c .before .before .before .before .before .before .before .before .loop .k) _ _ _ _ _ (c .before .before .before .before .before .length-of .ensures) (c .before .before .before .before .before .before .before .before .loop .inv .2) (c .before .before .before .put-entry .ensures .1)) (c .before .before .before .put-entry .ensures .0), omega arith, next-base (c .before .before .before .before .before .before .before .before .before .before .before .before .args .s) (c .before .before .before .before .before .before .before .before .before .before .before .before .args .plan .now) (c .before .before .before .before .before .before .before .before .loop .k) _ _ _ (c .before .before .before .before .before .before .before .before .loop .inv .2) (c .before .before .before .before .before .length-of .ensures) (c .wide .ensures))
+loop-again c =
+    let c5 = c .before .before .before .before .before in
+    let c10 = c5 .before .before .before .before .before in
+    (wide-row-more _ _ _ _ _ _ _ (c5 .before .before .before .loop .inv .0) refl _ _ (entry-made (c10 .before .before .args .s) (c10 .before .before .args .plan .now) (c5 .before .before .before .loop .k) _ _ _ _ _ (c .before .before .before .before .before .length-of .ensures) (c5 .before .before .before .loop .inv .2) (c .before .before .before .put-entry .ensures .1)) (c .before .before .before .put-entry .ensures .0), omega arith, next-base (c10 .before .before .args .s) (c10 .before .before .args .plan .now) (c5 .before .before .before .loop .k) _ _ _ (c5 .before .before .before .loop .inv .2) (c .before .before .before .before .before .length-of .ensures) (c .wide .ensures))
 
 same-length : tie.Need-same-length Inv-loop μ-loop
 same-length c = kept-length _ _ _ _ (c .before .before .loop .inv .0 .made)
@@ -46,17 +58,5 @@ pub put-table-spec : {M : Type 1} → statement M
 put-table-spec =
     tie.close
     (tie.spec
-    Inv-loop
-    μ-loop
-    (λ c. search needs)
-    loop-holds
-    length-of-requires
-    cast-put-entry
-    put-entry-requires
-    (λ c κs. search needs)
-    add-base
-    (λ c. search needs)
-    (λ c. search needs)
-    loop-again
-    same-length
-    returns)
+    Inv-loop μ-loop (λ c. search needs) loop-holds length-of-requires cast-put-entry put-entry-requires
+    (λ c κs. search needs) add-base (λ c. search needs) (λ c. search needs) loop-again same-length returns)

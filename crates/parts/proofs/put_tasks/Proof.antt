@@ -20,17 +20,22 @@ loop-holds : tie.Need-loop-holds Inv-loop μ-loop
 loop-holds c = (no-wide-rows _ _ _ _, omega arith)
 
 length-of-requires : tie.Need-length-of-requires Inv-loop μ-loop
-length-of-requires c κs = omega (arith, plan-few _ _ (c .before .before .before .before .before .before .pre .0))
+length-of-requires c κs =
+    let c5 = c .before .before .before .before .before in
+    omega (arith, plan-few _ _ (c5 .before .pre .0))
 
 put-task-requires : tie.Need-put-task-requires Inv-loop μ-loop
 put-task-requires c κs =
-    let p = c .before .before .before .before .before .before .before .pre in
+    let c5 = c .before .before .before .before .before in
+    let p = c5 .before .before .pre in
     let r = c .before .before .before .before .loop .inv .0 in
     let k = c .before .before .if1 .taken in
     (wide-row-room _ _ _ _ _ _ _ r refl _ k (p .1 .0), wide-row-clear _ _ _ _ _ _ _ r refl _ k (p .1 .1))
 
 loop-again : tie.Need-loop-again Inv-loop μ-loop
-loop-again c = (wide-row-more _ _ _ _ _ _ _ (c .before .before .before .before .before .before .before .loop .inv .0) refl _ _ (task-made (c .before .before .before .before .before .before .before .before .before .before .args .s) (c .before .before .before .before .before .before .before .before .before .before .args .plan .now) (c .before .before .before .before .before .before .before .loop .k) _ _ _ _ (c .before .before .before .length-of .ensures) (c .before .before .put-task .ensures .1)) (c .before .before .put-task .ensures .0), omega arith)
+loop-again c =
+    let c5 = c .before .before .before .before .before in
+    (wide-row-more _ _ _ _ _ _ _ (c5 .before .before .loop .inv .0) refl _ _ (task-made (c5 .before .before .before .before .before .args .s) (c5 .before .before .before .before .before .args .plan .now) (c5 .before .before .loop .k) _ _ _ _ (c .before .before .before .length-of .ensures) (c .before .before .put-task .ensures .1)) (c .before .before .put-task .ensures .0), omega arith)
 
 same-length : tie.Need-same-length Inv-loop μ-loop
 same-length c = kept-length _ _ _ _ (c .before .before .loop .inv .0 .made)
@@ -42,13 +47,5 @@ pub put-tasks-spec : {M : Type 1} → statement M
 put-tasks-spec =
     tie.close
     (tie.spec
-    Inv-loop
-    μ-loop
-    loop-holds
-    length-of-requires
-    put-task-requires
-    (λ c. search needs)
-    (λ c. search needs)
-    loop-again
-    same-length
-    returns)
+    Inv-loop μ-loop loop-holds length-of-requires put-task-requires (λ c. search needs) (λ c. search needs) loop-again
+    same-length returns)

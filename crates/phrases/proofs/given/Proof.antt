@@ -7,7 +7,8 @@ use Rattle.phrases.proofs.given.Tie as tie
 
 sub-kept : tie.Need-sub-kept
 sub-kept c =
-    let p = c .before .before .before .before .before .before in
+    let c5 = c .before .before .before .before .before in
+    let p = c5 .before in
     word-inside (p .args .line .now) _ _ _ (c .before .body .given .1) (p .pre .1 .1) .0
 
 part-kept-start : tie.Need-part-kept-start
@@ -15,7 +16,8 @@ part-kept-start c = sub-kept c
 
 part-kept-end : tie.Need-part-kept-end
 part-kept-end c =
-    let p = c .before .before .before .before .before .before in
+    let c5 = c .before .before .before .before .before in
+    let p = c5 .before in
     word-inside (p .args .line .now) _ _ _ (c .before .body .given .1) (p .pre .1 .1) .1
 
 alone-requires-2 : tie.Need-alone-requires-2
@@ -28,7 +30,8 @@ order-requires : tie.Need-order-requires
 order-requires c κs =
     let p = c .before .before in
     let q = p .before .before in
-    let s = q .before .before .before .before .before .before .before .before in
+    let q5 = q .before .before .before .before .before in
+    let s = q5 .before .before .before in
     (s .pre .0, (s .pre .1 .0, (c .next-token .ensures .1, order-small _ _ _ _ (q .kept .ensures) (p .o .given .1))))
 
 returns : tie.Need-returns
@@ -80,29 +83,7 @@ pub given-spec : {M : Type 1} → statement M
 given-spec =
     tie.close
     (tie.spec
-    (λ c. search needs)
-    (λ c. search needs)
-    (λ c κs. search needs)
-    (λ c. search needs)
-    sub-kept
-    part-kept-start
-    part-kept-end
-    (λ c κs. search needs)
-    (λ c. search needs)
-    alone-requires-2
-    (λ c. search needs)
-    (λ c. search needs)
-    (λ c κs. search needs)
-    order-requires
-    (λ c. search needs)
-    (λ c. search needs)
-    (λ c κs. search needs)
-    (λ c. search needs)
-    returns
-    returns-2
-    returns-3
-    returns-4
-    returns-5
-    returns-6
-    returns-7
-    returns-8)
+    (λ c. search needs) (λ c. search needs) (λ c κs. search needs) (λ c. search needs) sub-kept part-kept-start
+    part-kept-end (λ c κs. search needs) (λ c. search needs) alone-requires-2 (λ c. search needs) (λ c. search needs)
+    (λ c κs. search needs) order-requires (λ c. search needs) (λ c. search needs) (λ c κs. search needs)
+    (λ c. search needs) returns returns-2 returns-3 returns-4 returns-5 returns-6 returns-7 returns-8)

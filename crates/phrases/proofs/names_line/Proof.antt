@@ -13,8 +13,10 @@ use Rattle.phrases.proofs.names_line.Statement.{statement}
 use Rattle.phrases.proofs.names_line.Tie as tie
 
 named : (es : List Entry) (c : tie.After-next-token3) →
-    let p = c .before .before .before .before .before .before .before .before .before .before in
-    let l = p .before .before .before .before .before .before .before .before .args .line .now in
+    let c5 = c .before .before .before .before .before in
+    let p = c5 .before .before .before .before .before in
+    let p5 = p .before .before .before .before .before in
+    let l = p5 .before .before .before .args .line .now in
     names-line es (tokens l) ≡ gives-sum (part l (p .first .given .0 .0) (p .first .given .0 .1 .0)) (sum-of es (shown l (c .next-token3 .result)))
 named es c =
     let p = c .before .before in
@@ -79,7 +81,8 @@ returns-6 : tie.Need-returns-6
 returns-6 c =
     let p = c .before .before .before in
     let q = p .before in
-    let s = q .before .before .before .before .before .before .before .before .before .before in
+    let q5 = q .before .before .before .before .before in
+    let s = q5 .before .before .before .before .before in
     let u = s .before .before .before .before in
     let v = u .before .before .before .before in
     (rw (named _ (q), p .sum-of .ensures, c .before .v .given .1), word-inside (v .args .line .now) _ _ _ (s .first .given .1) (u .next-token .ensures .1))
@@ -88,24 +91,7 @@ pub names-line-spec : {M : Type 1} → statement M
 names-line-spec =
     tie.close
     (tie.spec
-    (λ c κs. search needs)
-    (λ c κs. search needs)
-    returns
-    (λ c. search needs)
-    returns-2
-    sub-is-free
-    part-is-free-start
-    part-is-free-end
-    (λ c κs. search needs)
-    returns-3
-    (λ c κs. search needs)
-    (λ c κs. search needs)
-    (λ c. search needs)
-    (λ c. search needs)
-    returns-4
-    (λ c κs. search needs)
-    (λ c κs. search needs)
-    (λ c. search needs)
-    (λ c. search needs)
-    returns-5
-    returns-6)
+    (λ c κs. search needs) (λ c κs. search needs) returns (λ c. search needs) returns-2 sub-is-free part-is-free-start
+    part-is-free-end (λ c κs. search needs) returns-3 (λ c κs. search needs) (λ c κs. search needs) (λ c. search needs)
+    (λ c. search needs) returns-4 (λ c κs. search needs) (λ c κs. search needs) (λ c. search needs) (λ c. search needs)
+    returns-5 returns-6)

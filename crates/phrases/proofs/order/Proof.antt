@@ -14,19 +14,22 @@ returns c =
 mul-two : tie.Need-mul-two
 mul-two c =
     let p = c .before .before .before in
-    let q = p .before .before .before .before .before .before in
+    let p5 = p .before .before .before .before .before in
+    let q = p5 .before in
     omega (arith, operand-inside (q .args .line .now) _ _ _ (c .before .a .given .1) (p .register .ensures .1) .0)
 
 add-two : tie.Need-add-two
 add-two c =
     let p = c .before .before .before in
-    let q = p .before .before .before .before .before .before in
+    let p5 = p .before .before .before .before .before in
+    let q = p5 .before in
     omega (arith, q .pre .1 .1 .1, operand-inside (q .args .line .now) _ _ _ (c .before .a .given .1) (p .register .ensures .1) .0)
 
 two-requires-2 : tie.Need-two-requires-2
 two-requires-2 c κs =
     let p = c .before .before .before in
-    let q = p .before .before .before .before .before .before in
+    let p5 = p .before .before .before .before .before in
+    let q = p5 .before in
     (q .pre .0, (q .pre .1 .0, operand-inside (q .args .line .now) _ _ _ (c .before .a .given .1) (p .register .ensures .1) .1))
 
 returns-2 : tie.Need-returns-2
@@ -49,21 +52,6 @@ pub order-spec : {M : Type 1} → statement M
 order-spec =
     tie.close
     (tie.spec
-    (λ c. search needs)
-    (λ c κs. search needs)
-    (λ c. search needs)
-    (λ c κs. search needs)
-    (λ c. search needs)
-    (λ c κs. search needs)
-    (λ c. search needs)
-    (λ c. search needs)
-    returns
-    mul-two
-    add-two
-    two-requires-2
-    (λ c. search needs)
-    (λ c κs. search needs)
-    returns-2
-    returns-3
-    returns-4
-    returns-5)
+    (λ c. search needs) (λ c κs. search needs) (λ c. search needs) (λ c κs. search needs) (λ c. search needs)
+    (λ c κs. search needs) (λ c. search needs) (λ c. search needs) returns mul-two add-two two-requires-2
+    (λ c. search needs) (λ c κs. search needs) returns-2 returns-3 returns-4 returns-5)

@@ -42,13 +42,5 @@ pub register-spec : {M : Type 1} → statement M
 register-spec =
     tie.close
     (tie.spec
-    (λ c. search needs)
-    returns
-    sub-kept
-    part-kept-start
-    part-kept-end
-    (λ c κs. search needs)
-    (λ c. search needs)
-    returns-2
-    (λ c κs. search needs)
-    returns-3)
+    (λ c. search needs) returns sub-kept part-kept-start part-kept-end (λ c κs. search needs) (λ c. search needs)
+    returns-2 (λ c κs. search needs) returns-3)

@@ -22,7 +22,8 @@ returns-2 c =
 
 sub-is-free : tie.Need-sub-is-free
 sub-is-free c =
-    let p = c .before .before .before .before .before .before in
+    let c5 = c .before .before .before .before .before in
+    let p = c5 .before in
     let q = p .before .before in
     let s = q .before .before in
     word-inside (s .args .line .now) _ _ _ (p .first .given .1) (q .next-token .ensures .1) .0
@@ -32,7 +33,8 @@ part-is-free-start c = sub-is-free c
 
 part-is-free-end : tie.Need-part-is-free-end
 part-is-free-end c =
-    let p = c .before .before .before .before .before .before in
+    let c5 = c .before .before .before .before .before in
+    let p = c5 .before in
     let q = p .before .before in
     let s = q .before .before in
     word-inside (s .args .line .now) _ _ _ (p .first .given .1) (q .next-token .ensures .1) .1
@@ -62,18 +64,6 @@ pub start-of-spec : {M : Type 1} → statement M
 start-of-spec =
     tie.close
     (tie.spec
-    (λ c κs. search needs)
-    (λ c. search needs)
-    returns
-    (λ c κs. search needs)
-    (λ c κs. search needs)
-    (λ c. search needs)
-    (λ c. search needs)
-    returns-2
-    sub-is-free
-    part-is-free-start
-    part-is-free-end
-    (λ c κs. search needs)
-    (λ c κs. search needs)
-    returns-3
-    returns-4)
+    (λ c κs. search needs) (λ c. search needs) returns (λ c κs. search needs) (λ c κs. search needs) (λ c. search needs)
+    (λ c. search needs) returns-2 sub-is-free part-is-free-start part-is-free-end (λ c κs. search needs)
+    (λ c κs. search needs) returns-3 returns-4)

@@ -37,12 +37,14 @@ mul-one c = omega (arith, small c)
 
 add-one : tie.Need-add-one
 add-one c =
-    let p = c .before .before .before .before .before .before .before .before .before in
+    let c5 = c .before .before .before .before .before in
+    let p = c5 .before .before .before .before in
     omega (arith, small c, p .pre .1)
 
 add-one-2 : tie.Need-add-one-2
 add-one-2 c =
-    let p = c .before .before .before .before .before .before .before .before .before in
+    let c5 = c .before .before .before .before .before in
+    let p = c5 .before .before .before .before in
     omega (arith, small c, p .pre .1)
 
 returns-3 : tie.Need-returns-3
@@ -57,16 +59,5 @@ pub with-registers-spec : {M : Type 1} → statement M
 with-registers-spec =
     tie.close
     (tie.spec
-    (λ c κs. search needs)
-    (λ c. search needs)
-    (λ c. search needs)
-    returns
-    register-requires-2
-    (λ c. search needs)
-    (λ c. search needs)
-    returns-2
-    mul-one
-    add-one
-    add-one-2
-    (λ c κs. search needs)
-    returns-3)
+    (λ c κs. search needs) (λ c. search needs) (λ c. search needs) returns register-requires-2 (λ c. search needs)
+    (λ c. search needs) returns-2 mul-one add-one add-one-2 (λ c κs. search needs) returns-3)

@@ -10,7 +10,8 @@ mul-t15 c = omega (arith, pair-small _ (c .before .before .before .before .befor
 
 add-t17 : tie.Need-add-t17
 add-t17 c =
-    let b = c .before .before .before .before .before .before in
+    let c5 = c .before .before .before .before .before in
+    let b = c5 .before in
     omega (arith, pair-small _ (b .args .q) (c .before .before .before .before .q3 .given .1) (b .pre .0) (b .pre .1))
 
 returns : tie.Need-returns
@@ -29,17 +30,5 @@ pub head-of-spec : {M : Type 1} → statement M
 head-of-spec =
     tie.close
     (tie.spec
-    (λ c. search needs)
-    (λ c. search needs)
-    (λ c. search needs)
-    (λ c. search needs)
-    (λ c. search needs)
-    (λ c. search needs)
-    (λ c. search needs)
-    mul-t15
-    (λ c. search needs)
-    add-t17
-    returns
-    returns-2
-    returns-3
-    returns-4)
+    (λ c. search needs) (λ c. search needs) (λ c. search needs) (λ c. search needs) (λ c. search needs)
+    (λ c. search needs) (λ c. search needs) mul-t15 (λ c. search needs) add-t17 returns returns-2 returns-3 returns-4)

@@ -21,15 +21,6 @@ pub join-spec : {M : Type 1} → statement M
 join-spec =
     tie.close
     (tie.spec
-    (λ c. search needs)
-    put-leading-requires
-    (λ c. search needs)
-    (λ c. search needs)
-    (λ c κs. search needs)
-    (λ c. search needs)
-    (λ c. search needs)
-    (λ c. search needs)
-    array-share-prefix-plan
-    slice-aggregate-write-plan
-    write-plan-requires
-    (λ c. search needs))
+    (λ c. search needs) put-leading-requires (λ c. search needs) (λ c. search needs) (λ c κs. search needs)
+    (λ c. search needs) (λ c. search needs) (λ c. search needs) array-share-prefix-plan slice-aggregate-write-plan
+    write-plan-requires (λ c. search needs))

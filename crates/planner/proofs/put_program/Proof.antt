@@ -18,8 +18,10 @@ put-words-requires c κs = search words-fit
 
 add-t11 : tie.Need-add-t11
 add-t11 c =
+    let c5 = c .before .before .before .before .before in
+    let c10 = c5 .before .before .before .before .before in
     let few : c .before .before .put-words .result ≤ most-program = search few-words in
-    omega (arith, few, c .before .before .before .before .before .before .before .before .before .before .before .before .before .before .pre)
+    omega (arith, few, c10 .before .before .before .before .pre)
 
 returns-3 : tie.Need-returns-3
 returns-3 c =
@@ -30,21 +32,7 @@ pub put-program-spec : {M : Type 1} → statement M
 put-program-spec =
     tie.close
     (tie.spec
-    (λ c. search needs)
-    (λ c κs. search needs)
-    (λ c. search needs)
-    (λ c. search needs)
-    (λ c. search needs)
-    (λ c. search needs)
-    (λ c κs. search needs)
-    (λ c. search needs)
-    array-share-prefix-bytes
-    slice-aggregate-put-words
-    (λ c. search needs)
-    (λ c. search needs)
-    (λ c. search needs)
-    (λ c. search needs)
-    put-words-requires
-    add-t11
-    (λ c. search needs)
-    returns-3)
+    (λ c. search needs) (λ c κs. search needs) (λ c. search needs) (λ c. search needs) (λ c. search needs)
+    (λ c. search needs) (λ c κs. search needs) (λ c. search needs) array-share-prefix-bytes slice-aggregate-put-words
+    (λ c. search needs) (λ c. search needs) (λ c. search needs) (λ c. search needs) put-words-requires add-t11
+    (λ c. search needs) returns-3)

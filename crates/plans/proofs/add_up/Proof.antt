@@ -16,14 +16,19 @@ loop-holds : tie.Need-loop-holds Inv-loop μ-loop
 loop-holds c = (no-pairs _ _ (c .before .pre .0) (c .before .pre .1), omega arith)
 
 add-words : tie.Need-add-words Inv-loop μ-loop
-add-words c = omega (arith, c .before .before .before .before .before .before .loop .inv .0 .small)
+add-words c =
+    let c5 = c .before .before .before .before .before in
+    omega (arith, c5 .before .loop .inv .0 .small)
 
 add-end-2 : tie.Need-add-end-2 Inv-loop μ-loop
-add-end-2 c = omega (arith, c .before .before .before .before .before .before .before .loop .inv .0 .near)
+add-end-2 c =
+    let c5 = c .before .before .before .before .before in
+    omega (arith, c5 .before .before .loop .inv .0 .near)
 
 loop-again : tie.Need-loop-again Inv-loop μ-loop
 loop-again c =
-    let b = c .before .before .before .before .before .before .before in
+    let c5 = c .before .before .before .before .before in
+    let b = c5 .before .before in
     (one-pair-more _ _ _ _ _ _ _ _ _ _ _ (b .loop .inv .0) (c .before .before .before .before .before .length-of .ensures) (c .before .before .before .before .program-of .ensures) (c .before .before .before .both .ensures) (c .before .before .both2 .ensures) (c .before .wide .ensures) (c .wide2 .ensures) (omega arith) (omega arith), omega arith)
 
 returns : tie.Need-returns Inv-loop μ-loop
@@ -33,20 +38,6 @@ pub add-up-spec : {M : Type 1} → statement M
 add-up-spec =
     tie.close
     (tie.spec
-    Inv-loop
-    μ-loop
-    (λ c. search needs)
-    (λ c. search needs)
-    loop-holds
-    (λ c κs. search needs)
-    (λ c κs. search needs)
-    (λ c κs. search needs)
-    (λ c κs. search needs)
-    (λ c κs. search needs)
-    add-words
-    (λ c κs. search needs)
-    add-end-2
-    (λ c. search needs)
-    (λ c. search needs)
-    loop-again
-    returns)
+    Inv-loop μ-loop (λ c. search needs) (λ c. search needs) loop-holds (λ c κs. search needs) (λ c κs. search needs)
+    (λ c κs. search needs) (λ c κs. search needs) (λ c κs. search needs) add-words (λ c κs. search needs) add-end-2
+    (λ c. search needs) (λ c. search needs) loop-again returns)

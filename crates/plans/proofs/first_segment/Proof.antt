@@ -11,6 +11,4 @@ pub first-segment-spec : {M : Type 1} → statement M
 first-segment-spec =
     tie.close
     (tie.spec
-    (λ c κs. search needs)
-    (λ c. search needs)
-    returns)
+    (λ c κs. search needs) (λ c. search needs) returns)

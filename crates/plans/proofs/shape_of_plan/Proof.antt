@@ -16,7 +16,4 @@ pub shape-of-plan-spec : {M : Type 1} → statement M
 shape-of-plan-spec =
     tie.close
     (tie.spec
-    (λ c κs. search needs)
-    add-up-requires
-    shape-with-requires
-    (λ c. search needs))
+    (λ c κs. search needs) add-up-requires shape-with-requires (λ c. search needs))

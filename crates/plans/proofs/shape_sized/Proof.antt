@@ -19,8 +19,4 @@ pub shape-sized-spec : {M : Type 1} → statement M
 shape-sized-spec =
     tie.close
     (tie.spec
-    (λ c κs. search needs)
-    first-segment-requires
-    sub-shape-with
-    shape-with-requires
-    (λ c. search needs))
+    (λ c κs. search needs) first-segment-requires sub-shape-with shape-with-requires (λ c. search needs))

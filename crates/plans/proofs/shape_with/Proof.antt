@@ -14,6 +14,4 @@ pub shape-with-spec : {M : Type 1} → statement M
 shape-with-spec =
     tie.close
     (tie.spec
-    (λ c κs. search needs)
-    offsets-requires
-    returns)
+    (λ c κs. search needs) offsets-requires returns)

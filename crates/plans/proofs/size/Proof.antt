@@ -37,13 +37,5 @@ pub size-spec : {M : Type 1} → statement M
 size-spec =
     tie.close
     (tie.spec
-    returns
-    (λ c κs. search needs)
-    (λ c κs. search needs)
-    returns-2
-    add-up-requires
-    first-segment-requires
-    add-whole
-    is-broken-requires
-    returns-3
-    returns-4)
+    returns (λ c κs. search needs) (λ c κs. search needs) returns-2 add-up-requires first-segment-requires add-whole
+    is-broken-requires returns-3 returns-4)

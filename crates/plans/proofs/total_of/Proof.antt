@@ -15,6 +15,4 @@ pub total-of-spec : {M : Type 1} → statement M
 total-of-spec =
     tie.close
     (tie.spec
-    (λ c. search needs)
-    add-result
-    returns)
+    (λ c. search needs) add-result returns)

@@ -32,11 +32,4 @@ pub rest-spec : {M : Type 1} → statement M
 rest-spec =
     tie.close
     (tie.spec
-    sub-result
-    part-result-start
-    part-result-end
-    sub-result-2
-    part-result-start-2
-    part-result-end-2
-    returns
-    returns-2)
+    sub-result part-result-start part-result-end sub-result-2 part-result-start-2 part-result-end-2 returns returns-2)

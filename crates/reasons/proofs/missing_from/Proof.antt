@@ -21,14 +21,5 @@ pub missing-from-spec : {M : Type 1} → statement M
 missing-from-spec =
     tie.close
     (tie.spec
-    Inv-loop
-    μ-loop
-    (λ c. tt)
-    (λ c κs. search needs)
-    (λ c. search needs)
-    (λ c. tt)
-    (λ c. search needs)
-    returns-2
-    (λ c. search needs)
-    loop-less
-    (λ c. tt))
+    Inv-loop μ-loop (λ c. tt) (λ c κs. search needs) (λ c. search needs) (λ c. tt) (λ c. search needs) returns-2
+    (λ c. search needs) loop-less (λ c. tt))

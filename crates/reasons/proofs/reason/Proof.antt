@@ -27,10 +27,4 @@ pub reason-spec : {M : Type 1} → statement M
 reason-spec =
     tie.close
     (tie.spec
-    add-to
-    (λ c. search needs)
-    reason-in-names-requires
-    (λ c. search needs)
-    reason-in-script-requires
-    returns
-    returns-2)
+    add-to (λ c. search needs) reason-in-names-requires (λ c. search needs) reason-in-script-requires returns returns-2)

@@ -12,14 +12,6 @@ pub check-answer-spec : {M : Type 1} → statement M
 check-answer-spec =
     tie.close
     (tie.spec
-    (λ c. search needs)
-    (λ c κs. search needs)
-    (λ c. search needs)
-    (λ c. search needs)
-    (λ c. search needs)
-    (λ c. search needs)
-    slice-aggregate-check
-    (λ c κs. search needs)
-    (λ c κs. search needs)
-    (λ c. search needs)
+    (λ c. search needs) (λ c κs. search needs) (λ c. search needs) (λ c. search needs) (λ c. search needs)
+    (λ c. search needs) slice-aggregate-check (λ c κs. search needs) (λ c κs. search needs) (λ c. search needs)
     (λ c. search needs))

@@ -17,7 +17,4 @@ pub characters-spec : {M : Type 1} → statement M
 characters-spec =
     tie.close
     (tie.spec
-    held-below-requires
-    held-below-requires-2
-    (λ c κs. search needs)
-    returns)
+    held-below-requires held-below-requires-2 (λ c κs. search needs) returns)

@@ -29,13 +29,19 @@ loop-holds : tie.Need-loop-holds Inv-loop μ-loop
 loop-holds c = (every-none _, omega arith)
 
 cast-t15 : tie.Need-cast-t15 Inv-loop μ-loop
-cast-t15 c = omega (arith, sized-few _ _ (c .before .before .before .before .before .before .before .before .pre .0))
+cast-t15 c =
+    let c5 = c .before .before .before .before .before in
+    omega (arith, sized-few _ _ (c5 .before .before .before .pre .0))
 
 characters-requires : tie.Need-characters-requires Inv-loop μ-loop
-characters-requires c κs = (c .before .before .before .before .before .before .before .before .pre .0, (c .if2 .taken, buffers-each _ _ (c .before .before .before .before .before .before .before .before .pre .0) _ (c .if2 .taken) (c .before .before .before .before .before .before .before .before .pre .1)))
+characters-requires c κs =
+    let c5 = c .before .before .before .before .before in
+    (c5 .before .before .before .pre .0, (c .if2 .taken, buffers-each _ _ (c5 .before .before .before .pre .0) _ (c .if2 .taken) (c5 .before .before .before .pre .1)))
 
 returns-2 : tie.Need-returns-2 Inv-loop μ-loop
-returns-2 c = characters-fail _ _ (c .before .before .before .before .before .before .before .before .before .before .pre .0) _ _ (c .before .before .if2 .taken) (c .before .characters .ensures) (c .if3 .taken)
+returns-2 c =
+    let c5 = c .before .before .before .before .before in
+    characters-fail _ _ (c5 .before .before .before .before .before .pre .0) _ _ (c .before .before .if2 .taken) (c .before .characters .ensures) (c .if3 .taken)
 
 loop-again : tie.Need-loop-again Inv-loop μ-loop
 loop-again c = (every-more _ _ (c .before .before .before .before .loop .inv .0) (sym (c .before .characters .ensures) ∙ not-false _ (c .if3 .left)), omega arith)
@@ -47,18 +53,5 @@ pub characters-hold-spec : {M : Type 1} → statement M
 characters-hold-spec =
     tie.close
     (tie.spec
-    Inv-loop
-    μ-loop
-    (λ c. search needs)
-    (λ c. search needs)
-    bits-of-requires
-    (λ c κs. search needs)
-    returns
-    loop-holds
-    cast-t15
-    characters-requires
-    returns-2
-    (λ c. search needs)
-    (λ c. search needs)
-    loop-again
-    returns-3)
+    Inv-loop μ-loop (λ c. search needs) (λ c. search needs) bits-of-requires (λ c κs. search needs) returns loop-holds
+    cast-t15 characters-requires returns-2 (λ c. search needs) (λ c. search needs) loop-again returns-3)

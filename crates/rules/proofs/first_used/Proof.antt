@@ -40,13 +40,4 @@ pub first-used-spec : {M : Type 1} → statement M
 first-used-spec =
     tie.close
     (tie.spec
-    Inv-loop
-    μ-loop
-    loop-holds
-    row-unused-requires
-    returns
-    add-at
-    add-at-2
-    loop-less
-    loop-again
-    returns-2)
+    Inv-loop μ-loop loop-holds row-unused-requires returns add-at add-at-2 loop-less loop-again returns-2)

@@ -17,6 +17,4 @@ pub queue-word-spec : {M : Type 1} → statement M
 queue-word-spec =
     tie.close
     (tie.spec
-    head-of-requires
-    word-of-requires
-    returns)
+    head-of-requires word-of-requires returns)

@@ -24,10 +24,5 @@ pub queued-spec : {M : Type 1} → statement M
 queued-spec =
     tie.close
     (tie.spec
-    queue-word-requires
-    queue-word-requires-2
-    queue-word-requires-3
-    queue-word-requires-4
-    (λ c κs. search needs)
-    (λ c κs. search needs)
-    returns)
+    queue-word-requires queue-word-requires-2 queue-word-requires-3 queue-word-requires-4 (λ c κs. search needs)
+    (λ c κs. search needs) returns)

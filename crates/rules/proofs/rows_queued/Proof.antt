@@ -36,10 +36,14 @@ returns : tie.Need-returns Inv-loop μ-loop
 returns c = rows-wrong _ _ _ _ _ (c .before .before .before .loop .inv) (c .before .before .loop-test .taken) _ (c .before .row-queued .ensures) (c .if1 .taken)
 
 add-first-used : tie.Need-add-first-used Inv-loop μ-loop
-add-first-used c = omega (arith, row-fits _ _ _ (c .before .before .before .loop .inv .left) (c .before .before .loop-test .taken), c .before .before .before .before .before .before .pre)
+add-first-used c =
+    let c5 = c .before .before .before .before .before in
+    omega (arith, row-fits _ _ _ (c .before .before .before .loop .inv .left) (c .before .before .loop-test .taken), c5 .before .pre)
 
 first-used-requires-2 : tie.Need-first-used-requires-2 Inv-loop μ-loop
-first-used-requires-2 c κs = (c .before .before .before .before .before .before .pre .0, (rows-after _ _ _ (c .before .before .before .loop .inv .left) (c .before .before .loop-test .taken), c .before .before .before .before .before .before .pre .1))
+first-used-requires-2 c κs =
+    let c5 = c .before .before .before .before .before in
+    (c5 .before .pre .0, (rows-after _ _ _ (c .before .before .before .loop .inv .left) (c .before .before .loop-test .taken), c5 .before .pre .1))
 
 loop-less : tie.Need-loop-less Inv-loop μ-loop
 loop-less c = omega (arith, row-fits _ _ _ (c .before .before .before .before .loop .inv .left) (c .before .before .before .loop-test .taken), c .first-used2 .ensures .here)
@@ -54,17 +58,5 @@ pub rows-queued-spec : {M : Type 1} → statement M
 rows-queued-spec =
     tie.close
     (tie.spec
-    Inv-loop
-    μ-loop
-    add-width
-    mul-end
-    add-end
-    first-used-requires
-    loop-holds
-    row-queued-requires
-    returns
-    add-first-used
-    first-used-requires-2
-    loop-less
-    loop-again
-    returns-2)
+    Inv-loop μ-loop add-width mul-end add-end first-used-requires loop-holds row-queued-requires returns add-first-used
+    first-used-requires-2 loop-less loop-again returns-2)

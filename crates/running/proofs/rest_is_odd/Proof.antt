@@ -16,7 +16,9 @@ returns : tie.Need-returns Inv-loop μ-loop
 returns c = λ e. absurd (true≢false (sym e))
 
 returns-2 : tie.Need-returns-2 Inv-loop μ-loop
-returns-2 c = λ _. c .before .before .before .before .before .before .before .before .if1 .left
+returns-2 c =
+    let c5 = c .before .before .before .before .before in
+    λ _. c5 .before .before .before .if1 .left
 
 returns-3 : tie.Need-returns-3 Inv-loop μ-loop
 returns-3 c = λ _. c .before .before .before .if1 .left
@@ -25,16 +27,5 @@ pub rest-is-odd-spec : {M : Type 1} → statement M
 rest-is-odd-spec =
     tie.close
     (tie.spec
-    Inv-loop
-    μ-loop
-    returns
-    (λ c κs. search needs)
-    (λ c. search needs)
-    (λ c. search needs)
-    (λ c κs. search needs)
-    (λ c κs. search needs)
-    returns-2
-    (λ c. search needs)
-    (λ c. search needs)
-    (λ c. search needs)
-    returns-3)
+    Inv-loop μ-loop returns (λ c κs. search needs) (λ c. search needs) (λ c. search needs) (λ c κs. search needs)
+    (λ c κs. search needs) returns-2 (λ c. search needs) (λ c. search needs) (λ c. search needs) returns-3)

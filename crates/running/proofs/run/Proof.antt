@@ -22,17 +22,6 @@ pub run-spec : {M : Type 1} → statement M
 run-spec =
     tie.close
     (tie.spec
-    (λ c. search needs)
-    (λ c κs. search needs)
-    (λ c κs. search needs)
-    (λ c. search needs)
-    (λ c. search needs)
-    read-plan-requires
-    (λ c. search needs)
-    array-share-prefix-words
-    slice-aggregate-run-plan
-    run-plan-requires
-    (λ c. search needs)
-    (λ c κs. search needs)
-    (λ c. search needs)
-    (λ c. search needs))
+    (λ c. search needs) (λ c κs. search needs) (λ c κs. search needs) (λ c. search needs) (λ c. search needs)
+    read-plan-requires (λ c. search needs) array-share-prefix-words slice-aggregate-run-plan run-plan-requires
+    (λ c. search needs) (λ c κs. search needs) (λ c. search needs) (λ c. search needs))

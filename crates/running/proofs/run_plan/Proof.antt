@@ -23,9 +23,5 @@ pub run-plan-spec : {M : Type 1} → statement M
 run-plan-spec =
     tie.close
     (tie.spec
-    shape-of-plan-requires
-    (λ c κs. search needs)
-    array-borrow-prefix-image
-    slice-aggregate-run-fresh
-    run-fresh-requires
+    shape-of-plan-requires (λ c κs. search needs) array-borrow-prefix-image slice-aggregate-run-fresh run-fresh-requires
     (λ c. search needs))

@@ -38,17 +38,6 @@ pub output-spec : {M : Type 1} → statement M
 output-spec =
     tie.close
     (tie.spec
-    (λ c κs. search needs)
-    (λ c κs. search needs)
-    (λ c. search needs)
-    returns
-    (λ c κs. search needs)
-    (λ c κs. search needs)
-    (λ c. search needs)
-    returns-2
-    (λ c κs. search needs)
-    append-requires
-    print-if-idle-requires
-    (λ c κs. search needs)
-    (λ c. search needs)
-    returns-3)
+    (λ c κs. search needs) (λ c κs. search needs) (λ c. search needs) returns (λ c κs. search needs)
+    (λ c κs. search needs) (λ c. search needs) returns-2 (λ c κs. search needs) append-requires print-if-idle-requires
+    (λ c κs. search needs) (λ c. search needs) returns-3)

@@ -14,7 +14,4 @@ pub wait-spec : {M : Type 1} → statement M
 wait-spec =
     tie.close
     (tie.spec
-    (λ c κs. search needs)
-    leave-requires
-    (λ c. search needs)
-    returns)
+    (λ c κs. search needs) leave-requires (λ c. search needs) returns)

@@ -17,8 +17,4 @@ pub readied-once-spec : {M : Type 1} → statement M
 readied-once-spec =
     tie.close
     (tie.spec
-    (λ c. search needs)
-    element-copy-out-times
-    (λ c κs. search needs)
-    returns
-    returns-2)
+    (λ c. search needs) element-copy-out-times (λ c κs. search needs) returns returns-2)

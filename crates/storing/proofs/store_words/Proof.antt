@@ -24,7 +24,9 @@ add-end : tie.Need-add-end Inv-loop μ-loop
 add-end c = record { fits = omega (arith, line-within _ _ _ (c .before .loop-test .taken) (c .line-count .ensures)) }
 
 store-line-requires : tie.Need-store-line-requires Inv-loop μ-loop
-store-line-requires c κs = (c .before .before .before .before .before .before .before .pre .0, (c .before .before .before .before .before .before .before .pre .1 .0, ((omega arith, line-within _ _ _ (c .before .before .loop-test .taken) (c .before .line-count .ensures)), line-fits _ _ _ _ _ _ (c .before .before .before .loop .inv) _ (c .before .before .loop-test .taken) (c .before .line-count .ensures) (c .before .before .before .before .before .before .before .pre .1 .1))))
+store-line-requires c κs =
+    let c5 = c .before .before .before .before .before in
+    (c5 .before .before .pre .0, (c5 .before .before .pre .1 .0, ((omega arith, line-within _ _ _ (c .before .before .loop-test .taken) (c .before .line-count .ensures)), line-fits _ _ _ _ _ _ (c .before .before .before .loop .inv) _ (c .before .before .loop-test .taken) (c .before .line-count .ensures) (c5 .before .before .pre .1 .1))))
 
 add-at : tie.Need-add-at Inv-loop μ-loop
 add-at c = record { fits = omega (arith, line-within _ _ _ (c .before .before .before .before .before .loop-test .taken) (c .before .before .before .before .line-count .ensures)) }
@@ -33,7 +35,9 @@ loop-less : tie.Need-loop-less Inv-loop μ-loop
 loop-less c = omega arith
 
 loop-again : tie.Need-loop-again Inv-loop μ-loop
-loop-again c = one-line-more _ _ _ _ _ _ (c .before .before .before .before .before .before .loop .inv) _ (c .before .before .before .before .before .loop-test .taken) (c .before .before .before .before .line-count .ensures) _ _ (c .before .before .store-line .ensures .0) (c .before .before .store-line .ensures .1)
+loop-again c =
+    let c5 = c .before .before .before .before .before in
+    one-line-more _ _ _ _ _ _ (c5 .before .loop .inv) _ (c .before .before .before .before .before .loop-test .taken) (c .before .before .before .before .line-count .ensures) _ _ (c .before .before .store-line .ensures .0) (c .before .before .store-line .ensures .1)
 
 same-length : tie.Need-same-length Inv-loop μ-loop
 same-length c = c .before .loop .inv .long
@@ -45,14 +49,5 @@ pub store-words-spec : {M : Type 1} → statement M
 store-words-spec =
     tie.close
     (tie.spec
-    Inv-loop
-    μ-loop
-    loop-holds
-    (λ c κs. search needs)
-    add-end
-    store-line-requires
-    add-at
-    loop-less
-    loop-again
-    same-length
-    returns)
+    Inv-loop μ-loop loop-holds (λ c κs. search needs) add-end store-line-requires add-at loop-less loop-again
+    same-length returns)

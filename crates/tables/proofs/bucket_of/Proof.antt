@@ -45,14 +45,5 @@ pub bucket-of-spec : {M : Type 1} → statement M
 bucket-of-spec =
     tie.close
     (tie.spec
-    Inv-loop
-    μ-loop
-    loop-holds
-    shared-slice-read-mixed
-    cast-mixed
-    add-mixed
-    mul-mixed
-    add-k
-    loop-less
-    loop-again
+    Inv-loop μ-loop loop-holds shared-slice-read-mixed cast-mixed add-mixed mul-mixed add-k loop-less loop-again
     returns)

@@ -58,19 +58,6 @@ pub insert-spec : {M : Type 1} → statement M
 insert-spec =
     tie.close
     (tie.spec
-    word-of-requires
-    bucket-of-requires
-    mul-froms
-    element-write-froms
-    mul-counts
-    element-write-counts
-    mul-values
-    element-write-values
-    mul-nexts
-    element-copy-out-nexts
-    mul-nexts-2
-    element-write-nexts
-    cast-heads
-    mul-heads
-    element-write-heads
-    returns)
+    word-of-requires bucket-of-requires mul-froms element-write-froms mul-counts element-write-counts mul-values
+    element-write-values mul-nexts element-copy-out-nexts mul-nexts-2 element-write-nexts cast-heads mul-heads
+    element-write-heads returns)

@@ -18,7 +18,9 @@ find-requires : tie.Need-find-requires
 find-requires c κs = (c .before .before .before .before .before .pre .0, head-leads _ _ _ _ _ (c .before .before .before .before .before .pre .0) (c .before .before .before .before .before .pre .1) (c .before .bucket-of .ensures .0) .linked)
 
 returns : tie.Need-returns
-returns c = c .find .ensures ∙ head-leads _ _ _ _ _ (c .before .before .before .before .before .before .pre .0) (c .before .before .before .before .before .before .pre .1) (c .before .before .bucket-of .ensures .0) .kept
+returns c =
+    let c5 = c .before .before .before .before .before in
+    c .find .ensures ∙ head-leads _ _ _ _ _ (c5 .before .pre .0) (c5 .before .pre .1) (c .before .before .bucket-of .ensures .0) .kept
 
 pub look-spec : {M : Type 1} → statement M
 look-spec =

@@ -41,12 +41,5 @@ pub word-of-spec : {M : Type 1} → statement M
 word-of-spec =
     tie.close
     (tie.spec
-    add-to
-    sub-result
-    part-result-start
-    part-result-end
-    sub-result-2
-    part-result-start-2
-    part-result-end-2
-    returns
+    add-to sub-result part-result-start part-result-end sub-result-2 part-result-start-2 part-result-end-2 returns
     returns-2)

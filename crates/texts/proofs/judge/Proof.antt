@@ -12,12 +12,12 @@ judge-script-requires : tie.Need-judge-script-requires
 judge-script-requires c κs = (c .before .before .before .before .before .read-texts .ensures .chained, (c .before .before .before .before .before .read-texts .ensures .headed, (c .before .before .before .before .before .read-texts .ensures .grows, labelled-by _ _ _ _ _ (c .before .before .before .before .before .read-texts .ensures))))
 
 returns : tie.Need-returns
-returns c = texts-judged _ _ _ _ _ _ _ (c .before .before .before .before .before .before .read-texts .ensures) (c .judge-script .ensures)
+returns c =
+    let c5 = c .before .before .before .before .before in
+    texts-judged _ _ _ _ _ _ _ (c5 .before .read-texts .ensures) (c .judge-script .ensures)
 
 pub judge-spec : {M : Type 1} → statement M
 judge-spec =
     tie.close
     (tie.spec
-    read-texts-requires
-    judge-script-requires
-    returns)
+    read-texts-requires judge-script-requires returns)

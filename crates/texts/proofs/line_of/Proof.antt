@@ -25,14 +25,5 @@ pub line-of-spec : {M : Type 1} → statement M
 line-of-spec =
     tie.close
     (tie.spec
-    add-to
-    (λ c. search needs)
-    (λ c. search needs)
-    (λ c. search needs)
-    part-result-end
-    (λ c. search needs)
-    (λ c. search needs)
-    (λ c. search needs)
-    part-result-end-2
-    returns
-    returns-2)
+    add-to (λ c. search needs) (λ c. search needs) (λ c. search needs) part-result-end (λ c. search needs)
+    (λ c. search needs) (λ c. search needs) part-result-end-2 returns returns-2)

@@ -8,12 +8,12 @@ read-labels-requires : tie.Need-read-labels-requires
 read-labels-requires c κs = (names-chained _ _ _ _ _ _ _ _ _ (c .before .before .before .before .before .read-names .ensures), names-headed _ _ _ _ _ _ _ _ _ (c .before .before .before .before .before .read-names .ensures))
 
 returns : tie.Need-returns
-returns c = texts-read _ _ _ _ _ _ _ _ _ _ _ _ _ _ _ (c .before .before .before .before .before .before .read-names .ensures) (c .read-labels .ensures)
+returns c =
+    let c5 = c .before .before .before .before .before in
+    texts-read _ _ _ _ _ _ _ _ _ _ _ _ _ _ _ (c5 .before .read-names .ensures) (c .read-labels .ensures)
 
 pub read-texts-spec : {M : Type 1} → statement M
 read-texts-spec =
     tie.close
     (tie.spec
-    (λ c κs. search needs)
-    read-labels-requires
-    returns)
+    (λ c κs. search needs) read-labels-requires returns)

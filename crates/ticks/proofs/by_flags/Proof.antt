@@ -14,6 +14,4 @@ pub by-flags-spec : {M : Type 1} → statement M
 by-flags-spec =
     tie.close
     (tie.spec
-    (λ c κs. search needs)
-    returns
-    returns-2)
+    (λ c κs. search needs) returns returns-2)

@@ -26,12 +26,5 @@ pub first-seat-spec : {M : Type 1} → statement M
 first-seat-spec =
     tie.close
     (tie.spec
-    first-requires
-    row-of-requires
-    entry-requires
-    (λ c. search needs)
-    sub-from
-    entry-requires-2
-    (λ c. search needs)
-    (λ c. search needs)
-    returns)
+    first-requires row-of-requires entry-requires (λ c. search needs) sub-from entry-requires-2 (λ c. search needs)
+    (λ c. search needs) returns)

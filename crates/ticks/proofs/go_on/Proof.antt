@@ -37,14 +37,5 @@ pub go-on-spec : {M : Type 1} → statement M
 go-on-spec =
     tie.close
     (tie.spec
-    own-requires
-    get-requires
-    rule-requires
-    (λ c. search needs)
-    returns
-    turn-requires
-    (λ c. search needs)
-    returns-2
-    run-orders-requires
-    (λ c. search needs)
-    returns-3)
+    own-requires get-requires rule-requires (λ c. search needs) returns turn-requires (λ c. search needs) returns-2
+    run-orders-requires (λ c. search needs) returns-3)

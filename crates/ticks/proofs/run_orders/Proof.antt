@@ -40,14 +40,5 @@ pub run-orders-spec : {M : Type 1} → statement M
 run-orders-spec =
     tie.close
     (tie.spec
-    (λ c κs. search needs)
-    mul-orders
-    sub-orders
-    part-orders-start
-    (λ c. search needs)
-    orders-requires
-    sub-put
-    put-requires
-    (λ c. search needs)
-    same-length
-    returns)
+    (λ c κs. search needs) mul-orders sub-orders part-orders-start (λ c. search needs) orders-requires sub-put
+    put-requires (λ c. search needs) same-length returns)

@@ -163,33 +163,7 @@ pub ticks-spec : {M : Type 1} → statement M
 ticks-spec =
     tie.close
     (tie.spec
-    Inv-loop
-    μ-loop
-    empty-requires
-    (λ c κs. search needs)
-    (λ c. search needs)
-    returns
-    first-seat-requires
-    loop-holds
-    (λ c. search needs)
-    go-on-requires
-    add-taken
-    told-requires
-    same-length-2
-    returns-2
-    (λ c κs. search needs)
-    empty-requires-2
-    (λ c κs. search needs)
-    same-length-3
-    returns-3
-    told-requires-2
-    same-length-4
-    returns-4
-    first-seat-requires-2
-    loop-less
-    loop-again
-    loop-less-2
-    loop-again-2
-    told-requires-3
-    same-length-5
-    returns-5)
+    Inv-loop μ-loop empty-requires (λ c κs. search needs) (λ c. search needs) returns first-seat-requires loop-holds
+    (λ c. search needs) go-on-requires add-taken told-requires same-length-2 returns-2 (λ c κs. search needs)
+    empty-requires-2 (λ c κs. search needs) same-length-3 returns-3 told-requires-2 same-length-4 returns-4
+    first-seat-requires-2 loop-less loop-again loop-less-2 loop-again-2 told-requires-3 same-length-5 returns-5)

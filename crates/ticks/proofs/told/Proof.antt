@@ -17,9 +17,4 @@ pub told-spec : {M : Type 1} → statement M
 told-spec =
     tie.close
     (tie.spec
-    (λ c. search needs)
-    own-requires
-    (λ c κs. search needs)
-    (λ c. search needs)
-    returns
-    returns-2)
+    (λ c. search needs) own-requires (λ c κs. search needs) (λ c. search needs) returns returns-2)

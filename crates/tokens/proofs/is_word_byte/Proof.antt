@@ -25,8 +25,4 @@ pub is-word-byte-spec : {M : Type 1} → statement M
 is-word-byte-spec =
     tie.close
     (tie.spec
-    (λ c κs. search needs)
-    returns
-    (λ c κs. search needs)
-    returns-2
-    returns-3)
+    (λ c κs. search needs) returns (λ c κs. search needs) returns-2 returns-3)

@@ -34,7 +34,8 @@ returns-4 c =
 
 returns-5 : tie.Need-returns-5
 returns-5 c =
-    let s = c .before .before .before .before .before .before .before .before in
+    let c5 = c .before .before .before .before .before in
+    let s = c5 .before .before .before in
     comment-next _ _ _ (s .before .skip .ensures) (s .if1 .left) (c .if5 .taken)
 
 returns-6 : tie.Need-returns-6
@@ -50,20 +51,6 @@ pub next-token-spec : {M : Type 1} → statement M
 next-token-spec =
     tie.close
     (tie.spec
-    (λ c κs. search needs)
-    returns
-    (λ c. omega arith)
-    (λ c κs. search needs)
-    (λ c. omega arith)
-    (λ c κs. omega arith)
-    returns-2
-    (λ c κs. search needs)
-    (λ c. omega arith)
-    (λ c κs. omega arith)
-    returns-3
-    (λ c κs. search needs)
-    (λ c. omega arith)
-    returns-4
-    returns-5
-    (λ c. omega arith)
-    returns-6)
+    (λ c κs. search needs) returns (λ c. omega arith) (λ c κs. search needs) (λ c. omega arith) (λ c κs. omega arith)
+    returns-2 (λ c κs. search needs) (λ c. omega arith) (λ c κs. omega arith) returns-3 (λ c κs. search needs)
+    (λ c. omega arith) returns-4 returns-5 (λ c. omega arith) returns-6)

@@ -23,7 +23,9 @@ returns : tie.Need-returns Inv-loop μ-loop
 returns c = record { stay = c .before .before .before .before .loop .inv; stops = λ _. sym (c .before .is-blank .ensures) ∙ not-true _ (c .if1 .taken) }
 
 loop-again : tie.Need-loop-again Inv-loop μ-loop
-loop-again c = blank-passed _ (c .before .before .before .before .before .before .args .at) (c .before .before .before .before .loop .k) (c .before .before .before .before .loop .inv) (c .before .before .before .loop-test .taken) (sym (c .before .is-blank .ensures) ∙ not-false _ (c .if1 .left))
+loop-again c =
+    let c5 = c .before .before .before .before .before in
+    blank-passed _ (c5 .before .args .at) (c .before .before .before .before .loop .k) (c .before .before .before .before .loop .inv) (c .before .before .before .loop-test .taken) (sym (c .before .is-blank .ensures) ∙ not-false _ (c .if1 .left))
 
 returns-2 : tie.Need-returns-2 Inv-loop μ-loop
 returns-2 c = record { stay = c .before .loop .inv; stops = λ h. absurd (omega arith) }
@@ -32,13 +34,5 @@ pub skip-spec : {M : Type 1} → statement M
 skip-spec =
     tie.close
     (tie.spec
-    Inv-loop
-    μ-loop
-    loop-holds
-    (λ c. omega arith)
-    (λ c κs. search needs)
-    returns
-    (λ c. omega arith)
-    (λ c. omega arith)
-    loop-again
-    returns-2)
+    Inv-loop μ-loop loop-holds (λ c. omega arith) (λ c κs. search needs) returns (λ c. omega arith) (λ c. omega arith)
+    loop-again returns-2)

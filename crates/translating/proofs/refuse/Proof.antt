@@ -11,9 +11,5 @@ pub refuse-spec : {M : Type 1} → statement M
 refuse-spec =
     tie.close
     (tie.spec
-    (λ c κs. search needs)
-    (λ c. search needs)
-    say-refused-requires
-    (λ c. search needs)
-    (λ c. search needs)
+    (λ c κs. search needs) (λ c. search needs) say-refused-requires (λ c. search needs) (λ c. search needs)
     (λ c. search needs))

@@ -8,7 +8,8 @@ use Rattle.translating.proofs.say_refused.Tie as tie
 
 add-to : tie.Need-add-to
 add-to c =
-    let p = c .before .before .before .before .before .before in
+    let c5 = c .before .before .before .before .before in
+    let p = c5 .before in
     record { fits = within-fits (p .args .names .now) (p .args .script .now) (p .args .line) _ (p .pre .0) (omega (arith, p .pre .1)) (omega (arith, p .pre .1)) }
 
 say-refusal-requires : tie.Need-say-refusal-requires
@@ -21,11 +22,5 @@ pub say-refused-spec : {M : Type 1} → statement M
 say-refused-spec =
     tie.close
     (tie.spec
-    (λ c κs. search needs)
-    add-to
-    (λ c. search needs)
-    say-refusal-requires
-    (λ c. search needs)
-    say-refusal-requires-2
-    (λ c. search needs)
-    (λ c. search needs))
+    (λ c κs. search needs) add-to (λ c. search needs) say-refusal-requires (λ c. search needs) say-refusal-requires-2
+    (λ c. search needs) (λ c. search needs))

@@ -23,19 +23,7 @@ pub translate-files-spec : {M : Type 1} → statement M
 translate-files-spec =
     tie.close
     (tie.spec
-    (λ c. search needs)
-    (λ c κs. search needs)
-    (λ c. search needs)
-    (λ c. search needs)
-    (λ c. search needs)
-    (λ c. search needs)
-    (λ c κs. search needs)
-    (λ c. search needs)
-    (λ c. search needs)
-    (λ c. search needs)
-    array-share-prefix-names
-    slice-aggregate-translate-texts
-    array-share-prefix-script
-    slice-aggregate-translate-texts-2
-    translate-texts-requires
-    (λ c. search needs))
+    (λ c. search needs) (λ c κs. search needs) (λ c. search needs) (λ c. search needs) (λ c. search needs)
+    (λ c. search needs) (λ c κs. search needs) (λ c. search needs) (λ c. search needs) (λ c. search needs)
+    array-share-prefix-names slice-aggregate-translate-texts array-share-prefix-script slice-aggregate-translate-texts-2
+    translate-texts-requires (λ c. search needs))

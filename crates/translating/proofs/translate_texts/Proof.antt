@@ -16,13 +16,5 @@ pub translate-texts-spec : {M : Type 1} → statement M
 translate-texts-spec =
     tie.close
     (tie.spec
-    (λ c. search needs)
-    (λ c κs. search needs)
-    (λ c. search needs)
-    (λ c κs. search needs)
-    (λ c. search needs)
-    array-share-prefix-words
-    slice-aggregate-save
-    (λ c κs. search needs)
-    (λ c. search needs)
-    (λ c. search needs))
+    (λ c. search needs) (λ c κs. search needs) (λ c. search needs) (λ c κs. search needs) (λ c. search needs)
+    array-share-prefix-words slice-aggregate-save (λ c κs. search needs) (λ c. search needs) (λ c. search needs))

@@ -14,6 +14,4 @@ pub in-range-spec : {M : Type 1} → statement M
 in-range-spec =
     tie.close
     (tie.spec
-    (λ c. search needs)
-    returns
-    returns-2)
+    (λ c. search needs) returns returns-2)

@@ -11,5 +11,4 @@ pub multiplied-spec : {M : Type 1} → statement M
 multiplied-spec =
     tie.close
     (tie.spec
-    mul-result
-    (λ c. search needs))
+    mul-result (λ c. search needs))

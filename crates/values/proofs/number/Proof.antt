@@ -41,13 +41,4 @@ pub number-spec : {M : Type 1} → statement M
 number-spec =
     tie.close
     (tie.spec
-    Inv-loop
-    μ-loop
-    loop-holds
-    shared-slice-read-more
-    more-requires
-    add-k
-    loop-less
-    loop-again
-    (λ c κs. tt)
-    returns)
+    Inv-loop μ-loop loop-holds shared-slice-read-more more-requires add-k loop-less loop-again (λ c κs. tt) returns)

@@ -14,7 +14,4 @@ pub ready-spec : {M : Type 1} → statement M
 ready-spec =
     tie.close
     (tie.spec
-    (λ c κs. search needs)
-    append-requires
-    (λ c. search needs)
-    returns)
+    (λ c κs. search needs) append-requires (λ c. search needs) returns)

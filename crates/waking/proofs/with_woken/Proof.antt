@@ -17,9 +17,4 @@ pub with-woken-spec : {M : Type 1} → statement M
 with-woken-spec =
     tie.close
     (tie.spec
-    (λ c. search needs)
-    wake-requires
-    (λ c. search needs)
-    (λ c. search needs)
-    returns
-    returns-2)
+    (λ c. search needs) wake-requires (λ c. search needs) (λ c. search needs) returns returns-2)

@@ -18,7 +18,4 @@ pub append-spec : {M : Type 1} → statement M
 append-spec =
     tie.close
     (tie.spec
-    queue-place-requires
-    append-at-requires
-    (λ c. search needs)
-    returns)
+    queue-place-requires append-at-requires (λ c. search needs) returns)

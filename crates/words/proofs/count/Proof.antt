@@ -17,6 +17,4 @@ pub count-spec : {M : Type 1} → statement M
 count-spec =
     tie.close
     (tie.spec
-    queue-place-requires
-    count-at-requires
-    returns)
+    queue-place-requires count-at-requires returns)

@@ -17,6 +17,4 @@ pub first-spec : {M : Type 1} → statement M
 first-spec =
     tie.close
     (tie.spec
-    queue-place-requires
-    first-at-requires
-    returns)
+    queue-place-requires first-at-requires returns)

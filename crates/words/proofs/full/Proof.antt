@@ -17,6 +17,4 @@ pub full-spec : {M : Type 1} → statement M
 full-spec =
     tie.close
     (tie.spec
-    queue-place-requires
-    full-at-requires
-    returns)
+    queue-place-requires full-at-requires returns)

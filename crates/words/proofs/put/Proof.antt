@@ -18,8 +18,4 @@ pub put-spec : {M : Type 1} → statement M
 put-spec =
     tie.close
     (tie.spec
-    (λ c κs. search needs)
-    place-of-requires
-    store-requires
-    (λ c. search needs)
-    returns)
+    (λ c κs. search needs) place-of-requires store-requires (λ c. search needs) returns)

@@ -14,6 +14,4 @@ pub queue-place-spec : {M : Type 1} → statement M
 queue-place-spec =
     tie.close
     (tie.spec
-    (λ c κs. search needs)
-    place-of-requires
-    returns)
+    (λ c κs. search needs) place-of-requires returns)

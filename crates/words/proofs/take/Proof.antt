@@ -18,7 +18,4 @@ pub take-spec : {M : Type 1} → statement M
 take-spec =
     tie.close
     (tie.spec
-    queue-place-requires
-    take-at-requires
-    (λ c. search needs)
-    returns)
+    queue-place-requires take-at-requires (λ c. search needs) returns)

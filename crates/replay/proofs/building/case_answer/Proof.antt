@@ -15,16 +15,6 @@ pub case-answer-spec : {M : Type 1} → statement M
 case-answer-spec =
     tie.close
     (tie.spec
-    (λ c. search needs)
-    (λ c κs. search needs)
-    (λ c. search needs)
-    (λ c. search needs)
-    (λ c. search needs)
-    (λ c. search needs)
-    slice-aggregate-built-answer
-    (λ c. search needs)
-    slice-aggregate-built-answer-2
-    (λ c κs. search needs)
-    (λ c. search needs)
-    (λ c. search needs)
-    (λ c. search needs))
+    (λ c. search needs) (λ c κs. search needs) (λ c. search needs) (λ c. search needs) (λ c. search needs)
+    (λ c. search needs) slice-aggregate-built-answer (λ c. search needs) slice-aggregate-built-answer-2
+    (λ c κs. search needs) (λ c. search needs) (λ c. search needs) (λ c. search needs))

@@ -18,21 +18,7 @@ pub case-answer-spec : {M : Type 1} → statement M
 case-answer-spec =
     tie.close
     (tie.spec
-    (λ c. search needs)
-    (λ c. search needs)
-    (λ c κs. search needs)
-    (λ c. search needs)
-    (λ c. search needs)
-    (λ c. search needs)
-    (λ c. search needs)
-    (λ c. search needs)
-    slice-aggregate-text-answer
-    (λ c. search needs)
-    slice-aggregate-text-answer-2
-    (λ c. search needs)
-    slice-aggregate-text-answer-3
-    (λ c κs. search needs)
-    (λ c. search needs)
-    (λ c. search needs)
-    (λ c. search needs)
-    (λ c. search needs))
+    (λ c. search needs) (λ c. search needs) (λ c κs. search needs) (λ c. search needs) (λ c. search needs)
+    (λ c. search needs) (λ c. search needs) (λ c. search needs) slice-aggregate-text-answer (λ c. search needs)
+    slice-aggregate-text-answer-2 (λ c. search needs) slice-aggregate-text-answer-3 (λ c κs. search needs)
+    (λ c. search needs) (λ c. search needs) (λ c. search needs) (λ c. search needs))

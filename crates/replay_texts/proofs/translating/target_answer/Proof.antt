@@ -12,9 +12,5 @@ pub target-answer-spec : {M : Type 1} → statement M
 target-answer-spec =
     tie.close
     (tie.spec
-    slice-aggregate-stored-answer
-    (λ c κs. search needs)
-    (λ c κs. search needs)
-    (λ c κs. search needs)
-    (λ c κs. search needs)
-    (λ c. search needs))
+    slice-aggregate-stored-answer (λ c κs. search needs) (λ c κs. search needs) (λ c κs. search needs)
+    (λ c κs. search needs) (λ c. search needs))

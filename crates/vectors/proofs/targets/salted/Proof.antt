@@ -12,7 +12,4 @@ pub salted-spec : {M : Type 1} → statement M
 salted-spec =
     tie.close
     (tie.spec
-    (λ c. search needs)
-    (λ c. search needs)
-    (λ c. search needs)
-    returns)
+    (λ c. search needs) (λ c. search needs) (λ c. search needs) returns)

@@ -15,12 +15,5 @@ pub stored-part-spec : {M : Type 1} → statement M
 stored-part-spec =
     tie.close
     (tie.spec
-    (λ c. search needs)
-    (λ c κs. search needs)
-    (λ c. search needs)
-    (λ c. search needs)
-    (λ c. search needs)
-    slice-aggregate-are-same
-    are-same-requires
-    (λ c κs. search needs)
-    (λ c. search needs))
+    (λ c. search needs) (λ c κs. search needs) (λ c. search needs) (λ c. search needs) (λ c. search needs)
+    slice-aggregate-are-same are-same-requires (λ c κs. search needs) (λ c. search needs))
