@@ -1,4 +1,4 @@
--- Assumes nothing.
+-- The size tells a refused plan; a target of just that length takes the fresh image, any other is refused.
 use Rattle.builds.specs.Needs.{refused-plan, refused-target, built-plan, sized-fine, sized-total, sized-plan, target-long}
 use borrow.Author.Needs.{needs}
 use Rattle.builds.proofs.build.Statement.{statement}

@@ -1,4 +1,4 @@
--- Assumes nothing.
+-- The three kinds of buffers follow one another, and the words of each are clear till it is written.
 use native.Mathlib.Omega.{arith}
 use Rattle.headers.specs.Needs.{square-small}
 use Rattle.writes.specs.Written.{kept-length}

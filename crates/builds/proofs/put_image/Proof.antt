@@ -1,4 +1,4 @@
--- Assumes nothing.
+-- All before the segments is cleared first; then the parts follow one another and make the whole image.
 use Rattle.builds.specs.Needs.{first-room, first-blank, still-long, tables-room, buffers-room, rest-room, tables-blank, buffers-blank, image-made}
 use borrow.Author.Needs.{needs}
 use Rattle.builds.proofs.put_image.Statement.{statement}

@@ -1,4 +1,4 @@
--- Assumes nothing.
+-- The leading words are those of a full queue of N, and the tasks follow in order.
 use native.Mathlib.Omega.{arith}
 use Rattle.writes.specs.Written.{kept-length}
 use Rattle.parts.specs.Needs.{plan-few, then-on}

@@ -1,4 +1,4 @@
--- Assumes nothing.
+-- The ports are clear already, and the segment table and the segments follow them up to T.
 use native.Mathlib.Omega.{arith}
 use Rattle.builds.specs.Needs.{table-small, table-room, segments-room, ports-clear, rest-made, rest-ends}
 use borrow.Author.Needs.{needs}

@@ -1,4 +1,4 @@
--- Assumes nothing.
+-- Each part begins where the one before ends, and the words of the status table are clear already.
 use native.Mathlib.Omega.{arith}
 use Rattle.parts.specs.Needs.{plan-fit}
 use Rattle.builds.specs.Needs.{tasks-clear, status-clear, tables-made}

@@ -1,4 +1,4 @@
--- The bytes of the words passed are put. Assumes nothing.
+-- The bytes of the words passed are put.
 use Prim.Native.Nat.{_-_}
 use native.Mathlib.Omega.{arith}
 use lib.ListN.{length}

@@ -1,4 +1,4 @@
--- The place in the words rises with each chunk. Assumes nothing.
+-- The place in the words rises with each chunk.
 use mathlib.Core.Path.{_≡_, sym}
 use Prim.Native.Nat.{_-_, _≤_}
 use native.Mathlib.Omega.{arith}

@@ -1,4 +1,4 @@
--- The lines that are written, and what is left to print, make the whole; the image is as long as before. Assumes nothing.
+-- The lines that are written, and what is left to print, make the whole; the image is as long as before.
 use mathlib.Core.Path.{_≡_, refl, _∙_}
 use Prim.Native.Nat.{_-_}
 use native.Mathlib.Omega.{arith}

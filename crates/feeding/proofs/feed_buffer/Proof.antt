@@ -1,4 +1,4 @@
--- Assumes nothing.
+-- Only the bytes found are lent, and a full buffer holds whole events, so any rest goes on where they end.
 use mathlib.Core.Path.{sym}
 use Rattle.feeding.specs.Needs.{found-length, found-numbers, found-room, found-rest}
 use borrow.Author.Needs.{needs}

@@ -1,4 +1,4 @@
--- Assumes nothing.
+-- The line of a malformed event is written after the others, and no event more is taken.
 use mathlib.Core.Path.{refl}
 use borrow.Author.Needs.{needs}
 use Rattle.feeding.proofs.feed_short.Statement.{statement}

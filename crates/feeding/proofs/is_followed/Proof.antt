@@ -1,4 +1,4 @@
--- Where no event was refused, the count that was found decides. Assumes nothing.
+-- Where no event was refused, the count that was found decides.
 use borrow.Author.Needs.{needs}
 use Rattle.feeding.proofs.is_followed.Statement.{statement}
 use Rattle.feeding.proofs.is_followed.Tie as tie

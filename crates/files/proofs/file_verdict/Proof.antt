@@ -1,4 +1,4 @@
--- Assumes nothing.
+-- An odd file is refused; else the words found decide, as a rest follows only a plan that is too long already.
 use mathlib.Core.Path.{sym, _∙_, ap}
 use Rattle.paper.specs.Numbers.{check-plan}
 use Rattle.paper.specs.declared.Refusal.{Refusal}

@@ -1,4 +1,4 @@
--- What is written, and the words of the bytes that are left, make the whole. Assumes nothing.
+-- What is written, and the words of the bytes that are left, make the whole.
 use Prim.Native.Nat.{_-_}
 use native.Mathlib.Omega.{arith}
 use lib.ListN.{length}

@@ -1,4 +1,4 @@
--- Assumes nothing.
+-- The words stand at the front of their buffer, and these alone are lent for the verdict on the file.
 use mathlib.Core.Path.{sym}
 use lib.Seq.{length-take-le}
 use Rattle.files.specs.Needs.{few-bytes, words-inside, words-taken, plan-read}

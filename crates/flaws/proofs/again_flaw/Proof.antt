@@ -1,4 +1,4 @@
--- Assumes nothing.
+-- A name or label is at fault just where it was found before.
 use borrow.Author.Needs.{needs}
 use Rattle.flaws.proofs.again_flaw.Statement.{statement}
 use Rattle.flaws.proofs.again_flaw.Tie as tie

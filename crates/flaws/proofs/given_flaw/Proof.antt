@@ -1,4 +1,4 @@
--- Assumes nothing.
+-- Outside the grammar is a flaw, a line that gives nothing has none, any other has that of its value.
 use borrow.Author.Needs.{needs}
 use Rattle.flaws.proofs.given_flaw.Statement.{statement}
 use Rattle.flaws.proofs.given_flaw.Tie as tie

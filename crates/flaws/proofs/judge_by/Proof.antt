@@ -1,4 +1,4 @@
--- Assumes nothing.
+-- A fault refuses its line; without one, the count of words stands.
 use borrow.Author.Needs.{needs}
 use Rattle.flaws.proofs.judge_by.Statement.{statement}
 use Rattle.flaws.proofs.judge_by.Tie as tie

@@ -1,4 +1,4 @@
--- Assumes nothing.
+-- A flaw is noted where there is no fault yet or its number is lower; else the fault stays.
 use borrow.Author.Needs.{needs}
 use Rattle.flaws.specs.Laws.{goes-before, goes-not-before}
 use Rattle.flaws.proofs.noted.Statement.{statement}

@@ -1,4 +1,4 @@
--- Assumes nothing.
+-- A value in range has no flaw; a missing name and a value past the range have one each.
 use borrow.Author.Needs.{needs}
 use Rattle.flaws.proofs.worked_flaw.Statement.{statement}
 use Rattle.flaws.proofs.worked_flaw.Tie as tie

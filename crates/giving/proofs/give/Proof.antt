@@ -1,4 +1,4 @@
--- Assumes nothing.
+-- Where the table has room the entry is inserted and counted; where it is full nothing changes.
 use Prim.Native.Nat.{_<_}
 use native.Mathlib.Omega.{arith}
 use Rattle.tables.specs.Tables.{most}

@@ -1,4 +1,4 @@
--- Assumes nothing.
+-- All events passed are ticks: four or eight of them are passed only where all their words are 0.
 use Prim.Native.Nat.{_-_, _≤_}
 use native.Mathlib.Omega.{arith}
 use Rattle.happening.specs.Ahead.{Ahead, ahead-none, ahead-four, ahead-eight}

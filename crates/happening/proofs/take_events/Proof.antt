@@ -1,4 +1,4 @@
--- So many events are taken, and the rest of the list is left. Assumes nothing.
+-- So many events are taken, and the rest of the list is left.
 use Prim.Native.Nat.{_-_, _≤_}
 use native.Mathlib.Omega.{arith}
 use mathlib.Core.Logic.{⊎-elim}

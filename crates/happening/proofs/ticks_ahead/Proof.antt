@@ -1,4 +1,4 @@
--- Assumes nothing.
+-- All events passed are ticks; the one where it stops is none, or no event is left.
 use Prim.Native.Nat.{_-_, _≤_}
 use native.Mathlib.Omega.{arith}
 use Rattle.happening.specs.Ahead.{Ahead, ahead-one, stops-here, stops-last}

@@ -1,4 +1,4 @@
--- Assumes nothing.
+-- After k words the answer tells whether all of these are 0.
 use Prim.Native.Nat.{_-_, _≤_}
 use mathlib.Core.Path.{_≡_}
 use native.Mathlib.Omega.{arith}

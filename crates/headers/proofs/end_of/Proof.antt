@@ -1,4 +1,4 @@
--- Assumes nothing.
+-- The end is the start and all rows, and it is small because rows and width are.
 use native.Mathlib.Omega.{arith}
 use mathlib.Core.Path.{refl}
 use Rattle.headers.specs.Needs.{part-small}

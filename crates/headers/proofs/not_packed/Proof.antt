@@ -1,4 +1,4 @@
--- Assumes nothing.
+-- The shape is packed just where its nine offsets are those that its other numbers give.
 use borrow.Author.Needs.{needs}
 use Rattle.headers.specs.Needs.{packed-tested}
 use Rattle.headers.proofs.not_packed.Statement.{statement}

@@ -1,4 +1,4 @@
--- Assumes nothing.
+-- Each part starts where the one before ends, and all the numbers are small enough to add.
 use native.Mathlib.Omega.{arith}
 use Rattle.headers.specs.Needs.{square-small, offsets-made}
 use borrow.Author.Needs.{needs}

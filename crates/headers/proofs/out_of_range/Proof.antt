@@ -1,4 +1,4 @@
--- Assumes nothing.
+-- A shape is in range just where all five of its numbers are within their bounds.
 use Rattle.headers.specs.Needs.{range-tested}
 use borrow.Author.Needs.{needs}
 use Rattle.headers.proofs.out_of_range.Statement.{statement}

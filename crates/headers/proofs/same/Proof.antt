@@ -1,4 +1,4 @@
--- The entries before k are the same. Assumes nothing.
+-- The entries before k are the same.
 use mathlib.Core.Path.{_≡_, sym}
 use mathlib.Core.Bool.{true}
 use Prim.Native.Nat.{_-_, _≤_}

@@ -1,4 +1,4 @@
--- The segments of the tasks before k are right, and the next is to start at end. Assumes nothing.
+-- The segments of the tasks before k are right, and the next is to start at end.
 use mathlib.Core.Path.{_≡_, sym, _∙_}
 use mathlib.Core.List.{List}
 use mathlib.Core.Bool.{true}

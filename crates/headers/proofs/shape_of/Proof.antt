@@ -1,4 +1,4 @@
--- Assumes nothing.
+-- Each number is read from its word of the header; the segments have as many words as T is past their start.
 use Rattle.headers.specs.Needs.{shape-read}
 use borrow.Author.Needs.{needs}
 use Rattle.headers.proofs.shape_of.Statement.{statement}

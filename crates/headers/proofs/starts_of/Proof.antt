@@ -1,4 +1,4 @@
--- Assumes nothing.
+-- The nine words are read from the header in the order of the offsets.
 use Rattle.headers.specs.Needs.{starts-read}
 use borrow.Author.Needs.{needs}
 use Rattle.headers.proofs.starts_of.Statement.{statement}

@@ -1,4 +1,4 @@
--- Assumes nothing.
+-- Below the list's end its word is read; past it the definition has 0, too.
 use Rattle.headers.specs.Needs.{past-end}
 use borrow.Author.Needs.{needs}
 use Rattle.headers.proofs.word_or_zero.Statement.{statement}

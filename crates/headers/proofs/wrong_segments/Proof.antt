@@ -1,4 +1,4 @@
--- Assumes nothing.
+-- T must reach the segments, be small enough and be the image's length; then the segments decide.
 use Rattle.headers.specs.Needs.{before-first, too-large, not-its-length, has-size, segments-tested}
 use borrow.Author.Needs.{needs}
 use Rattle.headers.proofs.wrong_segments.Statement.{statement}

@@ -1,4 +1,4 @@
--- Assumes nothing.
+-- The number is that of the verdict on the image.
 use borrow.Author.Needs.{needs}
 use Rattle.inspect.specs.Needs.{numbered}
 use Rattle.inspect.proofs.check.Statement.{statement}

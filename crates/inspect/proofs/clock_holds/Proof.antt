@@ -1,4 +1,4 @@
--- Assumes nothing.
+-- The clock is at most the slice, and 0 where the ready queue is empty: both are tested.
 use Rattle.inspect.specs.Needs.{clock-tested}
 use borrow.Author.Needs.{needs}
 use Rattle.inspect.proofs.clock_holds.Statement.{statement}

@@ -1,4 +1,4 @@
--- Assumes nothing.
+-- One rule that fails makes the whole fail; where all others hold, those of the tasks decide.
 use borrow.Author.Tests.{not-false}
 use Rattle.rules.specs.Rows.{none-found}
 use Rattle.inspect.specs.Needs.{ready-fails, clock-fails, buffers-fail, characters-fail, others-fail, rules-tested, passed-so}

@@ -1,4 +1,4 @@
--- Assumes nothing.
+-- The rules of the task's buffers hold already, so the other four decide.
 use Rattle.inspect.specs.Needs.{once-fails, port-fails, flags-fail, task-tested}
 use borrow.Author.Needs.{needs}
 use Rattle.inspect.proofs.task_holds.Statement.{statement}

@@ -1,4 +1,4 @@
--- The rules of the tasks before k hold. Assumes nothing.
+-- The rules of the tasks before k hold.
 use mathlib.Core.Path.{_≡_, sym, _∙_}
 use mathlib.Core.Bool.{true}
 use Prim.Native.Nat.{_-_, _≤_}

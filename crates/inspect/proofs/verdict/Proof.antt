@@ -1,4 +1,4 @@
--- Assumes nothing.
+-- The first test that fails gives the refusal, and each that passes gives what the next one needs.
 use Rattle.inspect.specs.Needs.{too-short-so, not-marked-so, out-of-range-so, ranged-so, not-packed-so, packed-so, wrong-segments-so, sized-so, rule-broken-so, fine-so}
 use borrow.Author.Needs.{needs}
 use Rattle.inspect.proofs.verdict.Statement.{statement}

@@ -1,4 +1,4 @@
--- A number lies in its text. Assumes nothing.
+-- A number lies in its text.
 use Rattle.joining.specs.Texts.{number-end, number-digits}
 use borrow.Author.Needs.{needs}
 use Rattle.joining.proofs.leading.Statement.{statement}

@@ -1,4 +1,4 @@
--- The pairs of a plan lie in it. Assumes nothing.
+-- The pairs of a plan lie in it.
 use borrow.Author.Needs.{needs}
 use Prim.Native.Nat.{_-_, _≤_}
 use Rattle.joining.proofs.pairs_cause.Statement.{statement}

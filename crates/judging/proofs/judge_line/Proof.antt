@@ -1,4 +1,4 @@
--- Assumes nothing.
+-- The lower of the label's flaw and that of what is given is noted, and the words given are counted.
 use mathlib.Core.Path.{refl}
 use native.Mathlib.Omega.{arith}
 use Rattle.tables.specs.Tables.{table}

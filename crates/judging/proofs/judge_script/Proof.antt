@@ -1,4 +1,4 @@
--- The invariant: the lines left, judged from what the lines so far have left, come to what all lines come to. The measure is what is left of the script. Assumes nothing.
+-- The invariant: the lines left, judged from what the lines so far have left, come to what all lines come to. The measure is what is left of the script.
 use Prim.Native.Nat.{_-_}
 use native.Mathlib.Omega.{arith}
 use lib.ListN.{length}

@@ -1,4 +1,4 @@
--- Assumes nothing.
+-- There is one entry more while the table has room, and none more when it is full.
 use Rattle.judging.specs.Laws.{has-one-more, has-no-more}
 use borrow.Author.Needs.{needs}
 use Rattle.judging.proofs.next_above.Statement.{statement}

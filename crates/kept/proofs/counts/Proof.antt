@@ -1,4 +1,4 @@
--- `kept::counts` meets its contract: each way is one case of what a byte counts. Assumes nothing.
+-- `kept::counts` meets its contract: each way is one case of what a byte counts.
 use borrow.Author.Needs.{needs}
 use Rattle.kept.specs.Laws.{counts-before, counts-after, counts-among}
 use Rattle.kept.proofs.counts.Statement.{statement}

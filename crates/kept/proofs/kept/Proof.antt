@@ -1,4 +1,4 @@
--- `kept::kept` meets its contract: a long word is free, a register is told by its digit, and any other word by its number. Assumes nothing.
+-- `kept::kept` meets its contract: a long word is free, a register is told by its digit, and any other word by its number.
 use mathlib.Core.Bool.{true}
 use mathlib.Core.Path.{_≡_, sym, ap, _∙_}
 use native.Mathlib.Omega.{arith}

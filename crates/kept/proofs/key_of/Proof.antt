@@ -1,4 +1,4 @@
--- `kept::key_of` meets its contract. The loop's invariant: the sum is the number of the word from `k` on. The measure is `k`. Assumes nothing.
+-- `kept::key_of` meets its contract. The loop's invariant: the sum is the number of the word from `k` on. The measure is `k`.
 use mathlib.Core.Path.{_≡_}
 use Prim.Native.Nat.{_≤_}
 use native.Mathlib.Omega.{arith}

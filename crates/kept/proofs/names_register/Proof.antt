@@ -1,4 +1,4 @@
--- `kept::names_register` meets its contract: each way is one law of what names a register. Assumes nothing.
+-- `kept::names_register` meets its contract: each way is one law of what names a register.
 use borrow.Author.Needs.{needs}
 use Rattle.kept.specs.Laws.{another-length, another-letter, lower-digit, digit-decides}
 use Rattle.kept.proofs.names_register.Statement.{statement}

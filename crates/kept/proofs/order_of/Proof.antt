@@ -1,4 +1,4 @@
--- `kept::order_of` meets its contract: the numbers of the arms are those of the order names. Assumes nothing.
+-- `kept::order_of` meets its contract: the numbers of the arms are those of the order names.
 use mathlib.Core.List.{List, [], _∷_, map, reverse}
 use mathlib.Core.Logic.{⊎-elim}
 use mathlib.Core.Path.{_≡_, refl, sym, ap}

@@ -1,4 +1,4 @@
--- Assumes nothing.
+-- A good image takes the event as one step; any other is refused and left as it is.
 use Rattle.laws.specs.Events.{inspected-lawful}
 use Rattle.kernel.specs.Needs.{event-fine, event-refused}
 use borrow.Author.Needs.{needs}

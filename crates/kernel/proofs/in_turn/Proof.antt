@@ -1,4 +1,4 @@
--- Assumes nothing.
+-- A refusal stands; where there is none, the later verdict does.
 use Rattle.kernel.specs.Needs.{turn-fine, turn-refused}
 use borrow.Author.Needs.{needs}
 use Rattle.kernel.proofs.in_turn.Statement.{statement}

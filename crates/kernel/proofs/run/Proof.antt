@@ -1,4 +1,4 @@
--- Assumes nothing.
+-- On a good image, whole events are taken up to the first refused one; else none is taken.
 use Rattle.kernel.specs.Needs.{run-lawful, run-whole, run-fine, run-refused}
 use borrow.Author.Needs.{needs}
 use Rattle.kernel.proofs.run.Statement.{statement}

@@ -1,4 +1,4 @@
--- Assumes nothing.
+-- A run stops with the refusal of its last event, or with none where that was accepted.
 use Rattle.kernel.specs.Needs.{stops-refused}
 use borrow.Author.Needs.{needs}
 use Rattle.kernel.proofs.stop_of.Statement.{statement}

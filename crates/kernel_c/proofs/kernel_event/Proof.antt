@@ -1,4 +1,4 @@
--- Assumes nothing.
+-- What the event answers is told in numbers, and the image is as it leaves it.
 use Rattle.kernel_c.specs.Needs.{happens-is}
 use borrow.Author.Needs.{needs}
 use Rattle.kernel_c.proofs.kernel_event.Statement.{statement}

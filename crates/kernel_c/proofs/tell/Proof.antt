@@ -1,4 +1,4 @@
--- Assumes nothing.
+-- An accepted event is told by 0, its kind and its task, a refused one by its number and no answer.
 use Rattle.kernel_c.specs.Needs.{accepted-number, accepted-kind, accepted-task, refused-number, refused-kind, refused-task}
 use borrow.Author.Needs.{needs}
 use Rattle.kernel_c.proofs.tell.Statement.{statement}

@@ -1,4 +1,4 @@
--- `read_label` meets its contract, by a law of a line without a label and one of a line with one. Assumes nothing.
+-- `read_label` meets its contract, by a law of a line without a label and one of a line with one.
 use native.Mathlib.Omega.{arith}
 use borrow.Author.Needs.{needs}
 use Rattle.giving.specs.Lines.{Stands}

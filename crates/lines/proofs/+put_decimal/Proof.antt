@@ -1,4 +1,4 @@
--- The measure is the number, which falls to its tenth. Assumes nothing.
+-- The measure is the number, which falls to its tenth.
 use native.Mathlib.Omega.{arith}
 use Rattle.writes.specs.Written.{kept-length}
 use Rattle.lines.specs.Lines.{one-made, more-made, one-long, more-long}

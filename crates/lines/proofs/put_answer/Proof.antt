@@ -1,4 +1,4 @@
--- Assumes nothing.
+-- The kind, the task and the line's end follow one another, and both numbers are short enough for the room.
 use native.Mathlib.Omega.{arith}
 use Rattle.writes.specs.Written.{kept-length}
 use Rattle.lines.specs.Lines.{kind-short, task-short, answer-made}

@@ -1,4 +1,4 @@
--- Assumes nothing.
+-- The byte is written at its place, and the next goes one further.
 use mathlib.Core.Path.{refl}
 use Rattle.writes.specs.Written.{written-one}
 use borrow.Author.Needs.{needs}

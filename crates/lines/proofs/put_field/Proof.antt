@@ -1,4 +1,4 @@
--- Assumes nothing.
+-- The space is written, and the digits follow it.
 use native.Mathlib.Omega.{arith}
 use Rattle.lines.specs.Lines.{two-made}
 use borrow.Author.Needs.{needs}

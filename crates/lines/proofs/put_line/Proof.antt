@@ -1,4 +1,4 @@
--- Assumes nothing.
+-- The event's number is short enough for the room, and the answer or the refusal follows it.
 use native.Mathlib.Omega.{arith}
 use Rattle.writes.specs.Written.{kept-length}
 use Rattle.lines.specs.Lines.{event-short, accepted-made, refused-made}

@@ -1,4 +1,4 @@
--- Assumes nothing.
+-- The text, the number and the line's end follow one another, and the number is short enough for the room.
 use native.Mathlib.Omega.{arith}
 use Rattle.writes.specs.Written.{kept-length}
 use Rattle.lines.specs.Lines.{number-short, refusal-made}

@@ -1,4 +1,4 @@
--- k bytes of the text are written. Assumes nothing.
+-- k bytes of the text are written.
 use mathlib.Core.Path.{_≡_, sym}
 use Prim.Native.Nat.{_-_, _≤_}
 use native.Mathlib.Omega.{arith}

@@ -1,4 +1,4 @@
--- Assumes nothing.
+-- An unknown op or service faults; any other service becomes pending in the flags, with R0 past the order.
 use lib.Dec.{lit≤}
 use Rattle.machine.specs.Holding.{is-near, is-some}
 use Rattle.machine.specs.Deciding.{is-inside, unknown-op, unknown-service}

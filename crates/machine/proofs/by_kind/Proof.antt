@@ -1,4 +1,4 @@
--- Assumes nothing.
+-- The kind tells which order it is, or that it has two registers; what is no other is a jump.
 use Rattle.machine.specs.Choosing.{is-load, is-return, is-call, is-two, is-jump}
 use borrow.Author.Needs.{needs}
 use Rattle.machine.proofs.by_kind.Statement.{statement}

@@ -1,4 +1,4 @@
--- Assumes nothing.
+-- The flags become the condition of the two words, and R0 in hand goes one word on.
 use Rattle.machine.specs.Answering.{on-at, written}
 use borrow.Author.Needs.{needs}
 use Rattle.machine.proofs.compares.Statement.{statement}

@@ -1,4 +1,4 @@
--- Assumes nothing.
+-- R0 in hand is written back, and the error is added to flags that have none.
 use Rattle.machine.specs.Holding.{is-some, is-from, is-low}
 use Rattle.machine.specs.Answering.{held-row, held-room}
 use Rattle.machine.specs.Carrying.{fault-went}

@@ -1,4 +1,4 @@
--- Assumes nothing.
+-- A bit that the order's entry wants 0 makes it a bad order; else the entry's kind is the order's.
 use Rattle.machine.specs.Deciding.{bad-fields, is-fetched}
 use Rattle.machine.specs.Choosing.{fell-after, kind-is}
 use borrow.Author.Needs.{needs}

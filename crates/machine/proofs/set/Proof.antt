@@ -1,4 +1,4 @@
--- Assumes nothing.
+-- The register gets its word, and the row of orders ends just where it is R0.
 use Rattle.machine.specs.Answering.{set-off, set-on}
 use borrow.Author.Needs.{needs}
 use Rattle.machine.proofs.set.Statement.{statement}

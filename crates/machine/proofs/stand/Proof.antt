@@ -1,4 +1,4 @@
--- Assumes nothing.
+-- R0 becomes the address that leads where R0 in hand does.
 use Rattle.machine.specs.Answering.{stood}
 use borrow.Author.Needs.{needs}
 use Rattle.machine.proofs.stand.Statement.{statement}

@@ -1,4 +1,4 @@
--- `read_name` meets its contract, by the law of each of the three things that a line of the names can be. Assumes nothing.
+-- `read_name` meets its contract, by the law of each of the three things that a line of the names can be.
 use native.Mathlib.Omega.{arith}
 use borrow.Author.Needs.{needs}
 use Rattle.giving.specs.Lines.{Stands}

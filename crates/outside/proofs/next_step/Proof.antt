@@ -1,4 +1,4 @@
--- A mark leaves fewer tokens. Assumes nothing.
+-- A mark leaves fewer tokens.
 use Rattle.outside.specs.Reasons.{steps-mark}
 use borrow.Author.Needs.{needs}
 use Rattle.outside.proofs.next_step.Statement.{statement}

@@ -1,4 +1,4 @@
--- Each token of a sum leaves fewer. Assumes nothing.
+-- Each token of a sum leaves fewer.
 use borrow.Author.Needs.{needs}
 use Rattle.outside.specs.Reasons.{left, step-stops, step-goes}
 use Rattle.outside.proofs.sum_reason.Statement.{statement}

@@ -1,4 +1,4 @@
--- The tokens from a place on are those that the next one shows. Assumes nothing.
+-- The tokens from a place on are those that the next one shows.
 use Rattle.outside.specs.Reasons.{steps-from, steps-from-any}
 use borrow.Author.Needs.{needs}
 use Rattle.outside.proofs.sum_step.Statement.{statement}

@@ -1,4 +1,4 @@
--- A token that is known lies in the line and leaves fewer. Assumes nothing.
+-- A token that is known lies in the line and leaves fewer.
 use Rattle.outside.specs.Reasons.{word-order, word-end, past-word, past-number, steps-mark}
 use borrow.Author.Needs.{needs}
 use Rattle.outside.proofs.term_step.Statement.{statement}

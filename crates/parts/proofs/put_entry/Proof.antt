@@ -1,4 +1,4 @@
--- Assumes nothing.
+-- The base is written, and the length follows it.
 use native.Mathlib.Omega.{arith}
 use Rattle.parts.specs.Needs.{then-on}
 use borrow.Author.Needs.{needs}

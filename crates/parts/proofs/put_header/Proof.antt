@@ -1,4 +1,4 @@
--- Assumes nothing.
+-- The words are those of the header and the clock, and each is small enough for a word.
 use mathlib.Core.Path.{_∙_}
 use native.Mathlib.Omega.{arith}
 use lib.Dec.{lit<}

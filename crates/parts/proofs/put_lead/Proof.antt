@@ -1,4 +1,4 @@
--- Assumes nothing.
+-- Head and tail are 0, and the count and the capacity follow them.
 use native.Mathlib.Omega.{arith}
 use Rattle.parts.specs.Needs.{then-again}
 use borrow.Author.Needs.{needs}

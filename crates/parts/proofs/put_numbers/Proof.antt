@@ -1,4 +1,4 @@
--- The numbers before k are written. Assumes nothing.
+-- The numbers before k are written.
 use mathlib.Core.Path.{refl}
 use mathlib.Core.List.{[], _∷_}
 use Prim.Native.Nat.{_-_, _≤_}

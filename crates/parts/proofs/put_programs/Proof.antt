@@ -1,4 +1,4 @@
--- The segments before k are written, and where the next program starts is known. Assumes nothing.
+-- The segments before k are written, and where the next program starts is known.
 use mathlib.Core.Path.{_≡_, refl}
 use Prim.Native.Nat.{_-_, _≤_}
 use native.Mathlib.Omega.{arith}

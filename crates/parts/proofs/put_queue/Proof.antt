@@ -1,4 +1,4 @@
--- Assumes nothing.
+-- Where the words are clear, a fresh queue has only its capacity to be written.
 use native.Mathlib.Omega.{arith}
 use Rattle.parts.specs.Needs.{queue-in-clear}
 use borrow.Author.Needs.{needs}

@@ -1,4 +1,4 @@
--- The queues before row k are written. Assumes nothing.
+-- The queues before row k are written.
 use Prim.Native.Nat.{_+_, _-_, _≤_}
 use native.Mathlib.Omega.{arith}
 use Rattle.paper.specs.Plans.{fresh-queue}

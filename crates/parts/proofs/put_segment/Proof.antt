@@ -1,4 +1,4 @@
--- Assumes nothing.
+-- The program is written, and the zeros after it are there already or are written, too.
 use mathlib.Core.Path.{refl}
 use native.Mathlib.Omega.{arith}
 use Rattle.parts.specs.Needs.{then-on, program-size, program-in-clear}

@@ -1,4 +1,4 @@
--- Assumes nothing.
+-- Whether all words are cleared first or not, the segments come to the same words.
 use native.Mathlib.Omega.{arith}
 use Rattle.writes.specs.Clear.{zeros-clear}
 use Rattle.parts.specs.Needs.{plan-few, room-kept, segments-over, unclear}

@@ -1,4 +1,4 @@
--- The entries before k are written, and the next base is known. Assumes nothing.
+-- The entries before k are written, and the next base is known.
 use mathlib.Core.Path.{_≡_, refl}
 use Prim.Native.Nat.{_+_, _-_, _≤_}
 use native.Mathlib.Omega.{arith}

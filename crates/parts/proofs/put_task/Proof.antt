@@ -1,4 +1,4 @@
--- Assumes nothing.
+-- Where the words are clear, a fresh task has only R1 to be written.
 use native.Mathlib.Omega.{arith}
 use Rattle.parts.specs.Needs.{task-in-clear}
 use borrow.Author.Needs.{needs}

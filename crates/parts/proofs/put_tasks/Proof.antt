@@ -1,4 +1,4 @@
--- The tasks before k are written. Assumes nothing.
+-- The tasks before k are written.
 use mathlib.Core.Path.{refl}
 use Prim.Native.Nat.{_-_, _≤_}
 use native.Mathlib.Omega.{arith}

@@ -1,4 +1,4 @@
--- The word is the sum that was read. Assumes nothing.
+-- The word is the sum that was read.
 use borrow.Author.Needs.{needs}
 use Rattle.phrases.proofs.alone.Statement.{statement}
 use Rattle.phrases.proofs.alone.Tie as tie

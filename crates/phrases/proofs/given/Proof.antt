@@ -1,4 +1,4 @@
--- A line gives what its first token says, and a word what it is kept for. Assumes nothing.
+-- A line gives what its first token says, and a word what it is kept for.
 use borrow.Author.Needs.{needs}
 use Rattle.grammar.specs.Lines.{given}
 use Rattle.phrases.specs.Laws.{order-small, word-inside}

@@ -1,4 +1,4 @@
--- What a word is says whether it is free. Assumes nothing.
+-- What a word is says whether it is free.
 use borrow.Author.Needs.{needs}
 use Rattle.phrases.proofs.is_free.Statement.{statement}
 use Rattle.phrases.proofs.is_free.Tie as tie

@@ -1,4 +1,4 @@
--- A line gives what its tokens say, one after another. Assumes nothing.
+-- A line gives what its tokens say, one after another.
 use mathlib.Core.Path.{_≡_, sym, _∙_}
 use mathlib.Core.List.{List}
 use borrow.Author.Tests.{not-true, not-false}

@@ -1,4 +1,4 @@
--- A line ends where no token is left. Assumes nothing.
+-- A line ends where no token is left.
 use mathlib.Core.Path.{sym, _∙_}
 use borrow.Author.Needs.{needs}
 use Rattle.phrases.specs.Laws.{no-token, one-goes-on}

@@ -1,4 +1,4 @@
--- An order gives what its operands say; a register is small, so the word fits. Assumes nothing.
+-- An order gives what its operands say; a register is small, so the word fits.
 use native.Mathlib.Omega.{arith}
 use borrow.Author.Needs.{needs}
 use Rattle.phrases.specs.Laws.{operand-inside}

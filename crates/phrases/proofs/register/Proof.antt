@@ -1,4 +1,4 @@
--- A register is a word that is kept as one. Assumes nothing.
+-- A register is a word that is kept as one.
 use borrow.Author.Needs.{needs}
 use Rattle.grammar.specs.Lines.{register}
 use Rattle.phrases.specs.Laws.{register-small, word-inside, no-word-register, no-register}

@@ -1,4 +1,4 @@
--- A line gives as many words as its first token says, and a word as many as it is kept for. Assumes nothing.
+-- A line gives as many words as its first token says, and a word as many as it is kept for.
 use native.Mathlib.Omega.{arith}
 use borrow.Author.Needs.{needs}
 use Rattle.grammar.specs.Lines.{size-of}

@@ -1,4 +1,4 @@
--- A line starts as its tokens say, one after another. Assumes nothing.
+-- A line starts as its tokens say, one after another.
 use mathlib.Core.Path.{sym, _∙_}
 use borrow.Author.Needs.{needs}
 use Rattle.phrases.specs.Laws.{word-inside, starts-alone, no-word-label, starts-no-mark, starts-kept, starts-labelled}

@@ -1,4 +1,4 @@
--- The second word is the sum that was read. Assumes nothing.
+-- The second word is the sum that was read.
 use borrow.Author.Needs.{needs}
 use Rattle.phrases.proofs.two.Statement.{statement}
 use Rattle.phrases.proofs.two.Tie as tie

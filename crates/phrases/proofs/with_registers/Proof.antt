@@ -1,4 +1,4 @@
--- The word is made of the registers that were read; they are small, so it fits. Assumes nothing.
+-- The word is made of the registers that were read; they are small, so it fits.
 use native.Mathlib.Omega.{arith}
 use borrow.Author.Needs.{needs}
 use Prim.Native.Nat.{_<_}

@@ -1,4 +1,4 @@
--- The row of a message buffer is a small number. Assumes nothing.
+-- The row of a message buffer is a small number.
 use native.Mathlib.Omega.{arith}
 use Rattle.places.specs.Needs.{pair-small}
 use borrow.Author.Needs.{needs}

@@ -1,4 +1,4 @@
--- The code's sum is the place of the cell, and small. Assumes nothing.
+-- The code's sum is the place of the cell, and small.
 use mathlib.Core.Path.{ap}
 use native.Mathlib.Omega.{arith}
 use borrow.Author.Needs.{needs}

@@ -1,4 +1,4 @@
--- Assumes nothing.
+-- Each part has the width of its definition, and the numbers are small enough to add.
 use borrow.Author.Needs.{needs}
 use Rattle.places.proofs.width_of.Statement.{statement}
 use Rattle.places.proofs.width_of.Tie as tie

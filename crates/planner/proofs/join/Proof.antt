@@ -1,4 +1,4 @@
--- The parts of a plan lie in it. Assumes nothing.
+-- The parts of a plan lie in it.
 use mathlib.Core.Path.{refl}
 use Rattle.planner.specs.Parts.{plan-end, plan-count, plan-whole}
 use borrow.Author.Needs.{needs}

@@ -1,4 +1,4 @@
--- The plan keeps its length. Assumes nothing.
+-- The plan keeps its length.
 use borrow.Author.Needs.{needs}
 use mathlib.Core.Path.{_≡_}
 use Prim.Native.Nat.{_-_, _≤_}

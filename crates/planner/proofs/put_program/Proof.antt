@@ -1,4 +1,4 @@
--- A program has no more words than half its bytes. Assumes nothing.
+-- A program has no more words than half its bytes.
 use Prim.Native.Nat.{_≤_}
 use native.Mathlib.Omega.{arith}
 use Rattle.disk.specs.Bytes.{loaded-end, loaded-count}

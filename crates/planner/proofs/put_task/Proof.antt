@@ -1,4 +1,4 @@
--- The parts of a plan lie in it. Assumes nothing.
+-- The parts of a plan lie in it.
 use native.Mathlib.Omega.{arith}
 use lib.ListN.{length-set}
 use Rattle.planner.specs.Parts.{end-low, end-high, name-begins}

@@ -1,4 +1,4 @@
--- Each program ends where the next begins, and all lie in the plan. Assumes nothing.
+-- Each program ends where the next begins, and all lie in the plan.
 use borrow.Author.Needs.{needs}
 use mathlib.Core.Path.{_≡_}
 use Prim.Native.Nat.{_+_, _-_, _*_, _≤_}

@@ -1,4 +1,4 @@
--- The pairs before k are added up. Assumes nothing.
+-- The pairs before k are added up.
 use Prim.Native.Nat.{_-_, _≤_}
 use native.Mathlib.Omega.{arith}
 use Rattle.plans.specs.Needs.{Summed, no-pairs, one-pair-more, all-pairs}

@@ -1,4 +1,4 @@
--- Assumes nothing.
+-- The segments start at the last of the packed offsets.
 use Rattle.plans.specs.Needs.{first-is}
 use borrow.Author.Needs.{needs}
 use Rattle.plans.proofs.first_segment.Statement.{statement}

@@ -1,4 +1,4 @@
--- Assumes nothing.
+-- The pairs add up to the words of all segments, which the plan's shape has.
 use Rattle.plans.specs.Needs.{few-tasks, words-added}
 use borrow.Author.Needs.{needs}
 use Rattle.plans.proofs.shape_of_plan.Statement.{statement}

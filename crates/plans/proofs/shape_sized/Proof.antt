@@ -1,4 +1,4 @@
--- Assumes nothing.
+-- The segments of an accepted plan have as many words as T is past their start.
 use Rattle.plans.specs.Needs.{sizes-ranged, fine-ranged, first-inside, words-left}
 use borrow.Author.Needs.{needs}
 use Rattle.plans.proofs.shape_sized.Statement.{statement}

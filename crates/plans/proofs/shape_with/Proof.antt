@@ -1,4 +1,4 @@
--- Assumes nothing.
+-- N, S and the capacities are read from the plan, and the packed offsets follow from them.
 use Rattle.plans.specs.Needs.{sizes-ranged, planned-shape, planned-packed}
 use borrow.Author.Needs.{needs}
 use Rattle.plans.proofs.shape_with.Statement.{statement}

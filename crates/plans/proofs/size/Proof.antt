@@ -1,4 +1,4 @@
--- Assumes nothing.
+-- The tests are the definition's, in its order; past them the answer is T, the segments' start with their words.
 use native.Mathlib.Omega.{arith}
 use Rattle.plans.specs.Needs.{short-so, range-so, range-inside, few-sizes, sum-small, total-planned, broken-so, size-so}
 use borrow.Author.Needs.{needs}

@@ -1,4 +1,4 @@
--- Assumes nothing.
+-- T is where the segments start and their words, and both are small enough to add.
 use native.Mathlib.Omega.{arith}
 use Rattle.plans.specs.Needs.{total-made, total-small}
 use borrow.Author.Needs.{needs}

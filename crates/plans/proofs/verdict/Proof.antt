@@ -1,4 +1,4 @@
--- Assumes nothing.
+-- A plan with a size is fine, and any other has the refusal that its size tells.
 use mathlib.Core.Path.{sym}
 use Rattle.plans.specs.Needs.{told-words, told-refusal}
 use borrow.Author.Needs.{needs}

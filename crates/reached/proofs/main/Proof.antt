@@ -1,4 +1,4 @@
--- Assumes nothing.
+-- k goes from 1 to 15, the most that can be ahead, and the bound stays small.
 use Prim.Native.Nat.{_≤_, _-_}
 use borrow.Author.Needs.{needs}
 use Rattle.reached.proofs.main.Statement.{statement}

@@ -1,4 +1,4 @@
--- Assumes nothing.
+-- The image is lent only where it fits the room.
 use mathlib.Core.Path.{sym}
 use lib.Seq.{length-take-le}
 use borrow.Author.Needs.{needs}

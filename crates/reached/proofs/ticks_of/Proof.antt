@@ -1,4 +1,4 @@
--- Assumes nothing.
+-- There are at most 16 tasks, so the words of their plan lie in its array.
 use mathlib.Core.Path.{sym}
 use lib.Seq.{length-take-le}
 use borrow.Author.Needs.{needs}

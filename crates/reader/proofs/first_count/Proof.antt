@@ -1,4 +1,4 @@
--- Assumes nothing.
+-- No byte before k ends the line, so the line ends at the first that does, or with the text.
 use mathlib.Core.Path.{_≡_}
 use Prim.Native.Nat.{_+_, _-_, _≤_}
 use native.Mathlib.Omega.{arith}

@@ -1,4 +1,4 @@
--- There are no more lines than bytes passed. Assumes nothing.
+-- There are no more lines than bytes passed.
 use Prim.Native.Nat.{_+_, _-_, _≤_}
 use native.Mathlib.Omega.{arith}
 use mathlib.Core.Logic.{⊎-elim}

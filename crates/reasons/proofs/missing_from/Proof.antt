@@ -1,4 +1,4 @@
--- Each token passed leaves fewer. Assumes nothing.
+-- Each token passed leaves fewer.
 use borrow.Author.Needs.{needs}
 use Rattle.outside.specs.Reasons.{left}
 use Rattle.reasons.specs.Names.{step-missing, step-past}

@@ -1,4 +1,4 @@
--- A token that is known lies in the line and leaves fewer. Assumes nothing.
+-- A token that is known lies in the line and leaves fewer.
 use Rattle.outside.specs.Reasons.{word-order, word-end}
 use Rattle.reasons.specs.Names.{past-number, past-word, past-mark, past-stray}
 use borrow.Author.Needs.{needs}

@@ -1,4 +1,4 @@
--- An empty table is fit to read texts into. Assumes nothing.
+-- An empty table is fit to read texts into.
 use mathlib.Core.Path.{refl}
 use Rattle.tables.specs.Laws.{fresh-chained, fresh-headed}
 use borrow.Author.Needs.{needs}

@@ -1,4 +1,4 @@
--- A word of a line lies in it. Assumes nothing.
+-- A word of a line lies in it.
 use Rattle.outside.specs.Reasons.{word-order, word-end}
 use borrow.Author.Needs.{needs}
 use Rattle.reasons.proofs.name_reason.Statement.{statement}

@@ -1,4 +1,4 @@
--- The line is a part of its text. Assumes nothing.
+-- The line is a part of its text.
 use native.Mathlib.Omega.{arith}
 use Rattle.texts.specs.Laws.{within-fits, within-names, within-script}
 use Rattle.reasons.specs.Names.{fits-names, fits-script}

@@ -1,4 +1,4 @@
--- What stands above a line is a part of its text. Assumes nothing.
+-- What stands above a line is a part of its text.
 use mathlib.Core.Path.{sym}
 use native.Mathlib.Omega.{arith}
 use lib.Seq.{length-take-le}

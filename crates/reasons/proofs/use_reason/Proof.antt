@@ -1,4 +1,4 @@
--- A word of a line lies in it. Assumes nothing.
+-- A word of a line lies in it.
 use Rattle.reasons.specs.Names.{word-held}
 use borrow.Author.Needs.{needs}
 use Rattle.reasons.proofs.use_reason.Statement.{statement}

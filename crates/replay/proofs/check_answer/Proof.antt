@@ -1,4 +1,4 @@
--- `check_answer` meets its contract: the part of the image that is lent is as long as the record says. Assumes nothing.
+-- `check_answer` meets its contract: the part of the image that is lent is as long as the record says.
 use mathlib.Core.Path.{sym}
 use lib.Seq.{length-take-le}
 use borrow.Author.Needs.{needs}

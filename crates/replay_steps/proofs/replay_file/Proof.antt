@@ -1,4 +1,4 @@
--- `replay_file` meets its contract: the loop keeps the lengths of the trial and the image, holds no more words than these, and has a turn less each time. Assumes nothing.
+-- `replay_file` meets its contract: the loop keeps the lengths of the trial and the image, holds no more words than these, and has a turn less each time.
 use Prim.Native.Nat.{_≤_}
 use mathlib.Core.Path.{_≡_}
 use lib.ListN.{length}

@@ -1,4 +1,4 @@
--- `replay_one` meets its contract: the parts of the trial and of the image that are lent are as long as the image to go by. Assumes nothing.
+-- `replay_one` meets its contract: the parts of the trial and of the image that are lent are as long as the image to go by.
 use mathlib.Core.Path.{sym}
 use lib.ListN.{length-take}
 use lib.Seq.{length-take-le}

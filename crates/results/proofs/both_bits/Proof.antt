@@ -1,4 +1,4 @@
--- Assumes nothing.
+-- The and of two words is the definition's, bit by bit.
 use borrow.Author.Needs.{needs}
 use Rattle.results.specs.Words.{and-is}
 use Rattle.results.proofs.both_bits.Statement.{statement}

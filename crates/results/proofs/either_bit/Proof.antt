@@ -1,4 +1,4 @@
--- Assumes nothing.
+-- The or of two words is the definition's, bit by bit.
 use borrow.Author.Needs.{needs}
 use Rattle.results.specs.Words.{or-is}
 use Rattle.results.proofs.either_bit.Statement.{statement}

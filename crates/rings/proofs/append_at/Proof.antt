@@ -1,4 +1,4 @@
--- Assumes nothing.
+-- The slot at the tail, the tail and the count lie in the image, and are written as in the definition.
 use Prim.Native.Nat.{_+_}
 use native.Mathlib.Omega.{arith}
 use lib.ListN.{length-set}

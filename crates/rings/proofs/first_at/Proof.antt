@@ -1,4 +1,4 @@
--- Assumes nothing.
+-- The head names a slot that lies in the image, and the word there is the first.
 use mathlib.Core.Path.{refl}
 use Rattle.rings.specs.Ring.{first-at}
 use borrow.Author.Needs.{needs}

@@ -1,4 +1,4 @@
--- A remainder is the wrapped step. Assumes nothing.
+-- A remainder is the wrapped step.
 use mathlib.Core.Path.{sym}
 use Rattle.laws.specs.Steps.{step-mod}
 use borrow.Author.Needs.{needs}

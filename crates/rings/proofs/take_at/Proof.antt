@@ -1,4 +1,4 @@
--- Assumes nothing.
+-- The word at the head is answered, and the head and the count are written as in the definition.
 use mathlib.Core.Path.{refl}
 use native.Mathlib.Omega.{arith}
 use lib.ListN.{length-set}

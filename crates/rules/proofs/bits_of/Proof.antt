@@ -1,4 +1,4 @@
--- No word before that at at is over bits. Assumes nothing.
+-- No word before that at at is over bits.
 use Prim.Native.Nat.{_-_}
 use Rattle.rules.specs.Rows.{Covers, covers-none, covers-more, covers-done}
 use mathlib.Core.Path.{refl}

@@ -1,4 +1,4 @@
--- Assumes nothing.
+-- All rows of the three kinds of buffers are queues just where the buffers of every task are.
 use native.Mathlib.Omega.{arith}
 use Rattle.rules.specs.Buffers.{inputs-fit, outputs-fit, messages-fit, inputs-wrong, outputs-wrong, messages-decide}
 use Rattle.laws.specs.Sound.{sized-few}

@@ -1,4 +1,4 @@
--- Assumes nothing.
+-- Both buffers are queues, so the words that each holds are told and tested.
 use Rattle.rules.specs.Needs.{input-queued, output-queued, characters-tested}
 use borrow.Author.Needs.{needs}
 use Rattle.rules.proofs.characters.Statement.{statement}

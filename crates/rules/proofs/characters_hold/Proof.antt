@@ -1,4 +1,4 @@
--- The characters of the tasks before k are right. Assumes nothing.
+-- The characters of the tasks before k are right.
 use mathlib.Core.Path.{_≡_, sym, _∙_}
 use mathlib.Core.Bool.{true}
 use Prim.Native.Nat.{_-_, _≤_}

@@ -1,4 +1,4 @@
--- What was found and what is left to find are all. Assumes nothing.
+-- What was found and what is left to find are all.
 use mathlib.Core.Path.{_≡_, refl, sym}
 use mathlib.Core.List.{List}
 use mathlib.Core.Bool.{true≢false}

@@ -1,4 +1,4 @@
--- The rows before that at at were never used. Assumes nothing.
+-- The rows before that at at were never used.
 use Prim.Native.Nat.{_-_}
 use native.Mathlib.Omega.{arith}
 use borrow.Author.Tests.{not-false}

@@ -1,4 +1,4 @@
--- What is left to look at decides. Assumes nothing.
+-- What is left to look at decides.
 use mathlib.Core.Path.{_≡_, refl, _∙_}
 use mathlib.Core.List.{List}
 use Prim.Native.Nat.{ℕ, _<_}

@@ -1,4 +1,4 @@
--- Assumes nothing.
+-- Each test that fails shows a word wrong; where none does, head and count tell what the tail must be.
 use Rattle.rules.specs.Leads.{leads-other, leads-high, leads-long, end-fits, leads-done}
 use borrow.Author.Needs.{needs}
 use Rattle.rules.proofs.leads_right.Statement.{statement}

@@ -1,4 +1,4 @@
--- Assumes nothing.
+-- The one number tells all four words apart: three are 0, and the capacity is the one given.
 use native.Mathlib.Omega.{arith}
 use Rattle.rules.specs.Leads.{unused-right}
 use borrow.Author.Needs.{needs}

@@ -1,4 +1,4 @@
--- Assumes nothing.
+-- Word k of a queue lies in the row of the queue's first word, at column k.
 use Rattle.laws.specs.Sound.{sized-fit}
 use Rattle.rules.specs.Needs.{word-found, word-got}
 use Rattle.rules.proofs.queue_word.Statement.{statement}

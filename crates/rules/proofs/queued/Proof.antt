@@ -1,4 +1,4 @@
--- Assumes nothing.
+-- A queue obeys the rules just where its four leading words are right for the header's capacity.
 use Rattle.laws.specs.Cells.{in-lead}
 use Rattle.rules.specs.Needs.{queued-tested}
 use borrow.Author.Needs.{needs}

@@ -1,4 +1,4 @@
--- Assumes nothing.
+-- The row is right just where its four leading words are.
 use Rattle.rules.specs.Rows.{row-tested}
 use borrow.Author.Needs.{needs}
 use Rattle.rules.proofs.row_queued.Statement.{statement}

@@ -1,4 +1,4 @@
--- Assumes nothing.
+-- The row is right where its four leading words are those of a queue never used.
 use Rattle.rules.specs.Rows.{unused-tested}
 use borrow.Author.Needs.{needs}
 use Rattle.rules.proofs.row_unused.Statement.{statement}

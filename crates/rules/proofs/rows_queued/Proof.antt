@@ -1,4 +1,4 @@
--- The rows before that at at are right. Assumes nothing.
+-- The rows before that at at are right.
 use mathlib.Core.Path.{refl, sym, _∙_}
 use Prim.Native.Nat.{_+_, _-_, _*_}
 use native.Mathlib.Omega.{arith}

@@ -1,4 +1,4 @@
--- Assumes nothing.
+-- Slots below the capacity stay; of others it is taken off once, since they are below twice the capacity.
 use Rattle.rules.specs.Leads.{wrapped-low, wrapped-high}
 use Rattle.rules.proofs.wrapped.Statement.{statement}
 use Rattle.rules.proofs.wrapped.Tie as tie

@@ -1,4 +1,4 @@
--- The name keeps its length. Assumes nothing.
+-- The name keeps its length.
 use mathlib.Core.Path.{_≡_}
 use Prim.Native.Nat.{_-_}
 use lib.ListN.{length}

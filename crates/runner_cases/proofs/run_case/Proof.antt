@@ -1,4 +1,4 @@
--- Assumes nothing.
+-- Both paths fit their arrays, and only as much of each as was put together is lent.
 use mathlib.Core.Path.{sym}
 use lib.Seq.{length-take-le}
 use borrow.Author.Needs.{needs}

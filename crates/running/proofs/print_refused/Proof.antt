@@ -1,4 +1,4 @@
--- Assumes nothing.
+-- The line fits its array, and only as much as was written is lent.
 use mathlib.Core.Path.{sym}
 use lib.Seq.{length-take-le}
 use borrow.Author.Needs.{needs}

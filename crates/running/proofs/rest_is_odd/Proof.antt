@@ -1,4 +1,4 @@
--- The buffer keeps its length, and has a turn less each time. Assumes nothing.
+-- The buffer keeps its length, and has a turn less each time.
 use mathlib.Core.Path.{_≡_, sym}
 use mathlib.Core.Bool.{true≢false}
 use lib.ListN.{length}

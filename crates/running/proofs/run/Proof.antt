@@ -1,4 +1,4 @@
--- Assumes nothing.
+-- What was read lies in its buffer, and a plan runs only where the verdict on it is fine.
 use mathlib.Core.Path.{sym}
 use native.Mathlib.Omega.{arith}
 use lib.Seq.{length-take-le}

@@ -1,4 +1,4 @@
--- The image stays good, the buffers keep their lengths, and there are numbers left for the events of the buffers to come. Assumes nothing.
+-- The image stays good, the buffers keep their lengths, and there are numbers left for the events of the buffers to come.
 use mathlib.Core.Path.{_≡_, refl, sym, _∙_}
 use Prim.Native.Nat.{_+_, _*_, _≤_}
 use native.Mathlib.Omega.{arith}

@@ -1,4 +1,4 @@
--- Assumes nothing.
+-- What is built from an accepted plan is a good image, so events can run on it.
 use Rattle.running.specs.Needs.{built-lawful}
 use borrow.Author.Needs.{needs}
 use Rattle.running.proofs.run_fresh.Statement.{statement}

@@ -1,4 +1,4 @@
--- Assumes nothing.
+-- An accepted plan is in range, and its image fits the array.
 use mathlib.Core.Path.{sym, _∙_}
 use lib.Seq.{length-take-le}
 use Rattle.plans.specs.Needs.{fine-ranged}

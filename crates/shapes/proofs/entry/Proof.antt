@@ -1,4 +1,4 @@
--- Assumes nothing.
+-- The table has the entry of each high byte at its place.
 use Rattle.shapes.proofs.Rule.{entry-read}
 use borrow.Author.Needs.{needs}
 use Rattle.shapes.proofs.entry.Statement.{statement}

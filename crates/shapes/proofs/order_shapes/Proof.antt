@@ -1,4 +1,4 @@
--- The constant has the rule, by the test over all of its entries. Assumes nothing.
+-- The constant has the rule, by the test over all of its entries.
 use Rattle.shapes.proofs.Rule.{lawful}
 use Rattle.shapes.proofs.order_shapes.Statement.{statement}
 use Rattle.shapes.proofs.order_shapes.Tie as tie

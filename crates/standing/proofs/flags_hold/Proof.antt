@@ -1,4 +1,4 @@
--- Assumes nothing.
+-- The three fields of the flags are tested as in the definition.
 use Rattle.standing.specs.Needs.{flags-tested}
 use borrow.Author.Needs.{needs}
 use Rattle.standing.proofs.flags_hold.Statement.{statement}

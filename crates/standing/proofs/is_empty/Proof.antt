@@ -1,4 +1,4 @@
--- Assumes nothing.
+-- A queue is empty just where its count is 0.
 use Rattle.standing.specs.Needs.{empty-tested}
 use borrow.Author.Needs.{needs}
 use Rattle.standing.proofs.is_empty.Statement.{statement}

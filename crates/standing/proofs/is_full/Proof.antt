@@ -1,4 +1,4 @@
--- Assumes nothing.
+-- A queue is full just where its count is its capacity.
 use Rattle.standing.specs.Needs.{full-tested}
 use borrow.Author.Needs.{needs}
 use Rattle.standing.proofs.is_full.Statement.{statement}

@@ -1,4 +1,4 @@
--- Assumes nothing.
+-- The pending service and the input buffer are tested as in the definition.
 use Rattle.standing.specs.Needs.{input-tested}
 use borrow.Author.Needs.{needs}
 use Rattle.standing.proofs.may_input.Statement.{statement}

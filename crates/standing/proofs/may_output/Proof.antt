@@ -1,4 +1,4 @@
--- Assumes nothing.
+-- The pending service, the character and the output buffer are tested as in the definition.
 use Rattle.standing.specs.Needs.{output-tested}
 use borrow.Author.Needs.{needs}
 use Rattle.standing.proofs.may_output.Statement.{statement}

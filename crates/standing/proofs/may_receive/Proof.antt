@@ -1,4 +1,4 @@
--- Assumes nothing.
+-- A task that asks to receive has a peer below N, so there is a buffer from it to be tested.
 use Rattle.standing.specs.Needs.{not-asked, asked-so, partner-in, from-partner}
 use borrow.Author.Needs.{needs}
 use Rattle.standing.proofs.may_receive.Statement.{statement}

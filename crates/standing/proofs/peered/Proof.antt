@@ -1,4 +1,4 @@
--- Assumes nothing.
+-- R2 and the peer are compared, and the peer is tested to be below N, as in the definition.
 use Rattle.standing.specs.Needs.{peered-tested}
 use borrow.Author.Needs.{needs}
 use Rattle.standing.proofs.peered.Statement.{statement}

@@ -1,4 +1,4 @@
--- Assumes nothing.
+-- The port's two words and the output buffer are tested as in the definition.
 use Rattle.standing.specs.Needs.{port-tested}
 use borrow.Author.Needs.{needs}
 use Rattle.standing.proofs.port_holds.Statement.{statement}

@@ -1,4 +1,4 @@
--- Assumes nothing.
+-- The count that was found tells how often the ready queue holds the task, and the status how often it must.
 use Rattle.standing.specs.Needs.{task-few, once-ready, once-else}
 use borrow.Author.Needs.{needs}
 use Rattle.standing.proofs.readied_once.Statement.{statement}

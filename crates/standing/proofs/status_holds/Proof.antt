@@ -1,4 +1,4 @@
--- Assumes nothing.
+-- The status tells which rule the task is under, and that rule is tested as in the definition.
 use Rattle.standing.specs.Needs.{status-ready, status-sends, status-receives, status-peer, status-inputs, status-outputs, status-stops}
 use borrow.Author.Needs.{needs}
 use Rattle.standing.proofs.status_holds.Statement.{statement}

@@ -1,4 +1,4 @@
--- Assumes nothing.
+-- What has no value gives no words; else the one or two words given are written in order.
 use mathlib.Core.Logic.{⊎-elim}
 use native.Mathlib.Omega.{arith}
 use mathlib.Core.Path.{ap}

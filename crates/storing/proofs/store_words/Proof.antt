@@ -1,4 +1,4 @@
--- The invariant: with the words of the lines left stored, the target holds those of all lines. The measure is what is left of the script. Assumes nothing.
+-- The invariant: with the words of the lines left stored, the target holds those of all lines. The measure is what is left of the script.
 use Prim.Native.Nat.{_-_}
 use native.Mathlib.Omega.{arith}
 use lib.ListN.{length}

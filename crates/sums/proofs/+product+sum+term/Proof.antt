@@ -1,4 +1,4 @@
--- The measures go by the tokens that are left: each reader calls the next on no more tokens, and a bracket a sum on fewer; the loops go to later tokens. Assumes nothing.
+-- The measures go by the tokens that are left: each reader calls the next on no more tokens, and a bracket a sum on fewer; the loops go to later tokens.
 use mathlib.Core.Path.{refl}
 use mathlib.Core.Logic.{⊎-elim}
 use Prim.Native.Nat.{ℕ, _<_, _+_, _*_}

@@ -1,4 +1,4 @@
--- Assumes nothing.
+-- A sum comes to its value only where it is read and no token is left.
 use Rattle.sums.specs.Ways.{total-fails, total-comes, total-goes-on}
 use borrow.Author.Needs.{needs}
 use Rattle.sums.proofs.sum_of.Statement.{statement}

@@ -1,4 +1,4 @@
--- The bytes that are left, mixed from here, come to what the whole word comes to. The measure is how many are left. Assumes nothing.
+-- The bytes that are left, mixed from here, come to what the whole word comes to. The measure is how many are left.
 use mathlib.Core.Path.{_≡_, refl, _∙_}
 use Prim.Native.Nat.{_-_, _<_, _≤_}
 use native.Mathlib.Omega.{arith}

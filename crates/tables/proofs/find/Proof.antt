@@ -1,4 +1,4 @@
--- From each entry that is come to, the chain leads to what is found from the first. The measure is how many entries there are up to it. Assumes nothing.
+-- From each entry that is come to, the chain leads to what is found from the first. The measure is how many entries there are up to it.
 use mathlib.Core.Path.{refl, sym, _∙_}
 use Prim.Native.Nat.{_≤_}
 use mathlib.Core.Bool.{false≢true}

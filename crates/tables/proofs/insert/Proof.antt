@@ -1,4 +1,4 @@
--- Each list is written at the count of the entries before, and the head of the bucket is the new entry. Assumes nothing.
+-- Each list is written at the count of the entries before, and the head of the bucket is the new entry.
 use mathlib.Core.Path.{_∙_, ap}
 use native.Mathlib.Omega.{arith}
 use Rattle.tables.specs.Tables.{bucket}

@@ -1,4 +1,4 @@
--- The head of the word's bucket leads to what is found among all entries. Assumes nothing.
+-- The head of the word's bucket leads to what is found among all entries.
 use mathlib.Core.Path.{_∙_}
 use native.Mathlib.Omega.{arith}
 use Rattle.tables.specs.Laws.{head-leads}

@@ -1,4 +1,4 @@
--- The entry that follows leads to what is found among those before. Assumes nothing.
+-- The entry that follows leads to what is found among those before.
 use mathlib.Core.Path.{_∙_, ap}
 use native.Mathlib.Omega.{arith}
 use Rattle.tables.specs.Tables.{bucket}

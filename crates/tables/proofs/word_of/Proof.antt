@@ -1,4 +1,4 @@
--- The text that an entry stands in is chosen by the test. Assumes nothing.
+-- The text that an entry stands in is chosen by the test.
 use Prim.Native.Nat.{_^_}
 use native.Mathlib.Nat.{add-sub-cancel-left}
 use native.Mathlib.Omega.{arith}

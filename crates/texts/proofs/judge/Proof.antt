@@ -1,4 +1,4 @@
--- Assumes nothing.
+-- A fresh table is empty; with both texts read into it, the script is judged as in the definition.
 use mathlib.Core.Path.{refl}
 use Rattle.tables.specs.Laws.{fresh-chained, fresh-headed}
 use Rattle.texts.specs.Laws.{labelled-by, texts-judged}

@@ -1,4 +1,4 @@
--- Assumes nothing.
+-- The line lies in its text, and that part is lent.
 use mathlib.Core.Path.{refl}
 use native.Mathlib.Omega.{arith}
 use Rattle.texts.specs.Laws.{within-fits, within-names, within-script, names-line-of, script-line-of}

@@ -1,4 +1,4 @@
--- Assumes nothing.
+-- The names are read into an empty table, and the labels into the one that they leave.
 use Rattle.texts.specs.Laws.{names-chained, names-headed, texts-read}
 use borrow.Author.Needs.{needs}
 use Rattle.texts.proofs.read_texts.Statement.{statement}

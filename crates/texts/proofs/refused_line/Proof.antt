@@ -1,4 +1,4 @@
--- Assumes nothing.
+-- A refused line lies in its text; where nothing is refused, the empty part is lent.
 use mathlib.Core.Path.{refl}
 use native.Mathlib.Omega.{arith}
 use Rattle.texts.specs.Laws.{line-within, none-named, line-named}

@@ -1,4 +1,4 @@
--- Assumes nothing.
+-- A fresh table is empty; a refusal stores nothing, and words that are not refused fit the target.
 use mathlib.Core.Path.{refl}
 use Rattle.tables.specs.Laws.{fresh-chained, fresh-headed}
 use Rattle.texts.specs.Laws.{labelled-by, words-fit, refused-translates, fine-translates}

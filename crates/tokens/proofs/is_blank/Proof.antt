@@ -1,4 +1,4 @@
--- One test after the other. Assumes nothing.
+-- One test after the other.
 use borrow.Author.Tests.{eq-eqb, ne-eqb}
 use Rattle.tokens.proofs.is_blank.Statement.{statement}
 use Rattle.tokens.proofs.is_blank.Tie as tie

@@ -1,4 +1,4 @@
--- A digit is no byte under the first, and none after the last. Assumes nothing.
+-- A digit is no byte under the first, and none after the last.
 use Rattle.tokens.specs.Laws.{under, not-under}
 use Rattle.tokens.proofs.is_digit.Statement.{statement}
 use Rattle.tokens.proofs.is_digit.Tie as tie

@@ -1,4 +1,4 @@
--- A letter, else a digit, else the underline. Assumes nothing.
+-- A letter, else a digit, else the underline.
 use mathlib.Core.Path.{sym, _∙_}
 use borrow.Author.Needs.{needs}
 use Rattle.tokens.proofs.is_word_byte.Statement.{statement}

@@ -1,4 +1,4 @@
--- No token but a mark is one, and a mark is the one that is asked for or another. Assumes nothing.
+-- No token but a mark is one, and a mark is the one that is asked for or another.
 use borrow.Author.Needs.{needs}
 use Rattle.tokens.specs.Laws.{the-mark, another-mark}
 use Rattle.tokens.proofs.mark_of.Statement.{statement}

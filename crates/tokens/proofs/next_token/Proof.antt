@@ -1,4 +1,4 @@
--- Each answer is the law of the token that stands there, of what the calls and the tests say. Assumes nothing.
+-- Each answer is the law of the token that stands there, of what the calls and the tests say.
 use mathlib.Core.Path.{sym, _∙_}
 use native.Mathlib.Omega.{arith}
 use borrow.Author.Needs.{needs}

@@ -1,4 +1,4 @@
--- The tokens from the place of the loop on are those from the first place on. Assumes nothing.
+-- The tokens from the place of the loop on are those from the first place on.
 use mathlib.Core.Path.{_≡_, refl, sym, _∙_}
 use Prim.Native.Nat.{_-_}
 use native.Mathlib.Omega.{arith}

@@ -1,4 +1,4 @@
--- What is told of a line lies in it. Assumes nothing.
+-- What is told of a line lies in it.
 use native.Mathlib.Omega.{arith}
 use Rattle.texts.specs.Laws.{within-fits, within-names, within-script}
 use Rattle.translating.specs.Files.{names-fits, script-fits}

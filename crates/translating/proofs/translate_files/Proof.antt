@@ -1,4 +1,4 @@
--- What was read lies in its buffer. Assumes nothing.
+-- What was read lies in its buffer.
 use Rattle.disk.specs.Bytes.{loaded-end, loaded-count, part-short}
 use borrow.Author.Needs.{needs}
 use Rattle.translating.proofs.translate_files.Statement.{statement}

@@ -1,4 +1,4 @@
--- An accepted program lies in its target. Assumes nothing.
+-- An accepted program lies in its target.
 use mathlib.Core.Path.{sym}
 use lib.Seq.{length-take-le}
 use Rattle.translating.specs.Files.{words-fit}

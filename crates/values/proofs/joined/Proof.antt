@@ -1,4 +1,4 @@
--- Assumes nothing.
+-- The sign tells whether the product is added or subtracted.
 use borrow.Author.Needs.{needs}
 use Rattle.values.proofs.joined.Statement.{statement}
 use Rattle.values.proofs.joined.Tie as tie

@@ -1,4 +1,4 @@
--- Assumes nothing.
+-- Two numbers are subtracted; where one is none, the pair has what comes of it.
 use mathlib.Core.Path.{_∙_}
 use borrow.Author.Needs.{needs}
 use Rattle.grammar.specs.Sums.{minus as minus-of}

@@ -1,4 +1,4 @@
--- Assumes nothing.
+-- The product of two words fits 32 bits.
 use borrow.Author.Needs.{needs}
 use Rattle.values.specs.Laws.{product-fits}
 use Rattle.values.proofs.multiplied.Statement.{statement}

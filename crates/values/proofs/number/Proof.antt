@@ -1,4 +1,4 @@
--- The loop's invariant: the number is that of the digits passed, cut off at the end of the range. The measure is the digits left. Assumes nothing.
+-- The loop's invariant: the number is that of the digits passed, cut off at the end of the range. The measure is the digits left.
 use mathlib.Core.Path.{_≡_}
 use Prim.Native.Nat.{_-_, _≤_, min}
 use native.Mathlib.Omega.{arith}

@@ -1,4 +1,4 @@
--- Each answer by what the two values are. Assumes nothing.
+-- Each answer by what the two values are.
 use borrow.Author.Needs.{needs}
 use Rattle.values.proofs.paired.Statement.{statement}
 use Rattle.values.proofs.paired.Tie as tie

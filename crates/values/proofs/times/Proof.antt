@@ -1,4 +1,4 @@
--- Assumes nothing.
+-- Two numbers are multiplied; where one is none, the pair has what comes of it.
 use mathlib.Core.Path.{ap, _∙_}
 use borrow.Author.Needs.{needs}
 use Rattle.grammar.specs.Sums.{in-range, times as times-of}

@@ -1,4 +1,4 @@
--- Assumes nothing.
+-- The ready queue tells whether the clock becomes 0 or the slice.
 use Rattle.waking.specs.Needs.{dispatched-none, dispatched-some}
 use borrow.Author.Needs.{needs}
 use Rattle.waking.proofs.dispatch.Statement.{statement}

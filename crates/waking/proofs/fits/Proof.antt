@@ -1,4 +1,4 @@
--- Assumes nothing.
+-- For nobody there is always room, and for one task where the ready queue is not full.
 use Rattle.waking.specs.Needs.{room-nobody, room-one}
 use borrow.Author.Needs.{needs}
 use Rattle.waking.proofs.fits.Statement.{statement}

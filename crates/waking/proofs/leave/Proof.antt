@@ -1,4 +1,4 @@
--- Assumes nothing.
+-- The first task is taken from the ready queue and another dispatched, in the definition's order.
 use Rattle.waking.specs.Needs.{gone}
 use borrow.Author.Needs.{needs}
 use Rattle.waking.proofs.leave.Statement.{statement}

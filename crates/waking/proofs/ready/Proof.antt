@@ -1,4 +1,4 @@
--- Assumes nothing.
+-- A status written leaves the ready queue as it was, so it has room for the task.
 use Rattle.waking.specs.Needs.{room-kept, made-ready}
 use borrow.Author.Needs.{needs}
 use Rattle.waking.proofs.ready.Statement.{statement}

@@ -1,4 +1,4 @@
--- Assumes nothing.
+-- The task joins the ready queue, and it is dispatched just where the queue was empty before.
 use Rattle.waking.specs.Needs.{woken-alone, woken-among}
 use borrow.Author.Needs.{needs}
 use Rattle.waking.proofs.wake.Statement.{statement}

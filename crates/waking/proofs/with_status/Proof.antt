@@ -1,4 +1,4 @@
--- Assumes nothing.
+-- The status and the peer are written as in the definition, and the image stays sound with each.
 use Rattle.waking.specs.Needs.{statused}
 use borrow.Author.Needs.{needs}
 use Rattle.waking.proofs.with_status.Statement.{statement}

@@ -1,4 +1,4 @@
--- Assumes nothing.
+-- Either one task is woken, for which the ready queue has room, or nobody is.
 use Rattle.waking.specs.Needs.{task-of, room-of, one-woken, nobody-woken}
 use borrow.Author.Needs.{needs}
 use Rattle.waking.proofs.with_woken.Statement.{statement}

@@ -1,4 +1,4 @@
--- Assumes nothing.
+-- The queue is a ring at its place that has room, and what is appended to the ring is appended to the queue.
 use Rattle.laws.specs.Sound.{sound-fit}
 use Rattle.words.specs.Needs.{ring-is, room-is, appended-is, appended-keeps}
 use borrow.Author.Needs.{needs}

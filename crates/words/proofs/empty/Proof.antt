@@ -1,4 +1,4 @@
--- Assumes nothing.
+-- A queue is empty just where its count is 0.
 use Rattle.words.specs.Needs.{empty-is}
 use borrow.Author.Needs.{needs}
 use Rattle.words.proofs.empty.Statement.{statement}

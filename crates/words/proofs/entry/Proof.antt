@@ -1,4 +1,4 @@
--- Assumes nothing.
+-- The entry of a task below N lies in the image, and its word is read.
 use Rattle.laws.specs.Sound.{sound-sized}
 use borrow.Author.Needs.{needs}
 use Rattle.words.proofs.entry.Statement.{statement}

@@ -1,4 +1,4 @@
--- Assumes nothing.
+-- A spot lies in the image, and the word of its cell is read.
 use borrow.Author.Needs.{needs}
 use Rattle.laws.specs.Sound.{sound-sized}
 use Rattle.words.specs.Needs.{found-valid, got}

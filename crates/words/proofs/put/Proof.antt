@@ -1,4 +1,4 @@
--- Assumes nothing.
+-- A spot lies in the image, and is none of the words that the layout and the queues fix.
 use Rattle.laws.specs.Sound.{sound-fit}
 use Rattle.words.specs.Needs.{found-valid, place-inside, spot-put, spot-put-sound}
 use borrow.Author.Needs.{needs}

@@ -1,4 +1,4 @@
--- Assumes nothing.
+-- A queue's first word is a valid cell, so it has a place.
 use Rattle.words.specs.Needs.{head-valid}
 use borrow.Author.Needs.{needs}
 use Rattle.words.proofs.queue_place.Statement.{statement}

@@ -1,4 +1,4 @@
--- Assumes nothing.
+-- The queue is a ring at its place that holds a word, and what is taken from the ring is taken from the queue.
 use Rattle.laws.specs.Sound.{sound-fit}
 use Rattle.words.specs.Needs.{ring-is, some-is, first-is, taken-is, taken-keeps}
 use borrow.Author.Needs.{needs}

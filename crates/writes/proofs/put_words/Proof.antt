@@ -1,4 +1,4 @@
--- k words are written. Assumes nothing.
+-- k words are written.
 use mathlib.Core.Path.{_≡_, refl, sym}
 use Prim.Native.Nat.{_-_, _≤_}
 use native.Mathlib.Omega.{arith}

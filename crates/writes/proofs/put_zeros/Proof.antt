@@ -1,4 +1,4 @@
--- k zeros are written. Assumes nothing.
+-- k zeros are written.
 use mathlib.Core.Path.{_≡_, refl, sym}
 use Prim.Native.Nat.{_-_, _≤_}
 use native.Mathlib.Omega.{arith}

@@ -1,4 +1,4 @@
--- Assumes nothing.
+-- The answer has a count of words and no refusal, or a refusal with its text and no words.
 use Rattle.kernel_c.specs.Scripts.{no-words, refusal-number, refusal-text}
 use borrow.Author.Needs.{needs}
 use Rattle.kernel_c.proofs.scripts.tell_translation.Statement.{statement}

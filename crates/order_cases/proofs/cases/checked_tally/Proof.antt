@@ -1,4 +1,4 @@
--- `checked_tally` meets its contract: the place lies in the image, and the span ends where the words end. Assumes nothing.
+-- `checked_tally` meets its contract: the place lies in the image, and the span ends where the words end.
 use borrow.Author.Needs.{needs}
 use Rattle.order_cases.proofs.cases.checked_tally.Statement.{statement}
 use Rattle.order_cases.proofs.cases.checked_tally.Tie as tie

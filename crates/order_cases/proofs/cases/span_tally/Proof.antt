@@ -1,4 +1,4 @@
--- `span_tally` meets its contract: the loop keeps the lengths of the trial and the image. Assumes nothing.
+-- `span_tally` meets its contract: the loop keeps the lengths of the trial and the image.
 use Prim.Native.Nat.{_≤_, _-_}
 use mathlib.Core.Path.{_≡_}
 use lib.ListN.{length}

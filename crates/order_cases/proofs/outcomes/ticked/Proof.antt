@@ -1,4 +1,4 @@
--- `ticked` meets its contract: an image that passes the check is lawful. Assumes nothing.
+-- `ticked` meets its contract: an image that passes the check is lawful.
 use Rattle.laws.specs.Events.{inspected-lawful}
 use borrow.Author.Needs.{needs}
 use Rattle.order_cases.proofs.outcomes.ticked.Statement.{statement}

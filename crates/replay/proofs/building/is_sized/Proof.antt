@@ -1,4 +1,4 @@
--- The number is the same where the test does not answer no, and then the words decide. Assumes nothing.
+-- The number is the same where the test does not answer no, and then the words decide.
 use mathlib.Core.Path.{sym, _∙_}
 use mathlib.Core.Bool.{true≢false}
 use borrow.Author.Needs.{needs}

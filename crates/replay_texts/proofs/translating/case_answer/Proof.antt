@@ -1,4 +1,4 @@
--- `case_answer` meets its contract: the parts of the texts and of the target that are lent are as long as the record says. Assumes nothing.
+-- `case_answer` meets its contract: the parts of the texts and of the target that are lent are as long as the record says.
 use mathlib.Core.Path.{sym}
 use lib.Seq.{length-take-le}
 use borrow.Author.Needs.{needs}

@@ -1,4 +1,4 @@
--- The bytes up to the place are the same, and as many follow the start. Assumes nothing.
+-- The bytes up to the place are the same, and as many follow the start.
 use mathlib.Core.Path.{_≡_, sym, _∙_}
 use mathlib.Core.Bool.{true≢false}
 use Prim.Native.Nat.{_≤_, _+_, _-_}

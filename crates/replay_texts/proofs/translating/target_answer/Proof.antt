@@ -1,4 +1,4 @@
--- `target_answer` meets its contract: the part of the target that is lent is as long as the words. Assumes nothing.
+-- `target_answer` meets its contract: the part of the target that is lent is as long as the words.
 use mathlib.Core.Path.{sym}
 use lib.Seq.{length-take-le}
 use borrow.Author.Needs.{needs}

@@ -1,4 +1,4 @@
--- Each test that does not answer no shows one number to be the same. Assumes nothing.
+-- Each test that does not answer no shows one number to be the same.
 use mathlib.Core.Path.{sym}
 use mathlib.Core.Bool.{true≢false}
 use borrow.Author.Tests.{eqb-true}

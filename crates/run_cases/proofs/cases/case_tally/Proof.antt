@@ -1,4 +1,4 @@
--- `case_tally` meets its contract: the part of the buffer that is lent is as long as the list. Assumes nothing.
+-- `case_tally` meets its contract: the part of the buffer that is lent is as long as the list.
 use mathlib.Core.Path.{sym}
 use lib.Seq.{length-take-le}
 use borrow.Author.Needs.{needs}

@@ -1,4 +1,4 @@
--- `are_places` meets its contract: the loop stops at the last change. Assumes nothing.
+-- `are_places` meets its contract: the loop stops at the last change.
 use Prim.Native.Nat.{_≤_, _-_}
 use borrow.Author.Needs.{needs}
 use Rattle.vectors.proofs.changes.are_places.Statement.{statement}

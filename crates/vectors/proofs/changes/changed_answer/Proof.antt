@@ -1,4 +1,4 @@
--- The same is answered only where what was said and all the words are. Assumes nothing.
+-- The same is answered only where what was said and all the words are.
 use borrow.Author.Needs.{needs}
 use borrow.Author.Tests.{not-false}
 use Rattle.vectors.specs.Answers.{differs-apart, bad-apart}

@@ -1,4 +1,4 @@
--- `make_changes` meets its contract: the loop keeps the length of the image. Assumes nothing.
+-- `make_changes` meets its contract: the loop keeps the length of the image.
 use Prim.Native.Nat.{_≤_, _-_}
 use mathlib.Core.Path.{_≡_}
 use lib.ListN.{length}

@@ -1,4 +1,4 @@
--- The words with the changes up to the place are those that were there. Assumes nothing.
+-- The words with the changes up to the place are those that were there.
 use mathlib.Core.Path.{_≡_, sym, ap, _∙_}
 use mathlib.Core.Bool.{true≢false}
 use Prim.Native.Nat.{ℕ, _≤_, _-_}

@@ -1,4 +1,4 @@
--- The words up to the place are the same, and the last place is the end of both. Assumes nothing.
+-- The words up to the place are the same, and the last place is the end of both.
 use mathlib.Core.Path.{_≡_, sym}
 use mathlib.Core.Bool.{true≢false}
 use Prim.Native.Nat.{_≤_, _-_}

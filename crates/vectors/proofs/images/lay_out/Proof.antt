@@ -1,4 +1,4 @@
--- The words up to the place are the image's, and the trial keeps its length. Assumes nothing.
+-- The words up to the place are the image's, and the trial keeps its length.
 use mathlib.Core.Path.{_≡_}
 use Prim.Native.Nat.{_≤_, _-_}
 use native.Mathlib.Omega.{arith}

@@ -1,4 +1,4 @@
--- The parts of the buffer and of the words that are lent are as long as asked. Assumes nothing.
+-- The parts of the buffer and of the words that are lent are as long as asked.
 use mathlib.Core.Path.{sym}
 use Prim.Native.Nat.{_+_, _*_}
 use native.Mathlib.Omega.{arith}

@@ -1,4 +1,4 @@
--- `read_text` meets its contract: the part of the buffer that is lent is as long as asked. Assumes nothing.
+-- `read_text` meets its contract: the part of the buffer that is lent is as long as asked.
 use mathlib.Core.Path.{sym}
 use lib.Seq.{length-take-le}
 use borrow.Author.Needs.{needs}

@@ -1,4 +1,4 @@
--- `read_words` meets its contract: the loop keeps the length of the words, and each part is at least one word. Assumes nothing.
+-- `read_words` meets its contract: the loop keeps the length of the words, and each part is at least one word.
 use Prim.Native.Nat.{_≤_, _-_}
 use mathlib.Core.Path.{_≡_}
 use lib.ListN.{length}

@@ -1,4 +1,4 @@
--- What differs is not answered as the same. Assumes nothing.
+-- What differs is not answered as the same.
 use Rattle.vectors.specs.Answers.{differs-apart}
 use borrow.Author.Needs.{needs}
 use Rattle.vectors.proofs.tally.compared.Statement.{statement}

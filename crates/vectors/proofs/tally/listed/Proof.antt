@@ -1,4 +1,4 @@
--- `listed` meets its contract: the loop stops at the last number. Assumes nothing.
+-- `listed` meets its contract: the loop stops at the last number.
 use Prim.Native.Nat.{_≤_, _-_}
 use borrow.Author.Needs.{needs}
 use Rattle.vectors.proofs.tally.listed.Statement.{statement}

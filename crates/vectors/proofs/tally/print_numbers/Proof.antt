@@ -1,4 +1,4 @@
--- `print_numbers` meets its contract: the loop stops at the last number. Assumes nothing.
+-- `print_numbers` meets its contract: the loop stops at the last number.
 use Prim.Native.Nat.{_≤_, _-_}
 use borrow.Author.Needs.{needs}
 use Rattle.vectors.proofs.tally.print_numbers.Statement.{statement}

@@ -1,4 +1,4 @@
--- The words up to the place are as salted, and the last place is the end. Assumes nothing.
+-- The words up to the place are as salted, and the last place is the end.
 use mathlib.Core.Path.{sym, _∙_}
 use mathlib.Core.Bool.{true≢false}
 use Prim.Native.Nat.{_≤_, _-_}

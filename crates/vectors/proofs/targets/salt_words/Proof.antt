@@ -1,4 +1,4 @@
--- The words up to the place are salted, and the target keeps its length. Assumes nothing.
+-- The words up to the place are salted, and the target keeps its length.
 use mathlib.Core.Path.{_≡_}
 use Prim.Native.Nat.{_≤_, _-_}
 use native.Mathlib.Omega.{arith}

@@ -1,4 +1,4 @@
--- The word is the one of its place and salt. Assumes nothing.
+-- The word is the one of its place and salt.
 use Rattle.vectors.specs.Words.{salted-word}
 use borrow.Author.Needs.{needs}
 use Rattle.vectors.proofs.targets.salted.Statement.{statement}

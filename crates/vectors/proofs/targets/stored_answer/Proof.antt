@@ -1,4 +1,4 @@
--- `stored_answer` meets its contract: each part lies in the target and has a word at least. Assumes nothing.
+-- `stored_answer` meets its contract: each part lies in the target and has a word at least.
 use Prim.Native.Nat.{_≤_, _-_}
 use lib.ListN.{length}
 use borrow.Author.Needs.{needs}

@@ -1,4 +1,4 @@
--- The stored words that are compared are as many. Assumes nothing.
+-- The stored words that are compared are as many.
 use mathlib.Core.Path.{sym}
 use lib.Seq.{length-take-le}
 use borrow.Author.Needs.{needs}
