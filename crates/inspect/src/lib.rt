@@ -43,6 +43,11 @@ use standing::status_holds;
 use truths::both;
 use truths::implies;
 
+// The mark and the edition, as words of the header are read.
+const WIDE_MARK: usize = MARK as usize;
+
+const WIDE_EDITION: usize = EDITION as usize;
+
 // What one inspection of an image tells: the verdict, and the shape that its header gives.
 pub struct Inspected {
     pub verdict: Verdict,
@@ -141,8 +146,8 @@ fn verdict(s: Shape, im: &[u16]) -> Verdict
         return Verdict::Refused(Refusal::TooShort);
     }
     if !both(
-        header_word(im, MARK_AT) == MARK as usize,
-        header_word(im, EDITION_AT) == EDITION as usize,
+        header_word(im, MARK_AT) == WIDE_MARK,
+        header_word(im, EDITION_AT) == WIDE_EDITION,
     ) {
         return Verdict::Refused(Refusal::NotMarked);
     }
