@@ -12,6 +12,7 @@ use grammar::Found;
 use grammar::Given;
 use grammar::Judged;
 use grammar::Line;
+use grammar::RANGE_END;
 use grammar::Refusal;
 use grammar::Worked;
 
@@ -24,10 +25,8 @@ const OUT_OF_RANGE: u16 = 15;
 
 const NO_ROOM: u16 = 16;
 
-// All values past the range are kept as this one.
-const RANGE_END: u32 = 65536;
-
-const RANGE_END_PLACE: usize = 65536;
+// Where the values of labels end, as a place.
+const RANGE_END_PLACE: usize = RANGE_END as usize;
 
 // The number of a refusal.
 pub fn number_of(r: Refusal) -> u16

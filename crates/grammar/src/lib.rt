@@ -1,4 +1,4 @@
-// The types that the definitions of the text form name.
+// The types that the definitions of the text form name, and the numbers of the grammar that stand in more than one crate.
 
 // What a sum, or a part of one, comes to: a value, or that a name in it is not given, or that a value in it lies out of range.
 pub enum Worked {
@@ -6,6 +6,21 @@ pub enum Worked {
     Missing,
     Beyond,
 }
+
+// Values end before this; all past it are kept as this one.
+pub const RANGE_END: u32 = 65536;
+
+// Brackets are nested at most so deep.
+pub const DEEPEST: usize = 8;
+
+// The bytes of the grammar that more than one reader looks at.
+pub const LINE_END: u8 = 10;
+
+pub const FIRST_DIGIT: u8 = 48;
+
+pub const FIRST_LETTER: u8 = 97;
+
+pub const LAST_LETTER: u8 = 122;
 
 // How a product is joined to the sum before it.
 pub enum Sign {

@@ -4,7 +4,10 @@ ghost use Prim.Native.Nat.{_≤_};
 ghost use lib.ListN.{length};
 ghost use Rattle.grammar.specs.Kept.{kept-as};
 ghost use Rattle.kept.specs.Keys.{counted, key, kept-by, most-letters, names-register};
+use grammar::FIRST_DIGIT;
+use grammar::FIRST_LETTER;
 use grammar::Kept;
+use grammar::LAST_LETTER;
 use grammar::Operands;
 
 // The most letters of an order name.
@@ -15,16 +18,14 @@ const BASE: u64 = 28;
 
 const OTHER: u64 = 27;
 
-const BEFORE_A: u8 = 96;
-
-const LAST_LETTER: u8 = 122;
+const BEFORE_A: u8 = FIRST_LETTER - 1;
 
 // The registers: two bytes, the letter and a digit.
 const REGISTER_BYTES: usize = 2;
 
 const REGISTER_LETTER: u8 = 114;
 
-const FIRST_REGISTER: u8 = 48;
+const FIRST_REGISTER: u8 = FIRST_DIGIT;
 
 const LAST_REGISTER: u8 = 55;
 

@@ -11,7 +11,7 @@ use texts::judge;
 use texts::translate;
 
 // The numbers of the two texts.
-const NAMES: u16 = 0;
+pub const NAMES: u16 = 0;
 
 const SCRIPT: u16 = 1;
 

@@ -4,6 +4,7 @@ ghost use Prim.Native.Nat.{ℕ};
 ghost use lib.ListN.{length};
 ghost use Rattle.tokens.specs.Shown.{shown, Inside};
 ghost use Rattle.outside.specs.Reasons.{Fits, left, Steps, StepsTo, OperandFits};
+use grammar::DEEPEST;
 use grammar::Kept;
 use grammar::Operands;
 use kept::kept;
@@ -45,9 +46,6 @@ enum Operand {
     Stops(Reason),
     Goes(usize),
 }
-
-// Brackets are nested at most so deep.
-const DEEPEST: usize = 8;
 
 // A token that no line goes on with.
 fn unfit(t: Token) -> Reason

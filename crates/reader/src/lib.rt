@@ -2,9 +2,7 @@
 ghost use mathlib.Core.Path.{_≡_};
 ghost use lib.ListN.{length, drop};
 ghost use Rattle.grammar.specs.Tokens.{first-line};
-
-// The byte that ends a line.
-const LINE_END: u8 = 10;
+use grammar::LINE_END;
 
 // A text, and the place in it that is read next.
 pub struct Reader<'a> {

@@ -9,6 +9,7 @@ ghost use Rattle.outside.specs.Reasons.{Fits, left};
 ghost use Rattle.reasons.specs.Names.{most-text, Held, Steps};
 use grammar::Found;
 use grammar::Kept;
+use grammar::LINE_END;
 use grammar::Line;
 use grammar::Refusal;
 use grammar::Text;
@@ -24,9 +25,6 @@ use tables::look;
 use texts::read_texts;
 use tokens::Token;
 use tokens::next_token;
-
-// The byte that ends a line.
-const LINE_END: u8 = 10;
 
 // A word of a line, with its first byte and the place after it.
 enum Word {

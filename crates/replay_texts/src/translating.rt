@@ -3,6 +3,7 @@ ghost use mathlib.Core.Path.{_≡_};
 ghost use mathlib.Core.Bool.{true};
 ghost use Prim.Native.Nat.{_<_, _≤_};
 ghost use lib.ListN.{length, take, drop};
+use kernel_c::scripts::NAMES;
 use kernel_c::scripts::Translated;
 use kernel_c::scripts::kernel_refused_line;
 use kernel_c::scripts::kernel_translate;
@@ -57,9 +58,6 @@ const WORDS_LOW_AT: usize = 10;
 
 // The place of its high word.
 const WORDS_HIGH_AT: usize = 11;
-
-// The number of the names among the two texts.
-const NAMES: u16 = 0;
 
 // A line of a text, or none: the text, where the line begins in it, and its count of bytes.
 struct Named {

@@ -8,6 +8,7 @@ ghost use Rattle.grammar.specs.declared.Worked.{Worked};
 ghost use Rattle.tokens.specs.Shown.{shown, Inside};
 ghost use Rattle.tables.specs.Tables.{table, entries, Chained, Headed};
 ghost use Rattle.sums.specs.Told.{told, total, ToldInside};
+use grammar::DEEPEST;
 use grammar::Found;
 use grammar::Kept;
 use grammar::Sign;
@@ -41,9 +42,6 @@ pub enum Total {
     Outside,
     Comes(Worked),
 }
-
-// How many brackets may be open at once.
-const DEEPEST: usize = 8;
 
 // The value of a name or label.
 fn value<'a>(

@@ -5,6 +5,9 @@ ghost use lib.ListN.{length, drop};
 ghost use Rattle.grammar.specs.Tokens.{letter, digit, blank, is-mark, word-byte, tokens};
 ghost use Rattle.grammar.specs.Tokens.Open.{in-number, in-word};
 ghost use Rattle.tokens.specs.Shown.{shown, Inside, marks, is-end, Skips, Runs};
+use grammar::FIRST_DIGIT;
+use grammar::FIRST_LETTER;
+use grammar::LAST_LETTER;
 
 // What stands next in a line: nothing more, a number or a word with its first byte and the place after it, a mark, or a byte
 // that never stands there, each with the place after it.
@@ -29,12 +32,6 @@ const TAB: u8 = 9;
 const RETURN: u8 = 13;
 
 const COMMENT: u8 = 59;
-
-const FIRST_LETTER: u8 = 97;
-
-const LAST_LETTER: u8 = 122;
-
-const FIRST_DIGIT: u8 = 48;
 
 const LAST_DIGIT: u8 = 57;
 

@@ -6,15 +6,13 @@ ghost use Rattle.grammar.specs.Sums.{plus as plus-of, minus as minus-of, times 
 ghost use Rattle.grammar.specs.declared.Worked.{Worked};
 ghost use Rattle.tokens.specs.Shown.{Digits};
 ghost use Rattle.values.specs.Both.{worked};
+use grammar::FIRST_DIGIT;
+use grammar::RANGE_END;
 use grammar::Sign;
 use grammar::Worked;
 
-// Values end before this.
-const RANGE_END: u32 = 65536;
-
+// Numbers are written in base ten.
 const TEN: u32 = 10;
-
-const ZERO: u8 = 48;
 
 // A number as a value.
 pub fn in_range(n: u32) -> Worked
@@ -31,7 +29,7 @@ fn more(n: u32, digit: u8) -> u32
     requires { ⌜ (n ≤ end-of-range) × ((48 ≤ digit) × (digit ≤ 57)) ⌝ }
     ensures { λ r. ⌜ r ≡ min (n * 10 + (digit - 48)) end-of-range ⌝ }
 {
-    let m = n * TEN + (digit - ZERO) as u32;
+    let m = n * TEN + (digit - FIRST_DIGIT) as u32;
     if m < RANGE_END {
         return m;
     }
