@@ -18,9 +18,9 @@ put-words-requires c κs = search words-fit
 
 add-t11 : tie.Need-add-t11
 add-t11 c =
+    let few : c .before .before .put-words .result ≤ most-program = search few-words in
     let c5 = c .before .before .before .before .before in
     let c10 = c5 .before .before .before .before .before in
-    let few : c .before .before .put-words .result ≤ most-program = search few-words in
     omega (arith, few, c10 .before .before .before .before .pre)
 
 returns-3 : tie.Need-returns-3
