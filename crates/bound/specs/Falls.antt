@@ -1,7 +1,6 @@
 -- The step: an accepted tick brings a task nearer to its turn, no device event takes it back, and neither touches a word of it. Assumes nothing.
 use mathlib.Core.Path.{_≡_, _∙_}
 use mathlib.Core.List.{List}
-use mathlib.Core.Bool.{Bool, true, false, cond}
 use mathlib.Core.Logic.{_⊎_, ⊎-elim}
 use Prim.Native.Nat.{ℕ, zero, suc, _+_, _-_, _<_, _≤_}
 use native.Mathlib.Omega.{arith}
@@ -19,13 +18,12 @@ use Rattle.paper.specs.declared.Reply.{Reply}
 use Rattle.laws.specs.Cases.{when}
 use Rattle.laws.specs.Events.{event-formed}
 use Rattle.event_laws.specs.Stays.{words-good}
-use Rattle.event_laws.specs.Touched.{event-frame}
 use Rattle.bound.specs.Bound.{most-ticks, tick-count, Behind, Untouched}
 use Rattle.bound.specs.Measure.{pace, measure, Nears}
 use Rattle.bound.specs.Pace.{pace-some, pace-most}
-use Rattle.event_laws.specs.First.{KeepsPlace, LeavesPlace}
-use Rattle.bound.specs.Ticks.{Moves, event-moves}
-use Rattle.bound.specs.Line.{behind-some, frame-untouched}
+use Rattle.event_laws.specs.First.{KeepsPlace}
+use Rattle.bound.specs.Line.{event-frame, behind-some, frame-untouched}
+use Rattle.bound.specs.Ticks.{LeavesPlace, Moves, event-moves}
 
 -- what is within the measure is within the bound
 pub within-bound : (s : Shape) (im : List ℕ) (k : ℕ) → 1 ≤ k → measure s im k ≤ most-ticks s im k

@@ -1,6 +1,6 @@
 pub mod Bound
 pub mod Measure
 pub mod Pace
-pub mod Ticks
 pub mod Line
+pub mod Ticks
 pub mod Falls

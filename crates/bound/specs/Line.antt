@@ -1,31 +1,74 @@
--- A task in the ready queue with others ahead of it is not first, and so no event touches a word of it. Assumes nothing.
+-- Which cells an event changes; a task in the ready queue with others ahead of it is not first, and so no event touches a word of it. Assumes nothing.
 use mathlib.Core.Path.{_≡_, refl, sym, ap, _∙_}
 use mathlib.Core.List.{List, [], _∷_}
 use mathlib.Core.Bool.{false, true≢false}
-use mathlib.Core.Logic.{_≢_, inl, inr, dite}
+use mathlib.Core.Logic.{_≢_, _⊎_, inl, inr, dite}
 use Prim.Native.Nat.{ℕ, zero, suc, _+_, _<_, _≤_}
 use native.Mathlib.Decide.{ℕ-discrete, decLt}
 use native.Mathlib.Omega.{arith}
 use borrow.Author.Tests.{eq-eqb}
 use lib.ListN.{length, getD}
-use Rattle.paper.specs.Image.{at, status, base, len}
-use Rattle.paper.specs.Queues.{first, taken, held, empty}
+use Rattle.paper.specs.Image.{at, clock, status, base, len}
+use Rattle.paper.specs.Queues.{appended, first, taken, held, empty, full}
 use Rattle.paper.specs.Flags.{is-ready}
-use Rattle.paper.specs.Events.{running}
+use Rattle.paper.specs.Waking.{woken}
+use Rattle.paper.specs.Events.{running, input, port-next, output-done, happening}
 use Rattle.paper.specs.Rules.{times, Ready, Good}
 use Rattle.paper.specs.declared.Task.{Task}
 use Rattle.paper.specs.declared.Shape.{Shape}
 use Rattle.paper.specs.declared.Cell.{Cell}
+use Rattle.paper.specs.declared.Part.{Part}
 use Rattle.paper.specs.declared.Queue.{Queue}
+use Rattle.paper.specs.declared.Woken.{Woken}
+use Rattle.paper.specs.declared.Event.{Event}
+use Rattle.laws.specs.Sound.{Sound, appended-sound, has-space}
 use Rattle.laws.specs.Orders.{OwnCell}
 use Rattle.laws.specs.Agree.{lies-same, own-same, own-apart}
 use Rattle.laws.specs.Checked.{good-sound}
-use Rattle.laws.specs.Frame.{Frame}
+use Rattle.laws.specs.Events.{Formed}
+use Rattle.laws.specs.Frame.{Frame, Apart, frame-none, frame-more, frame-appended}
+use Rattle.laws.specs.Changes.{frame-woken, frame-next}
 use Rattle.event_laws.specs.Turns.{leads-list}
-use Rattle.event_laws.specs.Stays.{first-leads, first-task}
-use Rattle.event_laws.specs.Touched.{event-parts, TickCell}
+use Rattle.event_laws.specs.Walk.{input-any, done-any, event-any}
+use Rattle.event_laws.specs.Stays.{first-leads, first-task, next-owner}
+use Rattle.event_laws.specs.Touched.{event-parts, TickCell, tick-frame}
 use Rattle.event_laws.specs.First.{held-some, held-first, off-table}
 use Rattle.bound.specs.Bound.{Behind, IsFirst, Untouched}
+
+-- a wake changes the task's entry of the status table, the ready queue and perhaps the clock, and no other cell
+pub woken-cells : (s : Shape) (im : List ℕ) (j : Task) → j .0 < s .n → Sound s im
+    → Frame s (λ c. ((c .part ≡ Part.StatusTable) × (c .row ≡ j .0)) ⊎ ((c .part ≡ Part.ReadyQueue) ⊎ (c ≡ clock))) im (woken s im j)
+woken-cells s im j hj h = frame-woken frame-none h (λ r. inr (inl refl)) (inr (inr refl)) j hj (λ r. inl (refl, refl))
+
+module _ (s : Shape) (im : List ℕ) (g : Good s im) where
+  -- an event of a device changes none of a task's
+  module _ (i : Task) (hi : i .0 < s .n) where
+    pub input-sound : (c : ℕ) → full s im (Queue.Input i) ≡ false → Sound s (appended s im (Queue.Input i) c)
+    input-sound c clear =
+        let h = good-sound s im g in
+        appended-sound s im (Queue.Input i) hi h c (has-space s im h (Queue.Input i) hi clear)
+
+    pub next-sound : Sound s (port-next s im i)
+    next-sound = next-owner s im g i hi (Woken.One i) (λ _. refl) .lies
+
+    pub input-frame : (c : ℕ) → Apart s event-parts im (input s im i c .image)
+    input-frame c =
+        let k : Apart s event-parts im (appended s im (Queue.Input i) c) = frame-appended frame-none (Queue.Input i) hi (good-sound s im g) (λ r. refl) c in
+        input-any s im i (λ o. Apart s event-parts im (o .image)) (λ _. frame-none) c (λ _. frame-none) (λ _ _. k)
+        (λ clear _ _. frame-woken k (input-sound c clear) (λ r. refl) refl i hi (λ r. refl))
+
+    pub done-frame : Apart s event-parts im (output-done s im i .image)
+    done-frame =
+        let k : Apart s event-parts im (port-next s im i) = frame-next frame-none (good-sound s im g) i hi (λ r. refl) (λ r. refl) in
+        done-any s im i (λ o. Apart s event-parts im (o .image)) (λ _. frame-none) (λ _. frame-none) (λ _. k)
+        (λ _ _. frame-woken k next-sound (λ r. refl) refl i hi (λ r. refl))
+
+  -- whatever event comes
+  pub event-frame : (e : Event) → Formed s e → Frame s (TickCell s im (running s im)) im (happening s im e .image)
+  unfolding Formed
+  event-frame =
+      event-any s im (λ e o. Formed s e → Frame s (TickCell s im (running s im)) im (o .image)) (λ _. tick-frame s im g)
+      (λ i c f. frame-more (input-frame i (f .0) c) (λ d e. inl e)) (λ i f. frame-more (done-frame i f) (λ d e. inl e)) (λ _. frame-none)
 
 -- a word of a list occurs in it
 times-some : (l : List ℕ) (k x : ℕ) → k < length l → getD l k 0 ≡ x → 1 ≤ times x l

@@ -1,17 +1,16 @@
 -- What an accepted event does to the ready queue and to what the first task can still use. Assumes nothing.
 use mathlib.Core.Path.{_≡_, refl, sym, _∙_}
-use mathlib.Core.List.{List}
-use mathlib.Core.Bool.{Bool, true, false, _||_, true≢false}
+use mathlib.Core.List.{List, [], _∷_, _++_, append-nil}
+use mathlib.Core.Bool.{Bool, false, _||_, true≢false}
 use mathlib.Core.Logic.{_≢_, _⊎_, inl, inr}
 use Prim.Native.Nat.{ℕ, _+_, _-_, _<_, _≤_}
 use native.Mathlib.Omega.{arith}
-use Rattle.paper.specs.Image.{at, put, clock, flags}
-use Rattle.paper.specs.Queues.{empty, full}
+use Rattle.paper.specs.Image.{at, clock, flags}
+use Rattle.paper.specs.Queues.{taken, held, empty, full}
 use Rattle.paper.specs.Flags.{error, pending, cc as condition, waits}
-use Rattle.paper.specs.Waking.{Outcome, woken}
+use Rattle.paper.specs.Waking.{Outcome, with-status, woken, left}
 use Rattle.paper.specs.Services.{fault-of, service-faulted, blocked, waiting, moved, served}
-use Rattle.paper.specs.Orders.{order, after-order}
-use Rattle.paper.specs.Events.{event-of, running, spent, ordered, tick, input, output-done, happening}
+use Rattle.paper.specs.Events.{event-of, running, turned, tick, input, output-done, happening}
 use Rattle.paper.specs.Rules.{Good}
 use Rattle.paper.specs.declared.Task.{Task}
 use Rattle.paper.specs.declared.Shape.{Shape}
@@ -23,26 +22,45 @@ use Rattle.paper.specs.declared.Event.{Event}
 use Rattle.paper.specs.declared.Answer.{Answer}
 use Rattle.paper.specs.declared.Reply.{Reply}
 use Rattle.laws.specs.Cells.{at-same}
-use Rattle.laws.specs.Sound.{Sound, sound, appended-sound, has-room}
+use Rattle.laws.specs.Sound.{Sound, sound}
 use Rattle.laws.specs.Effects.{fields}
-use Rattle.laws.specs.Orders.{order-keeps, not-own}
 use Rattle.laws.specs.Checked.{good-sound}
 use Rattle.laws.specs.Events.{Formed, event-formed, words-any}
-use Rattle.laws.specs.Frame.{Frame, Apart, frame-none, frame-more, frame-put, kept, kept-clock, kept-empty, kept-full}
+use Rattle.laws.specs.Frame.{Apart, frame-none, frame-put, kept, kept-clock, kept-empty, kept-full}
 use Rattle.laws.specs.Changes.{turn-parts, moved-parts, small-error, frame-woken, frame-moved}
 use Rattle.event_laws.specs.Standing.{waits-not}
 use Rattle.event_laws.specs.Own.{own-parts, header-part, own-picked}
-use Rattle.event_laws.specs.Turns.{woken-clock, Leads, leads-sound, leads-in}
+use Rattle.event_laws.specs.Turns.{joined-clock, Leads, leads-sound, leads-in, leads-list, left-list, turned-list}
 use Rattle.event_laws.specs.Serving.{served-nearly, wakes-whom}
-use Rattle.event_laws.specs.Walk.{asked-nothing, ServiceCases, Begins, tick-any, input-any, done-any, event-any}
-use Rattle.event_laws.specs.Stays.{begins-leads, served-apart, stopped-is, first-leads, input-apart, next-apart, next-sound, words-good}
-use Rattle.event_laws.specs.Touched.{event-parts, input-frame, done-frame}
-use Rattle.event_laws.specs.First.{KeepsPlace, LeavesPlace, apart-keeps, woke-keeps, keeps-first, left-leaves, turned-leaves, faulted-keeps, served-keeps, served-woke, begins-keeps, begins-leaves}
+use Rattle.event_laws.specs.Walk.{asked-nothing, ServiceCases, Begins, Spends, tick-any, input-any, done-any, event-any}
+use Rattle.event_laws.specs.Stays.{begins-leads, served-apart, stopped-is, order-frame, order-clock, first-leads, input-apart, next-apart, words-good}
+use Rattle.event_laws.specs.Touched.{event-parts}
+use Rattle.event_laws.specs.First.{KeepsPlace, apart-keeps, woke-keeps, keeps-first, faulted-keeps, served-keeps, served-woke, begins-held, begins-keeps}
 use Rattle.bound.specs.Bound.{tick-count}
 use Rattle.bound.specs.Measure.{pace-of, pace}
 use Rattle.bound.specs.Pace.{served-falls, ordered-falls}
+use Rattle.bound.specs.Line.{input-sound, next-sound, input-frame, done-frame}
 
--- the first task is gone from its place, or keeps it and has used up so many of the ticks that it can use
+-- the first task is gone from its place: every other one moved up
+pub record LeavesPlace (s : Shape) (im m : List ℕ) : Type 0 where
+  pub leader : ℕ
+  pub others : List ℕ
+  pub joined : List ℕ
+  pub was : held s im Queue.Ready ≡ leader ∷ others
+  pub now : held s m Queue.Ready ≡ others ++ joined
+
+module _ {s : Shape} {im : List ℕ} {i : Task} (l : Leads s im i) where
+  left-leaves : (k p : ℕ) → LeavesPlace s im (left s (with-status s im i k p))
+  left-leaves k p = record { leader = i .0; others = held s _ Queue.Ready; joined = []; was = left-list l k p; now = sym (append-nil _) }
+
+  turned-leaves : LeavesPlace s im (turned s im i)
+  turned-leaves = record { leader = i .0; others = held s (taken s im Queue.Ready) Queue.Ready; joined = i .0 ∷ []; was = leads-list l; now = turned-list l }
+
+-- also from the image that a service begins from
+begins-leaves : {s : Shape} {im m o : List ℕ} → Begins s im m → Sound s im → LeavesPlace s m o → LeavesPlace s im o
+begins-leaves b lies k = record { leader = k .leader; others = k .others; joined = k .joined; was = sym (begins-held b lies) ∙ k .was; now = k .now }
+
+-- it is gone, or keeps its place and has used up so many of the ticks that it can use
 abbrev pub Moves : Shape → List ℕ → List ℕ → ℕ → Type 0
 Moves s im m used = LeavesPlace s im m ⊎ (KeepsPlace s im m × (used + pace s m ≤ pace s im))
 
@@ -67,8 +85,9 @@ uses-count s k d c = words-any s k d c (λ e. tick-count k d c ≡ uses e) (λ t
 -- a word moved and a task woken, where the ready queue is not empty: no dispatch
 woke-clock : {s : Shape} {im m : List ℕ} → Apart s moved-parts im m → Sound s m → (k : Task) → k .0 < s .n → full s im Queue.Ready ≡ false → empty s im Queue.Ready ≡ false
     → at s (woken s m k) clock ≡ at s im clock
+unfolding woken
 woke-clock {s} {im} {m} a h k hk room some =
-    woken-clock s m k hk h (kept-full moved-parts a Queue.Ready tt refl ∙ room) (kept-empty moved-parts a Queue.Ready tt refl ∙ some) ∙ kept-clock moved-parts a refl
+    rw (kept-empty moved-parts a Queue.Ready tt refl ∙ some) (joined-clock s m k hk h (kept-full moved-parts a Queue.Ready tt refl ∙ room) ∙ kept-clock moved-parts a refl)
 
 -- a service: where it does not wait, the task keeps its place and the clock, and nothing is pending
 module _ {s : Shape} {im : List ℕ} {i : Task} (l : Leads s im i) (v : Service) where
@@ -133,18 +152,10 @@ module _ (s : Shape) (im : List ℕ) (g : Good s im) (some : empty s im Queue.Re
           inr (place, rw (pace-is h place (at s im clock) 0 (c ∙ b .clock-is (good-sound s im g)) p) (served-falls (at s im clock) (pending s im i) runs (λ e. waits-not v (sym e ∙ asks))))
 
   -- rule 5
-  ordered-moves : at s im clock ≢ 0 → pending s im i ≡ 0 → MovesAs s im 1 (ordered s im i (order s im i))
-  unfolding ordered spent
-  ordered-moves runs none told t h =
-      let m₀ = after-order s im i (order s im i) in
-      let c = at s m₀ clock - 1 in
-      let k₀ = order-keeps s im i (leads-in l) (sound (leads-sound l) .laid) in
-      let a : Apart s order-parts im (put s m₀ clock c) = frame-put (frame-more k₀ (λ d own. rw (own-picked s im i d own))) clock c (omega arith, omega arith) refl in
-      let p = pending s (put s m₀ clock c) i in
-      let e₀ : at s m₀ clock ≡ at s im clock = k₀ .others clock (omega arith, omega arith) (not-own s im i clock tt tt) in
-      let e : at s (put s m₀ clock c) clock ≡ at s im clock - 1 = at-same s m₀ clock c (omega arith, omega arith) (k₀ .long ∙ sound (leads-sound l) .laid .words) ∙ rw e₀ in
-      let k = apart-keeps order-parts a refl (leads-sound l) in
-      inr (k, rw (pace-is h k (at s im clock - 1) p e refl, none) (ordered-falls (at s im clock) p runs))
+  ordered-moves : at s im clock ≢ 0 → pending s im i ≡ 0 → {m : List ℕ} → Spends s im i m → Sound s m → Moves s im m 1
+  ordered-moves runs none {m} b h =
+      let k = apart-keeps order-parts (order-frame l b (λ c own. rw (own-picked s im i c own)) refl) refl (leads-sound l) in
+      inr (k, rw (pace-is h k (at s im clock - 1) (pending s m i) (order-clock l b) refl, none) (ordered-falls (at s im clock) (pending s m i) runs))
 
   -- so a tick costs one
   tick-moves : MovesAs s im 1 (tick s im)
@@ -155,7 +166,9 @@ module _ (s : Shape) (im : List ℕ) (g : Good s im) (some : empty s im Queue.Re
         stops = λ _ _ _ _ _. inl (rw (stopped-is l) (left-leaves l _ _));
         turns = λ _ _ _ _. inl (turned-leaves l);
         serves = λ _ runs v asks m b. service-moves runs v asks m b;
-        orders = λ _ _ runs none. ordered-moves runs (asked-nothing _ (g .flags i (leads-in l) .pending-range) none);
+        orders = λ _ _ runs none m b.
+            let costs = ordered-moves runs (asked-nothing _ (g .flags i (leads-in l) .pending-range) none) b in
+            record { does = λ _ _ _ _ _. costs; faults = λ _ _ _ _. costs };
       }
 
   -- device events: the first task keeps its place, the clock and its flags
@@ -169,7 +182,7 @@ module _ (s : Shape) (im : List ℕ) (g : Good s im) (some : empty s im Queue.Re
     woke-still : {m : List ℕ} → Apart s moved-parts im m → Sound s m → full s im Queue.Ready ≡ false → KeepsPlace s im (woken s m j) × (at s (woken s m j) clock ≡ at s im clock)
     woke-still a h room = (woke-keeps a (leads-sound l) h j hj room, woke-clock a h j hj room some)
 
-    still-moves : {o : Outcome} → StillAs o → Frame s (λ c. event-parts (c .part) ≡ true) im (o .image) → MovesAs s im 0 o
+    still-moves : {o : Outcome} → StillAs o → Apart s event-parts im (o .image) → MovesAs s im 0 o
     still-moves f u told t h =
         let k = f told t in
         inr (k .0, rw (pace-is h (k .0) (at s im clock) (pending s im i) (k .1) (rw (kept event-parts u (flags i) (leads-in l, omega arith) refl))) (omega arith))
@@ -179,7 +192,7 @@ module _ (s : Shape) (im : List ℕ) (g : Good s im) (some : empty s im Queue.Re
         still-moves
         (input-any s im j StillAs (λ _ told t. absurd (let z : _≡_ {A = ℕ} 0 1 = cc in omega arith)) c (λ _ told t. absurd (let z : _≡_ {A = ℕ} 0 1 = cc in omega arith))
         (λ _ _ _ _. alone-still (input-apart s im g j hj c))
-        (λ clear _ room _ _. woke-still (input-apart s im g j hj c) (appended-sound s im (Queue.Input j) hj (leads-sound l) c (has-room s im (leads-sound l) (Queue.Input j) hj clear)) room))
+        (λ clear _ room _ _. woke-still (input-apart s im g j hj c) (input-sound s im g j hj c clear) room))
         (input-frame s im g j hj c)
 
     output-moves : MovesAs s im 0 (output-done s im j)

@@ -1,4 +1,4 @@
 pub mod Numbers
 pub mod Turns
-pub mod Runs
+pub mod AsCalls
 pub mod Proved

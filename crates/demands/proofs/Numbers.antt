@@ -10,7 +10,7 @@ use Rattle.paper.specs.Queues.{empty, full}
 use Rattle.paper.specs.Flags.{error, pending}
 use Rattle.paper.specs.Waking.{accepted, refused, unless-full}
 use Rattle.paper.specs.Services.{asked, fault-of, unless-wrong, blocked, waiting, wakes, finished, service}
-use Rattle.paper.specs.Events.{event-of, running, stopped, turned, ordered, acting, turn-of, tick, input, output-done, happening}
+use Rattle.paper.specs.Events.{event-of, running, stopped, turned, acting, turn-of, tick, input, output-done, happening}
 use Rattle.paper.specs.Plans.{plan-shape}
 use Rattle.paper.specs.Tests.{rules-hold}
 use Rattle.paper.specs.Numbers.{number, verdict-number, reply-number, refused-if, and-then, too-short, not-marked, out-of-range, not-packed, wrong-segments, check, plan-short, plan-broken, check-plan, check-build}
@@ -27,6 +27,7 @@ use Rattle.paper.specs.declared.Answer.{Answer}
 use Rattle.paper.specs.declared.Refusal.{Refusal}
 use Rattle.paper.specs.declared.Reply.{Reply}
 use Rattle.paper.specs.declared.Verdict.{Verdict}
+use Rattle.event_laws.specs.Walk.{ordered-any}
 use Rattle.demands.specs.Wakes.{service-wakes, asked-wakes, finds-full, wake-finds-full}
 use Rattle.demands.specs.Demands.{due, image-tests, plan-tests, build-tests, event-tests, call-tests, run-tests}
 
@@ -120,9 +121,8 @@ module _ (s : Shape) (im : List ℕ) where
       go Fault.Nothing false = wake-due (wakes s im i v) _ _
 
   acting-due : (i : Task) (x : Asked) → reply-number (acting s im i x .reply) ≡ due ((10, finds-full s im (asked-wakes s im i x)) ∷ [])
-  unfolding ordered
   acting-due i (Asked.For v) = service-due i v
-  acting-due i Asked.Nothing = refl
+  acting-due i Asked.Nothing = ordered-any (λ o. reply-number (o .reply) ≡ 0) (λ _ _. record { does = λ _ _ _. refl; faults = λ _ _. refl })
 
   tick-due : reply-number (tick s im .reply) ≡ due ((10, wake-finds-full s im Event.Tick) ∷ [])
   unfolding tick turn-of

@@ -24,7 +24,7 @@ use Rattle.user_laws.specs.Folded.{event-is, event-unchanged, run-refused}
 use Rattle.user_laws.specs.Delivery.{Tells, receive-waits, waits-untouched, sent-kind, sent-held, received-kind, received-word, received-held, word-arrives}
 use Rattle.demands.specs.Demands.{due, run-tests, Demand1, Asks, Demand2, Demand3, Demands}
 use Rattle.demands.proofs.Numbers.{image-due, plan-due, build-due, run-due, event-due, call-due}
-use Rattle.demands.proofs.Runs.{is-calls, took-whole, stopped-at as stops}
+use Rattle.demands.proofs.AsCalls.{is-calls, took-whole, stopped-at as stops}
 use Rattle.demands.proofs.Turns.{turn}
 
 -- a refused build leaves the target, a refused event the image, a refused run the image

@@ -1,4 +1,4 @@
--- Where the first task stands after each rule of a tick: it keeps its place in the ready queue, or leaves it. Assumes nothing.
+-- Whether the first task keeps its place in the ready queue, as the reply of a tick tells. Assumes nothing.
 use mathlib.Core.Path.{_≡_, refl, sym, ap, _∙_}
 use mathlib.Core.List.{List, [], _∷_, _++_, append-nil}
 use mathlib.Core.Bool.{Bool, true, false, true≢false}
@@ -9,10 +9,9 @@ use borrow.Author.Tests.{ne-eqb}
 use lib.ListN.{length, getD}
 use Rattle.paper.specs.Image.{ord, cell, at, flags}
 use Rattle.paper.specs.Queues.{count, first, taken, held, empty, full}
-use Rattle.paper.specs.Waking.{with-status, woken, left}
+use Rattle.paper.specs.Waking.{woken}
 use Rattle.paper.specs.Services.{fault-of, service-faulted, blocked, served, wakes}
-use Rattle.paper.specs.Orders.{order, order-answer}
-use Rattle.paper.specs.Events.{running, ordered, turned, tick}
+use Rattle.paper.specs.Events.{running, tick}
 use Rattle.paper.specs.Rules.{Good}
 use Rattle.paper.specs.declared.Task.{Task}
 use Rattle.paper.specs.declared.Shape.{Shape}
@@ -21,7 +20,6 @@ use Rattle.paper.specs.declared.Queue.{Queue}
 use Rattle.paper.specs.declared.Service.{Service}
 use Rattle.paper.specs.declared.Fault.{Fault}
 use Rattle.paper.specs.declared.Woken.{Woken}
-use Rattle.paper.specs.declared.Effect.{Effect}
 use Rattle.paper.specs.declared.Answer.{Answer}
 use Rattle.paper.specs.declared.Reply.{Reply}
 use Rattle.laws.specs.Queues.{held-length, taken-held}
@@ -30,7 +28,7 @@ use Rattle.laws.specs.Checked.{good-sound}
 use Rattle.laws.specs.Frame.{Apart, frame-none, frame-put, kept-full, kept-held}
 use Rattle.laws.specs.Changes.{moved-parts}
 use Rattle.event_laws.specs.Own.{own-parts, header-part, clock-apart}
-use Rattle.event_laws.specs.Turns.{woken-tail, Leads, leads-sound, leads-in, leads-list, left-list, turned-list}
+use Rattle.event_laws.specs.Turns.{woken-tail, Leads, leads-sound, leads-in, leads-list}
 use Rattle.event_laws.specs.Serving.{served-nearly, wakes-whom}
 use Rattle.event_laws.specs.Walk.{ServiceCases, Begins, tick-any}
 use Rattle.event_laws.specs.Stays.{begins-leads, served-apart, first-leads, tick-good}
@@ -40,14 +38,6 @@ use Rattle.event_laws.specs.Touched.{TickCell, tick-frame}
 pub record KeepsPlace (s : Shape) (im m : List ℕ) : Type 0 where
   pub joined : List ℕ
   pub now : held s m Queue.Ready ≡ held s im Queue.Ready ++ joined
-
--- the first task is gone from its place: every other one moved up
-pub record LeavesPlace (s : Shape) (im m : List ℕ) : Type 0 where
-  pub leader : ℕ
-  pub others : List ℕ
-  pub joined : List ℕ
-  pub was : held s im Queue.Ready ≡ leader ∷ others
-  pub now : held s m Queue.Ready ≡ others ++ joined
 
 -- a queue that holds a word is not empty, and that word is its first
 module _ (s : Shape) (im : List ℕ) (x : ℕ) (l : List ℕ) (h : held s im Queue.Ready ≡ x ∷ l) where
@@ -85,13 +75,7 @@ module _ {s : Shape} {im : List ℕ} {i : Task} (l : Leads s im i) where
     pub keeps-first : Sound s m → first s m Queue.Ready ≡ i .0
     keeps-first h = held-first s m _ _ keeps-list h
 
-  -- the rules
-  pub left-leaves : (k p : ℕ) → LeavesPlace s im (left s (with-status s im i k p))
-  left-leaves k p = record { leader = i .0; others = held s _ Queue.Ready; joined = []; was = left-list l k p; now = sym (append-nil _) }
-
-  pub turned-leaves : LeavesPlace s im (turned s im i)
-  turned-leaves = record { leader = i .0; others = held s (taken s im Queue.Ready) Queue.Ready; joined = i .0 ∷ []; was = leads-list l; now = turned-list l }
-
+  -- a service that does not wait
   pub faulted-keeps : (e : ℕ) → KeepsPlace s im (service-faulted s im i e)
   unfolding service-faulted
   faulted-keeps e = apart-keeps own-parts (frame-put frame-none (flags i) _ (leads-in l, omega arith) refl) refl (leads-sound l)
@@ -106,14 +90,11 @@ module _ {s : Shape} {im : List ℕ} {i : Task} (l : Leads s im i) where
 
 -- from the image that a service begins from
 module _ {s : Shape} {im m : List ℕ} (b : Begins s im m) (lies : Sound s im) where
-  begins-held : held s m Queue.Ready ≡ held s im Queue.Ready
+  pub begins-held : held s m Queue.Ready ≡ held s im Queue.Ready
   begins-held = kept-held header-part (clock-apart (b .but-clock)) Queue.Ready tt refl lies
 
   pub begins-keeps : {o : List ℕ} → KeepsPlace s m o → KeepsPlace s im o
   begins-keeps k = record { joined = k .joined; now = k .now ∙ rw begins-held }
-
-  pub begins-leaves : {o : List ℕ} → LeavesPlace s m o → LeavesPlace s im o
-  begins-leaves k = record { leader = k .leader; others = k .others; joined = k .joined; was = sym begins-held ∙ k .was; now = k .now }
 
 -- whether a rule before an order leaves the first task first, as its reply tells: a service that is done or faulted
 abbrev stays-by : Answer → Bool
@@ -132,10 +113,6 @@ abbrev pub stays-first : Reply → Bool
 stays-first (Reply.Accepted a) = stays-by a
 stays-first (Reply.Refused r) = false
 
-ordered-tells : (i : Task) (e : Effect) → stays-by (order-answer i e) ≡ false
-ordered-tells i (Effect.Does next c) = refl
-ordered-tells i (Effect.Faults e) = refl
-
 module _ (s : Shape) (im : List ℕ) (g : Good s im) where
   service-stays : (some : empty s im Queue.Ready ≡ false) (v : Service) (m : List ℕ) → Begins s im m
       → ServiceCases s im m (running s im) v (λ o. stays-first (o .reply) ≡ true → KeepsPlace s im (o .image))
@@ -151,7 +128,6 @@ module _ (s : Shape) (im : List ℕ) (g : Good s im) where
       }
 
   tick-keeps : stays-first (tick s im .reply) ≡ true → KeepsPlace s im (tick s im .image)
-  unfolding ordered
   tick-keeps =
       tick-any (λ o. stays-first (o .reply) ≡ true → KeepsPlace s im (o .image))
       record {
@@ -159,7 +135,7 @@ module _ (s : Shape) (im : List ℕ) (g : Good s im) where
         stops = λ _ _ z. absurd (true≢false (sym z));
         turns = λ _ z. absurd (true≢false (sym z));
         serves = λ some _ v _. service-stays some v;
-        orders = λ _ _ _ _ z. absurd (true≢false (sym z ∙ ordered-tells (running s im) (order s im (running s im))));
+        orders = λ _ _ _ _ _ _. record { does = λ _ _ _ z. absurd (true≢false (sym z)); faults = λ _ _ z. absurd (true≢false (sym z)) };
       }
 
   -- no cell of the segment table is one that a tick changes

@@ -26,7 +26,7 @@ use Rattle.paper.specs.declared.Woken.{Woken}
 use Rattle.laws.specs.Cases.{when}
 use Rattle.laws.specs.Cells.{cells}
 use Rattle.laws.specs.Queues.{same-task, appended-held, taken-held}
-use Rattle.laws.specs.Sound.{Sound, sound, has-room, has-word, put-sound, appended-sound, appended-some, taken-sound}
+use Rattle.laws.specs.Sound.{Sound, sound, has-space, has-word, put-sound, appended-sound, appended-some, taken-sound}
 use Rattle.laws.specs.Frame.{Frame, Apart, frame-none, frame-more, frame-put, frame-appended, frame-taken, ported-frame, kept, kept-port, kept-held, kept-count}
 use Rattle.laws.specs.Changes.{message-parts, out-sound, frame-printing}
 use Rattle.event_laws.specs.Standing.{waits-not}
@@ -108,7 +108,7 @@ module _ (s : Shape) (im : List ℕ) (i : Task) (w : Woken) where
 module _ (s : Shape) (im : List ℕ) (h : Sound s im) (q : Queue) (hq : Has s q) where
   pub appended-chars : (v : ℕ) → full s im q ≡ false → Characters (held s im q) → v ≤ most-character → Characters (held s (appended s im q v) q)
   appended-chars v f c low =
-      rw (appended-held s im q hq (sound h .laid .words) (sound h .queues q hq) v (has-room s im h q hq f)) (characters-more (held s im q) v c low)
+      rw (appended-held s im q hq (sound h .laid .words) (sound h .queues q hq) v (has-space s im h q hq f)) (characters-more (held s im q) v c low)
 
   pub taken-chars : empty s im q ≡ false → Characters (held s im q) → (first s im q ≤ most-character) × Characters (held s (taken s im q) q)
   taken-chars f c =
@@ -123,7 +123,7 @@ module _ {s : Shape} {im : List ℕ} (h : Nearly s im Woken.Nobody) (q : Queue) 
 
   pub append-nearly : (v : ℕ) → full s im q ≡ false → Chars s (appended s im q v) q → Nearly s (appended s im q v) w
   append-nearly v f chars =
-      moves-nearly _ (λ E e. frame-appended frame-none q hq (h .lies) e v) chars (appended-sound s im q hq (h .lies) v (has-room s im (h .lies) q hq f))
+      moves-nearly _ (λ E e. frame-appended frame-none q hq (h .lies) e v) chars (appended-sound s im q hq (h .lies) v (has-space s im (h .lies) q hq f))
 
   pub take-nearly : empty s im q ≡ false → Chars s (taken s im q) q → Nearly s (taken s im q) w
   take-nearly f chars =

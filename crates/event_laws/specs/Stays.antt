@@ -1,5 +1,5 @@
 -- A good image stays good, whatever event comes. Assumes nothing.
-use mathlib.Core.Path.{_≡_, refl, sym, ap, _∙_}
+use mathlib.Core.Path.{_≡_, refl, sym, ap, subst, _∙_}
 use mathlib.Core.List.{List}
 use mathlib.Core.Bool.{false}
 use mathlib.Core.Logic.{_≢_}
@@ -11,7 +11,7 @@ use Rattle.paper.specs.Flags.{error, pending, is-ready, waits, is-stopped}
 use Rattle.paper.specs.Waking.{with-status, woken, left}
 use Rattle.paper.specs.Services.{fault-of, blocked, served}
 use Rattle.paper.specs.Orders.{order, after-order}
-use Rattle.paper.specs.Events.{event-of, running, stopped, spent, ordered, tick, input, port-next, output-done, happening}
+use Rattle.paper.specs.Events.{event-of, running, stopped, tick, input, port-next, output-done, happening}
 use Rattle.paper.specs.Rules.{Good}
 use Rattle.paper.specs.declared.Task.{Task}
 use Rattle.paper.specs.declared.Shape.{Shape}
@@ -21,20 +21,20 @@ use Rattle.paper.specs.declared.Service.{Service}
 use Rattle.paper.specs.declared.Fault.{Fault}
 use Rattle.paper.specs.declared.Woken.{Woken}
 use Rattle.paper.specs.declared.Event.{Event}
-use Rattle.laws.specs.Cells.{at-same, at-other, put-held}
-use Rattle.laws.specs.Sound.{Sound, sound}
+use Rattle.laws.specs.Cells.{at-other, put-held}
+use Rattle.laws.specs.Sound.{sound}
 use Rattle.laws.specs.Checked.{good-sound}
 use Rattle.laws.specs.Events.{Formed, event-formed}
-use Rattle.laws.specs.Frame.{Apart, frame-none, frame-put, frame-appended, kept, kept-status, kept-empty, kept-full, kept-first}
+use Rattle.laws.specs.Frame.{Frame, Apart, frame-none, frame-more, frame-then, frame-appended, kept, kept-status, kept-empty, kept-full, kept-first}
 use Rattle.laws.specs.Changes.{moved-parts, small-error, status-is, peer-is, frame-next, frame-served}
-use Rattle.laws.specs.Orders.{order-keeps, order-flagged}
+use Rattle.laws.specs.Orders.{OwnCell, Keeps, order-keeps, not-own, keeps-sound, order-flagged}
 use Rattle.event_laws.specs.Standing.{waits-not, waits-on, make-stands}
 use Rattle.event_laws.specs.Kept.{Spared, Nearly, good-nearly, nearly-good}
 use Rattle.event_laws.specs.Own.{header-part, own-nearly, clock-apart, clock-nearly}
 use Rattle.event_laws.specs.Turns.{status-part, entry-apart, woken-nearly, Leads, leads-sound, leads-in, leads-ready, leads-peer, left-good, turned-good}
 use Rattle.event_laws.specs.Moving.{free-input, free-output, append-nearly, appended-chars, next-nearly}
 use Rattle.event_laws.specs.Serving.{faulted-good, waiting-good, served-nearly, wakes-whom}
-use Rattle.event_laws.specs.Walk.{asked-nothing, ServiceCases, Begins, tick-any, input-any, done-any, event-any}
+use Rattle.event_laws.specs.Walk.{asked-nothing, ServiceCases, Begins, Spends, tick-any, input-any, done-any, event-any}
 
 -- an image good but for a task that waits, with that task woken
 module _ {s : Shape} {im m : List ℕ} (a : Apart s moved-parts im m) (k : Task) (hk : k .0 < s .n) (waited : at s im (status k) ≢ is-ready) (room : full s im Queue.Ready ≡ false) where
@@ -94,16 +94,21 @@ module _ {s : Shape} {im : List ℕ} {i : Task} (l : Leads s im i) where
       (left-good l is-stopped 0 (λ z. absurd (let y : _≡_ {A = ℕ} 5 0 = z in omega arith))
       (make-stands s _ i (rw st (omega arith)) (λ v e. absurd (waits-on v (sym st ∙ e))) (λ _. rw f ne) (λ _ _. peer-is s im i hi (leads-sound l) is-stopped 0)))
 
-  -- rule 5: one order
-  ordered-good : error s im i ≡ 0 → pending s im i ≡ 0 → Good s (ordered s im i (order s im i) .image)
-  unfolding ordered spent
-  ordered-good calm idle =
-      let m = after-order s im i (order s im i) in
-      let h : Nearly s m Woken.Nobody = own-nearly (good-nearly (l .rules)) i hi (leads-ready l) (leads-peer l) (order-keeps s im i hi (sound (leads-sound l) .laid))
-      (order-flagged s im i hi (leads-sound l) (l .rules .flags i hi) calm idle) in
-      let c = at-same s m clock (at s m clock - 1) (omega arith, omega arith) (sound (h .lies) .laid .words) in
-      nearly-good
-      (clock-nearly (frame-put frame-none clock _ (omega arith, omega arith) refl) h (omega (arith, c, h .clocked .0)) (λ e. omega (arith, c, h .clocked .1 e)))
+  -- rule 5: one order, which changes the task's own words, and the clock, which falls by 1
+  own-alone : Keeps s im i (after-order s im i (order s im i))
+  own-alone = order-keeps s im i hi (sound (leads-sound l) .laid)
+
+  module _ {m : List ℕ} (b : Spends s im i m) where
+    pub order-frame : {E : Cell → Type 0} → ((c : Cell) → OwnCell s im i c → E c) → E clock → Frame s E im m
+    order-frame {E} own time = frame-then (frame-more own-alone own) (frame-more (b .but-clock) (λ c e. subst E (sym e) time))
+
+    pub order-clock : at s m clock ≡ at s im clock - 1
+    order-clock = b .clock-is (keeps-sound s im i _ (leads-sound l) own-alone) ∙ rw (own-alone .others clock (omega arith, omega arith) (not-own s im i clock tt tt))
+
+    ordered-good : error s im i ≡ 0 → pending s im i ≡ 0 → Good s m
+    ordered-good calm idle =
+        let h = own-nearly (good-nearly (l .rules)) i hi (leads-ready l) (leads-peer l) own-alone (order-flagged s im i hi (leads-sound l) (l .rules .flags i hi) calm idle) in
+        nearly-good (clock-nearly (b .but-clock) h (omega (arith, order-clock, l .rules .clock-range)) (λ e. omega (arith, b .clock-is (h .lies), h .clocked .1 e)))
 
 module _ (s : Shape) (im : List ℕ) (g : Good s im) where
   -- the first task
@@ -121,8 +126,9 @@ module _ (s : Shape) (im : List ℕ) (g : Good s im) where
         stops = λ some. stopped-good (first-leads some);
         turns = λ some. turned-good (first-leads some);
         serves = λ some runs v asks m b. service-good (begins-leads (first-leads some) b) im g v (begins-pending (first-leads some) b ∙ asks);
-        orders = λ some calm runs none.
-            ordered-good (first-leads some) calm (asked-nothing _ (g .flags (running s im) (first-task some) .pending-range) none);
+        orders = λ some calm runs none m b.
+            let still = ordered-good (first-leads some) b calm (asked-nothing _ (g .flags (running s im) (first-task some) .pending-range) none) in
+            record { does = λ _ _ _. still; faults = λ _ _. still };
       }
 
   -- device events
@@ -144,11 +150,8 @@ module _ (s : Shape) (im : List ℕ) (g : Good s im) where
     pub next-apart : Apart s moved-parts im (port-next s im i)
     next-apart = frame-next frame-none (good-sound s im g) i hi (λ r. refl) (λ r. refl)
 
-    next-owner : (w : Woken) → (at s im (status i) ≡ waits Service.Output → Spared w i) → Nearly s (port-next s im i) w
+    pub next-owner : (w : Woken) → (at s im (status i) ≡ waits Service.Output → Spared w i) → Nearly s (port-next s im i) w
     next-owner w sp = next-nearly (good-nearly g) i hi w (free-output s im i w sp)
-
-    pub next-sound : Sound s (port-next s im i)
-    next-sound = next-owner (Woken.One i) (λ _. refl) .lies
 
     output-done-good : Good s (output-done s im i .image)
     output-done-good =

@@ -23,12 +23,12 @@ use Rattle.paper.specs.declared.Queue.{Queue}
 use Rattle.paper.specs.declared.Woken.{Woken}
 use Rattle.laws.specs.Cases.{when}
 use Rattle.laws.specs.Cells.{at-same}
-use Rattle.laws.specs.Rows.{times-append}
+use Rattle.laws.specs.Consecutive.{times-append}
 use Rattle.laws.specs.Queues.{same-task, appended-held, appended-count, taken-held, taken-count}
 use Rattle.laws.specs.Checked.{good-sound}
-use Rattle.laws.specs.Sound.{Sound, sound, has-room, has-word, put-sound, appended-sound, taken-sound}
+use Rattle.laws.specs.Sound.{Sound, sound, has-space, has-word, put-sound, appended-sound, taken-sound}
 use Rattle.laws.specs.Frame.{Frame, Apart, frame-none, frame-more, frame-put, frame-appended, frame-taken, kept, kept-flags, kept-clock, kept-status, kept-peer, kept-count, kept-empty, kept-full, kept-held, kept-same}
-use Rattle.laws.specs.Changes.{dispatch-parts, turn-parts, status-sound, status-is, peer-is, frame-status, frame-left, frame-woken}
+use Rattle.laws.specs.Changes.{dispatch-parts, turn-parts, status-sound, status-is, peer-is, frame-status, frame-left}
 use Rattle.event_laws.specs.Standing.{ready-stands}
 use Rattle.event_laws.specs.Kept.{Spared, Listed, Clocked, Nearly, good-nearly, nearly-good, kept-stands, kept-nearly}
 use Rattle.event_laws.specs.Own.{header-part, clock-apart, clock-nearly}
@@ -36,11 +36,6 @@ use Rattle.event_laws.specs.Own.{header-part, clock-apart, clock-nearly}
 -- a cell that a turn of task i changes: of the header and the ready queue, or its entry of the status table
 abbrev pub TurnCell : Task → Cell → Type 0
 TurnCell i c = (dispatch-parts (c .part) ≡ true) ⊎ ((c .part ≡ Part.StatusTable) × (c .row ≡ i .0))
-
--- a wake changes the task's entry of the status table, the ready queue and perhaps the clock, and no other cell
-pub woken-cells : (s : Shape) (im : List ℕ) (j : Task) → j .0 < s .n → Sound s im
-    → Frame s (λ c. ((c .part ≡ Part.StatusTable) × (c .row ≡ j .0)) ⊎ ((c .part ≡ Part.ReadyQueue) ⊎ (c ≡ clock))) im (woken s im j)
-woken-cells s im j hj h = frame-woken frame-none h (λ r. inr (inl refl)) (inr (inr refl)) j hj (λ r. inl (refl, refl))
 
 -- the ready queue's words, clock and statuses anew for one task, the others as they were
 module _ {s : Shape} {im m : List ℕ} (i : Task) (k : Frame s (TurnCell i) im m) where
@@ -139,7 +134,7 @@ module _ (s : Shape) (im : List ℕ) (j : Task) (hj : j .0 < s .n) (h : Sound s 
   entry-sound = status-sound s im j hj h is-ready 0
 
   entry-room : at s (with-status s im j is-ready 0) (count s Queue.Ready) < at s (with-status s im j is-ready 0) (capacity s Queue.Ready)
-  entry-room = has-room s _ entry-sound Queue.Ready tt (kept-full status-part (entry-apart s im j hj h is-ready 0) Queue.Ready tt refl ∙ room)
+  entry-room = has-space s _ entry-sound Queue.Ready tt (kept-full status-part (entry-apart s im j hj h is-ready 0) Queue.Ready tt refl ∙ room)
 
   joined-frame : Frame s (TurnCell j) im (readied s im j)
   unfolding readied
@@ -174,16 +169,12 @@ module _ (s : Shape) (im : List ℕ) (j : Task) (hj : j .0 < s .n) (h : Sound s 
       go true = dispatched-held s _ joined-sound ∙ joined-list
       go false = joined-list
 
-  -- with the clock as it was, where the queue was not empty
-  joined-clock : at s (readied s im j) clock ≡ at s im clock
+  -- and before a dispatch the clock is as it was
+  pub joined-clock : at s (readied s im j) clock ≡ at s im clock
   unfolding readied
   joined-clock =
       kept-clock ready-part (frame-appended frame-none Queue.Ready tt entry-sound (λ r. refl) (j .0)) refl ∙
       kept-clock status-part (entry-apart s im j hj h is-ready 0) refl
-
-  pub woken-clock : empty s im Queue.Ready ≡ false → at s (woken s im j) clock ≡ at s im clock
-  unfolding woken
-  woken-clock some = rw some joined-clock
 
 -- and the image is good, where it was but for that task
 module _ {s : Shape} {im : List ℕ} (j : Task) (hj : j .0 < s .n) (h : Nearly s im (Woken.One j)) (waited : at s im (status j) ≢ is-ready)

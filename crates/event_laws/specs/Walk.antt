@@ -3,7 +3,7 @@ use mathlib.Core.Path.{_≡_, refl}
 use mathlib.Core.List.{List, [], _∷_}
 use mathlib.Core.Bool.{Bool, true, false, not, cond}
 use mathlib.Core.Logic.{_≢_}
-use Prim.Native.Nat.{ℕ, zero, suc, _<_, _≤_}
+use Prim.Native.Nat.{ℕ, zero, suc, _-_, _<_, _≤_}
 use native.Mathlib.Omega.{arith}
 use borrow.Author.Tests.{eqb-true, eqb-false, eq-eqb, ne-eqb, not-true, not-false}
 use lib.Dec.{eqb}
@@ -13,8 +13,8 @@ use Rattle.paper.specs.Queues.{appended, empty, full}
 use Rattle.paper.specs.Flags.{error, pending, waits}
 use Rattle.paper.specs.Waking.{Outcome, accepted, refused, woken, one-if, with-woken, unless-full}
 use Rattle.paper.specs.Services.{services, numbered, asked, fault-of, unless-wrong, service-faulted, blocked, waiting, served, wakes, finished, service}
-use Rattle.paper.specs.Orders.{order}
-use Rattle.paper.specs.Events.{running, stopped, turned, serving, ordered, acting, turn-of, tick, input, port-next, output-done, happening}
+use Rattle.paper.specs.Orders.{order, after-order, order-answer}
+use Rattle.paper.specs.Events.{running, stopped, turned, serving, spent, ordered, acting, turn-of, tick, input, port-next, output-done, happening}
 use Rattle.paper.specs.declared.Task.{Task}
 use Rattle.paper.specs.declared.Shape.{Shape}
 use Rattle.paper.specs.declared.Queue.{Queue}
@@ -23,12 +23,15 @@ use Rattle.paper.specs.declared.Asked.{Asked}
 use Rattle.paper.specs.declared.Fault.{Fault}
 use Rattle.paper.specs.declared.Woken.{Woken}
 use Rattle.paper.specs.declared.Event.{Event}
+use Rattle.paper.specs.declared.Change.{Change}
+use Rattle.paper.specs.declared.Effect.{Effect}
 use Rattle.paper.specs.declared.Answer.{Answer}
 use Rattle.paper.specs.declared.Refusal.{Refusal}
 use Rattle.paper.specs.declared.Reply.{Reply}
 use Rattle.laws.specs.Cases.{when}
-use Rattle.laws.specs.Sound.{Sound}
-use Rattle.laws.specs.Frame.{Frame, frame-none}
+use Rattle.laws.specs.Cells.{at-same}
+use Rattle.laws.specs.Sound.{Sound, sound}
+use Rattle.laws.specs.Frame.{Frame, frame-none, frame-put}
 
 -- what pending asks for
 asked-for : (p : ℕ) (v : Service) → asked p ≡ Asked.For v → p ≡ waits v
@@ -90,14 +93,43 @@ service-any {s} {m} {i} {v} P c = go (fault-of s m i v) refl
         when P (blocked s m i v) (c .stuck f) (λ e.
         wakes-any s m (served s m i v) P (Answer.ServiceDone i) (c .no-room f e) (wakes s m i v) (c .alone f e) (λ k. c .woke k f e))
 
--- rule 4 does its service from an image that differs from the tick's in the clock alone: at present it takes nothing from it
-pub record Begins (s : Shape) (im m : List ℕ) : Type 0 where
+-- an image that differs from im in the clock alone, which is v
+pub record ButClock (s : Shape) (im : List ℕ) (v : ℕ) (m : List ℕ) : Type 0 where
   pub but-clock : Frame s (λ c. c ≡ clock) im m
-  pub clock-is : Sound s im → at s m clock ≡ at s im clock
+  pub clock-is : Sound s im → at s m clock ≡ v
+
+-- rule 4 does its service from such an image: at present it takes nothing from the clock
+abbrev pub Begins : Shape → List ℕ → List ℕ → Type 0
+Begins s im m = ButClock s im (at s im clock) m
 
 serving-any : {s : Shape} {im : List ℕ} {i : Task} {v : Service} (P : Outcome → Type 0) → ((m : List ℕ) → Begins s im m → ServiceCases s im m i v P)
     → P (serving s im i v)
 serving-any {s} {im} P c = service-any P (c im record { but-clock = frame-none; clock-is = λ _. refl })
+
+-- rule 5 leaves the image after the task's order but for the clock, which has fallen by 1
+abbrev pub Spends : Shape → List ℕ → Task → List ℕ → Type 0
+Spends s im i m = ButClock s (after-order s im i (order s im i)) (at s (after-order s im i (order s im i)) clock - 1) m
+
+-- what it comes to, leaving m: the order of task i is done, or it faulted
+pub record OrderCases (s : Shape) (im m : List ℕ) (i : Task) (P : Outcome → Type 0) : Type 0 where
+  pub does : (next : ℕ) (c : Change) → order s im i ≡ Effect.Does next c → P (accepted (Answer.OrderDone i) m)
+  pub faults : (e : ℕ) → order s im i ≡ Effect.Faults e → P (accepted (Answer.OrderFaulted i) m)
+
+order-any : {s : Shape} {im m : List ℕ} {i : Task} (P : Outcome → Type 0) → OrderCases s im m i P → (e : Effect) → order s im i ≡ e → P (accepted (order-answer i e) m)
+order-any P c (Effect.Does next f) e = c .does next f e
+order-any P c (Effect.Faults f) e = c .faults f e
+
+spends : (s : Shape) (m : List ℕ) → ButClock s m (at s m clock - 1) (spent s m)
+unfolding spent
+spends s m =
+    record { but-clock = frame-put frame-none clock _ (omega arith, omega arith) refl; clock-is = λ h. at-same s m clock _ (omega arith, omega arith) (sound h .laid .words) }
+
+pub ordered-any : {s : Shape} {im : List ℕ} {i : Task} (P : Outcome → Type 0) → ((m : List ℕ) → Spends s im i m → OrderCases s im m i P)
+    → P (ordered s im i (order s im i))
+unfolding ordered
+ordered-any {s} {im} {i} P c =
+    let m = after-order s im i (order s im i) in
+    order-any P (c (spent s m) (spends s m)) (order s im i) refl
 
 -- what a tick comes to, rule by rule
 pub record TickCases (s : Shape) (im : List ℕ) (P : Outcome → Type 0) : Type 0 where
@@ -107,7 +139,7 @@ pub record TickCases (s : Shape) (im : List ℕ) (P : Outcome → Type 0) : Type
   pub serves : empty s im Queue.Ready ≡ false → at s im clock ≢ 0 → (v : Service) → pending s im (running s im) ≡ waits v
       → (m : List ℕ) → Begins s im m → ServiceCases s im m (running s im) v P
   pub orders : empty s im Queue.Ready ≡ false → error s im (running s im) ≡ 0 → at s im clock ≢ 0 → asked (pending s im (running s im)) ≡ Asked.Nothing
-      → P (ordered s im (running s im) (order s im (running s im)))
+      → (m : List ℕ) → Spends s im (running s im) m → OrderCases s im m (running s im) P
 
 pub tick-any : {s : Shape} {im : List ℕ} (P : Outcome → Type 0) → TickCases s im P → P (tick s im)
 unfolding tick turn-of
@@ -118,7 +150,7 @@ tick-any {s} {im} P c =
   where
     acts : empty s im Queue.Ready ≡ false → error s im (running s im) ≡ 0 → at s im clock ≢ 0 → (x : Asked) → asked (pending s im (running s im)) ≡ x → P (acting s im (running s im) x)
     acts some calm runs (Asked.For v) e = serving-any P (c .serves some runs v (asked-for _ v e))
-    acts some calm runs Asked.Nothing e = c .orders some calm runs e
+    acts some calm runs Asked.Nothing e = ordered-any P (c .orders some calm runs e)
 
 -- where a service is pending, with no error and time left, a tick is by rule 4
 pub serves-any : (s : Shape) (im : List ℕ) → empty s im Queue.Ready ≡ false → error s im (running s im) ≡ 0 → at s im clock ≢ 0
@@ -159,7 +191,6 @@ event-any s im P ticks inputs dones others Event.Malformed = others
 -- every outcome is accepted, or refused with the image as it was
 module _ (s : Shape) (im : List ℕ) (P : Outcome → Type 0) (taken : (a : Answer) (m : List ℕ) → P (accepted a m)) (kept : (r : Refusal) → P (refused r im)) where
   pub made-any : (e : Event) → P (happening s im e)
-  unfolding ordered
   made-any =
       event-any s im (λ _ o. P o)
       (tick-any P
@@ -169,7 +200,7 @@ module _ (s : Shape) (im : List ℕ) (P : Outcome → Type 0) (taken : (a : Answ
         turns = λ _. taken _ _;
         serves = λ _ _ _ _ _ _.
             record { faults = λ _ _. taken _ _; stuck = λ _ _. taken _ _; alone = λ _ _ _. taken _ _; woke = λ _ _ _ _ _. taken _ _; no-room = λ _ _ _. kept _ };
-        orders = λ _ _ _ _. taken _ _;
+        orders = λ _ _ _ _ _ _. record { does = λ _ _ _. taken _ _; faults = λ _ _. taken _ _ };
       })
       (λ i c. input-any s im i P (λ _. kept _) c (λ _. kept _) (λ _ _. taken _ _) (λ _ _ _. taken _ _))
       (λ i. done-any s im i P (λ _. kept _) (λ _. kept _) (λ _. taken _ _) (λ _ _. taken _ _))

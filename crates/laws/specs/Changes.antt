@@ -22,7 +22,7 @@ use Rattle.paper.specs.declared.Service.{Service}
 use Rattle.paper.specs.declared.Fault.{Fault}
 use Rattle.laws.specs.Cases.{when}
 use Rattle.laws.specs.Cells.{cells}
-use Rattle.laws.specs.Sound.{Sound, sound, has-room, put-sound, appended-sound}
+use Rattle.laws.specs.Sound.{Sound, sound, has-space, put-sound, appended-sound}
 use Rattle.laws.specs.Frame.{Frame, frame-put, frame-appended, frame-taken}
 
 -- the parts that a dispatch changes: header and ready queue; and a turn: the status table with them
@@ -122,7 +122,7 @@ module _ {s : Shape} {E : Cell → Type 0} {im m : List ℕ} (k : Frame s E im m
 
 -- an output appended
 pub out-sound : (s : Shape) (m : List ℕ) (i : Task) → i .0 < s .n → Sound s m → (v : ℕ) → full s m (Queue.Output i) ≡ false → Sound s (appended s m (Queue.Output i) v)
-out-sound s m i hi h v clear = appended-sound s m (Queue.Output i) hi h v (has-room s m h (Queue.Output i) hi clear)
+out-sound s m i hi h v clear = appended-sound s m (Queue.Output i) hi h v (has-space s m h (Queue.Output i) hi clear)
 
 -- the word of a service moves, and nothing is pending
 module _ {s : Shape} {E : Cell → Type 0} {im m : List ℕ} (k : Frame s E im m) (h : Sound s m) (i : Task) (hi : i .0 < s .n)

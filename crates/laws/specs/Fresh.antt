@@ -27,7 +27,7 @@ use Rattle.laws.specs.Layout.{total-is}
 use Rattle.laws.specs.Steps.{steps, steps-mod, mod-low}
 use Rattle.laws.specs.Queues.{word-valid, words-snoc}
 use Rattle.laws.specs.Checked.{equal, at-most, every-is, no-fault, ranged-is, passed, good-checked}
-use Rattle.laws.specs.Rows.{rising, joined-ends, joined-at, joined-length, joined-row, numbers, numbers-length, numbers-at, numbers-once}
+use Rattle.laws.specs.Consecutive.{rising, joined-ends, joined-at, joined-length, joined-row, numbers, numbers-length, numbers-at, numbers-once}
 
 -- a right plan: its shape fits, in each pair 1 <= L and P <= L, and it ends with its last program
 pub record Planned (plan : List ℕ) : Type 0 where

@@ -9,7 +9,7 @@ pub mod Sound
 pub mod Frame
 pub mod Every
 pub mod Checked
-pub mod Rows
+pub mod Consecutive
 pub mod Fresh
 pub mod Effects
 pub mod Orders

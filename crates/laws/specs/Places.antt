@@ -10,7 +10,7 @@ use Rattle.paper.specs.Rules.{Fit}
 use Rattle.paper.specs.declared.Shape.{Shape}
 use Rattle.paper.specs.declared.Cell.{Cell}
 use Rattle.paper.specs.declared.Part.{Part}
-use Rattle.laws.specs.Rows.{rising}
+use Rattle.laws.specs.Consecutive.{rising}
 
 -- a row and a column within a table of rows of width w
 pub row-below : (w : ℕ) {i m k : ℕ} → i < m → k < w → i * w + k < m * w

@@ -13,7 +13,7 @@ use Rattle.paper.specs.declared.Shape.{Shape}
 use Rattle.paper.specs.declared.Cell.{Cell}
 use Rattle.paper.specs.declared.Part.{Part}
 use Rattle.laws.specs.Places.{before-part}
-use Rattle.laws.specs.Rows.{rising}
+use Rattle.laws.specs.Consecutive.{rising}
 
 -- a place of the segment of task i
 abbrev pub InSegment : Shape → List ℕ → Task → Place → Type 0

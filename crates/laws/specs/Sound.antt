@@ -168,9 +168,9 @@ module _ (s : Shape) (im : List ℕ) (q : Queue) (hq : Has s q) (h : Sound s im)
 
 -- room, and a word to take
 module _ (s : Shape) (im : List ℕ) (h : Sound s im) (q : Queue) (hq : Has s q) where
-  pub has-room : full s im q ≡ false → at s im (count s q) < at s im (capacity s q)
+  pub has-space : full s im q ≡ false → at s im (count s q) < at s im (capacity s q)
   unfolding full
-  has-room f =
+  has-space f =
       let ne = eqb-false (at s im (count s q)) (at s im (capacity s q)) f in
       let c = sound h .queues q hq .counted in
       omega arith

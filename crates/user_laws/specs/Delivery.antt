@@ -28,7 +28,7 @@ use Rattle.paper.specs.declared.Refusal.{Refusal}
 use Rattle.paper.specs.declared.Reply.{Reply}
 use Rattle.laws.specs.Cells.{at-same, at-other}
 use Rattle.laws.specs.Queues.{held-length, appended-held, taken-held}
-use Rattle.laws.specs.Sound.{Sound, sound, put-sound, appended-sound, taken-sound, has-room, has-word}
+use Rattle.laws.specs.Sound.{Sound, sound, put-sound, appended-sound, taken-sound, has-space, has-word}
 use Rattle.laws.specs.Frame.{Apart, frame-none, frame-more, frame-put, kept, kept-empty, kept-full, kept-held}
 use Rattle.laws.specs.Changes.{turn-parts, error-none, buffer-has, status-sound, frame-status, frame-left, frame-woken}
 use Rattle.event_laws.specs.Own.{own-parts, header-part, clock-apart}
@@ -188,7 +188,7 @@ module _ (s : Shape) (im : List ℕ) (g : Good s im) (some : empty s im Queue.Re
         let q = Queue.Message (running s im) (other s m (running s im)) in
         let hq = buffer-has s m (running s im) (leads-in l) Service.Send right′ in
         let h = leads-sound here in
-        let room = has-room s m h q hq clear′ in
+        let room = has-space s m h q hq clear′ in
         rw (← reg-same l b 2 (omega arith), ← reg-same l b 3 (omega arith))
         (after-held here Service.Send right′ clear′ a q hq refl refl (appended-sound s m q hq h (given s m (running s im)) room) ∙
         appended-held s m q hq (sound h .laid .words) (sound h .queues q hq) (given s m (running s im)) room ∙

@@ -7,7 +7,7 @@ use Prim.Native.Nat.{ℕ}
 use Rattle.paper.specs.Image.{at, busy}
 use Rattle.paper.specs.Queues.{full}
 use Rattle.paper.specs.Waking.{Outcome, accepted, refused}
-use Rattle.paper.specs.Events.{ordered, tick, input, output-done, happening}
+use Rattle.paper.specs.Events.{tick, input, output-done, happening}
 use Rattle.paper.specs.declared.Task.{Task}
 use Rattle.paper.specs.declared.Shape.{Shape}
 use Rattle.paper.specs.declared.Queue.{Queue}
@@ -40,7 +40,6 @@ module _ (s : Shape) (im : List ℕ) where
 
   -- a tick is accepted, unless its service's wake finds the ready queue full
   pub tick-accepted : Accepted (tick s im) ⊎ (RefusedFor im (tick s im) Refusal.ReadyFull × (full s im Queue.Ready ≡ true))
-  unfolding ordered
   tick-accepted =
       tick-any AcceptedOrFull
       record {
@@ -55,7 +54,7 @@ module _ (s : Shape) (im : List ℕ) where
               woke = λ _ _ _ _ _. inl (takes _ _);
               no-room = λ _ _ e. inr (leaves _ im, e);
             };
-        orders = λ _ _ _ _. inl (takes _ _);
+        orders = λ _ _ _ _ _ _. record { does = λ _ _ _. inl (takes _ _); faults = λ _ _. inl (takes _ _) };
       }
 
   -- an input is refused 8 where the buffer is full, else 10 where a wake finds no room
