@@ -1,9 +1,3 @@
-pub mod Parts
+pub mod InRow
 pub mod After
-pub mod Holding
-pub mod Deciding
-pub mod Carrying
-pub mod Answering
-pub mod Choosing
-pub mod Working
-pub mod Rows
+pub mod RowLength

@@ -1,9 +1,8 @@
 -- An unknown op or service faults; any other service becomes pending in the flags, with R0 past the order.
 use lib.Dec.{lit≤}
-use Rattle.machine.specs.Holding.{is-near, is-some}
-use Rattle.machine.specs.Deciding.{is-inside, unknown-op, unknown-service}
-use Rattle.machine.specs.Answering.{past-from, past-low}
-use Rattle.machine.specs.Choosing.{fell-after, asked-row, asked-room, ask-next}
+use Rattle.effects.specs.Holding.{is-near, is-some, past-from, past-low}
+use Rattle.machine.proofs.Deciding.{is-inside, unknown-op, unknown-service}
+use Rattle.machine.proofs.Choosing.{fell-after, asked-row, asked-room, ask-next}
 use borrow.Author.Needs.{needs}
 use Rattle.machine.proofs.asks.Statement.{statement}
 use Rattle.machine.proofs.asks.Tie as tie

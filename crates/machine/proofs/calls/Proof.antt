@@ -1,8 +1,7 @@
 -- The second word is what is called.
-use Rattle.machine.specs.Holding.{is-near}
-use Rattle.machine.specs.Deciding.{is-inside, call-outside, call-acts}
-use Rattle.machine.specs.Answering.{read-in, twice-fits}
-use Rattle.machine.specs.Choosing.{fell-after, call-after}
+use Rattle.effects.specs.Holding.{is-near, read-in, twice-fits}
+use Rattle.machine.proofs.Deciding.{is-inside, call-outside, call-acts}
+use Rattle.machine.proofs.Choosing.{fell-after, call-after}
 use borrow.Author.Needs.{needs}
 use Rattle.machine.proofs.calls.Statement.{statement}
 use Rattle.machine.proofs.calls.Tie as tie

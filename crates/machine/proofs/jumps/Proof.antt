@@ -1,10 +1,9 @@
 -- Where the condition holds R0 becomes the second word, else it is past the order, as the definitions of the two jumps say.
 use mathlib.Core.Path.{refl}
 use native.Mathlib.Omega.{arith}
-use Rattle.machine.specs.Holding.{is-based, is-near, is-row}
-use Rattle.machine.specs.Deciding.{bad-condition, jump-outside}
-use Rattle.machine.specs.Answering.{read-in, twice-fits}
-use Rattle.machine.specs.Choosing.{fell-after, jump-next, pass-next}
+use Rattle.effects.specs.Holding.{is-based, is-near, is-row, read-in, twice-fits}
+use Rattle.machine.proofs.Deciding.{bad-condition, jump-outside}
+use Rattle.machine.proofs.Choosing.{fell-after, jump-next, pass-next}
 use borrow.Author.Needs.{needs}
 use Rattle.machine.proofs.jumps.Statement.{statement}
 use Rattle.machine.proofs.jumps.Tie as tie

@@ -1,6 +1,7 @@
 -- A bit that the order's entry wants 0 makes it a bad order; else the entry's kind is the order's.
-use Rattle.machine.specs.Deciding.{bad-fields, is-fetched}
-use Rattle.machine.specs.Choosing.{fell-after, kind-is}
+use Rattle.machine.proofs.Deciding.{bad-fields, is-fetched}
+use Rattle.machine.proofs.Choosing.{fell-after}
+use Rattle.machine.proofs.OfKind.{kind-is}
 use borrow.Author.Needs.{needs}
 use Rattle.machine.proofs.known.Statement.{statement}
 use Rattle.machine.proofs.known.Tie as tie

@@ -1,8 +1,7 @@
 -- The second word goes to the register, as the definition of load says.
-use Rattle.machine.specs.Holding.{is-near}
-use Rattle.machine.specs.Deciding.{load-outside}
-use Rattle.machine.specs.Answering.{read-in, twice-fits}
-use Rattle.machine.specs.Choosing.{fell-after, a-in, load-next}
+use Rattle.effects.specs.Holding.{is-near, read-in, twice-fits}
+use Rattle.machine.proofs.Deciding.{load-outside}
+use Rattle.machine.proofs.Choosing.{fell-after, a-in, load-next}
 use borrow.Author.Needs.{needs}
 use Rattle.machine.proofs.loads.Statement.{statement}
 use Rattle.machine.proofs.loads.Tie as tie

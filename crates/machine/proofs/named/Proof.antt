@@ -1,11 +1,10 @@
 -- R0 is moved past the order first, so that it is read so and written last.
 use mathlib.Core.Path.{refl}
-use native.Mathlib.Omega.{arith}
 use lib.Dec.{lit≤}
-use Rattle.machine.specs.Holding.{is-near, is-some, is-from, is-low}
-use Rattle.machine.specs.Deciding.{is-inside, moved-act}
-use Rattle.machine.specs.Answering.{past-from, past-low}
-use Rattle.machine.specs.Choosing.{a-register, kind-is, moved-hand, moved-a, moved-b, moved-on, moved-off, never-left, on-hand}
+use Rattle.effects.specs.Holding.{is-near, is-some, is-from, is-low, past-from, past-low}
+use Rattle.machine.proofs.Deciding.{is-inside, moved-act}
+use Rattle.machine.proofs.Choosing.{a-register, moved-hand, moved-a, moved-b, moved-on, moved-off, never-left, on-hand}
+use Rattle.machine.proofs.OfKind.{kind-is}
 use borrow.Author.Needs.{needs}
 use Rattle.machine.proofs.named.Statement.{statement}
 use Rattle.machine.proofs.named.Tie as tie

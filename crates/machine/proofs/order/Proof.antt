@@ -1,8 +1,7 @@
 -- Outside the segment the order faults; else its first word is looked at.
-use Rattle.machine.specs.Holding.{within}
-use Rattle.machine.specs.Deciding.{first-outside, first-word}
-use Rattle.machine.specs.Answering.{read-in, twice-fits}
-use Rattle.machine.specs.Choosing.{fell-after}
+use Rattle.effects.specs.Holding.{within, read-in, twice-fits}
+use Rattle.machine.proofs.Deciding.{first-outside, first-word}
+use Rattle.machine.proofs.Choosing.{fell-after}
 use borrow.Author.Needs.{needs}
 use Rattle.machine.proofs.order.Statement.{statement}
 use Rattle.machine.proofs.order.Tie as tie

@@ -1,17 +1,17 @@
 -- Each round carries out one order; the row ends where the definition says so.
 use mathlib.Core.Path.{_∙_}
 use native.Mathlib.Omega.{arith}
-use Rattle.machine.specs.Holding.{is-some, is-from, is-low}
-use Rattle.machine.specs.Rows.{Going, part-some, part-based, going-none, going-hand, going-few, going-long, end-count, end-row, going-on, off-row, off-count, left-hand, left-fetched, left-shape, left-row, left-count}
+use Rattle.effects.specs.Holding.{is-some, is-from, is-low}
+use Rattle.machine.proofs.Going.{Going, part-some, part-based, going-none, going-hand, going-few, going-long, end-count, end-row, going-on, off-row, off-count, left-hand, left-fetched, left-shape, left-row, left-count}
 use borrow.Author.Needs.{needs}
 use Rattle.machine.proofs.orders.Statement.{statement}
 use Rattle.machine.proofs.orders.Tie as tie
 
 abbrev Inv-loop : tie.InvT-loop
-Inv-loop p₀ shapes g most at₀ left₀ p at left = Going g p₀ most left p at
+Inv-loop p₀ table g most at₀ left₀ p at left = Going g p₀ most left p at
 
 abbrev μ-loop : tie.MeasureT-loop
-μ-loop p₀ shapes g most at₀ left₀ p at left = left
+μ-loop p₀ table g most at₀ left₀ p at left = left
 
 slice-read-t11 : tie.Need-slice-read-t11 Inv-loop μ-loop
 slice-read-t11 c = search part-some
@@ -28,7 +28,8 @@ order-requires c κs = (search going-hand, search needs)
 loop-again : tie.Need-loop-again Inv-loop μ-loop
 loop-again c =
     let d1 = c .before .before .before .before .before in
-    going-on _ _ _ _ _ _ (d1 .before .before .before .loop .inv) (d1 .before .before .loop-test .taken) _ _ (c .before .before .before .before .before .order .ensures) _ (c .before .went .given .1) (c .before .before .before .before .before .order .kept .0)
+    let o = d1 .order in
+    going-on _ _ _ _ _ _ (d1 .before .before .before .loop .inv) (d1 .before .before .loop-test .taken) _ _ (o .ensures) _ (c .before .went .given .1) (o .kept .0)
 
 sub-result : tie.Need-sub-result Inv-loop μ-loop
 sub-result c =
@@ -45,15 +46,18 @@ returns c =
     let d1 = c .before .before .before .before .before in
     let l = d1 .before .before .loop .inv in
     let t = d1 .before .loop-test .taken in
-    (off-count _ _ _ _ _ _ l t _ _ (c .before .before .before .before .order .ensures) (c .enum-told .given .1), off-row _ _ _ _ _ _ l t _ _ (c .before .before .before .before .order .ensures) (c .enum-told .given .1))
+    let h = c .before .before .before .before .order .ensures in
+    let e = c .enum-told .given .1 in
+    (off-count _ _ _ _ _ _ l t _ _ h e, off-row _ _ _ _ _ _ l t _ _ h e)
 
 named-requires : tie.Need-named-requires Inv-loop μ-loop
 named-requires c κs =
     let d1 = c .before .before .before .before .before in
     let l = d1 .before .before .before .before .loop .inv in
     let t = d1 .before .before .before .loop-test .taken in
+    let h = d1 .before .order .ensures in
     let e = c .before .before .went2 .given .1 in
-    (left-hand _ _ _ _ _ _ l t _ _ (d1 .before .order .ensures) _ e, (search needs, (left-fetched _ _ _ _ _ _ l t _ _ (d1 .before .order .ensures) _ e, left-shape _ _ _ _ _ _ l t _ _ (d1 .before .order .ensures) _ e)))
+    (left-hand _ _ _ _ _ _ l t _ _ h _ e, (search needs, (left-fetched _ _ _ _ _ _ l t _ _ h _ e, left-shape _ _ _ _ _ _ l t _ _ h _ e)))
 
 sub-result-2 : tie.Need-sub-result-2 Inv-loop μ-loop
 sub-result-2 c =
@@ -73,8 +77,9 @@ returns-2 c =
     let d2 = d1 .before .before .before .before .before in
     let l = d2 .before .before .loop .inv in
     let t = d2 .before .loop-test .taken in
-    let e = c .before .before .before .before .before .went2 .given .1 in
-    (left-count _ _ _ _ _ _ l t _ _ (d1 .before .before .before .before .order .ensures) _ e, left-row _ _ _ _ _ _ l t _ _ (d1 .before .before .before .before .order .ensures) _ e _ (c .before .before .named .ensures))
+    let h = d1 .before .before .before .before .order .ensures in
+    let e = d1 .went2 .given .1 in
+    (left-count _ _ _ _ _ _ l t _ _ h _ e, left-row _ _ _ _ _ _ l t _ _ h _ e _ (c .before .before .named .ensures))
 
 stand-requires : tie.Need-stand-requires Inv-loop μ-loop
 stand-requires c κs = let hand = going-hand _ _ _ _ _ _ (c .before .before .loop .inv) in

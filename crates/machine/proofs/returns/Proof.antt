@@ -1,10 +1,9 @@
 -- R0 becomes the word that the stack leads to, then R1 rises, as the definition of return says.
 use mathlib.Core.Path.{refl}
 use native.Mathlib.Omega.{arith}
-use Rattle.machine.specs.Holding.{is-based, stack-in}
-use Rattle.machine.specs.Deciding.{return-outside}
-use Rattle.machine.specs.Answering.{read-in, twice-fits}
-use Rattle.machine.specs.Choosing.{fell-after, return-next}
+use Rattle.effects.specs.Holding.{is-based, stack-in, read-in, twice-fits}
+use Rattle.machine.proofs.Deciding.{return-outside}
+use Rattle.machine.proofs.Choosing.{fell-after, return-next}
 use borrow.Author.Needs.{needs}
 use Rattle.machine.proofs.returns.Statement.{statement}
 use Rattle.machine.proofs.returns.Tie as tie

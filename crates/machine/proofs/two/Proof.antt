@@ -1,6 +1,6 @@
 -- An order that names R0 is left; any other is worked with the words of its registers.
-use Rattle.machine.specs.Deciding.{is-inside, two-act}
-use Rattle.machine.specs.Choosing.{a-left, b-left, a-in, b-in, a-register, two-after}
+use Rattle.machine.proofs.Deciding.{is-inside, two-act}
+use Rattle.machine.proofs.Choosing.{a-left, b-left, a-in, b-in, a-register, two-after}
 use borrow.Author.Needs.{needs}
 use Rattle.machine.proofs.two.Statement.{statement}
 use Rattle.machine.proofs.two.Tie as tie

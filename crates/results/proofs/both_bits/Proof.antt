@@ -1,6 +1,6 @@
 -- The and of two words is the definition's, bit by bit.
 use borrow.Author.Needs.{needs}
-use Rattle.results.specs.Words.{and-is}
+use Rattle.results.proofs.Words.{and-is}
 use Rattle.results.proofs.both_bits.Statement.{statement}
 use Rattle.results.proofs.both_bits.Tie as tie
 

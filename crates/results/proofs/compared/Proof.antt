@@ -1,5 +1,5 @@
 -- Two tests tell equal, less and greater apart, and each has the condition of the definition.
-use Rattle.results.specs.Words.{equal-is, less-is, greater-is}
+use Rattle.results.proofs.Words.{equal-is, less-is, greater-is}
 use Rattle.results.proofs.compared.Statement.{statement}
 use Rattle.results.proofs.compared.Tie as tie
 

@@ -1,6 +1,6 @@
 -- The or of two words is the definition's, bit by bit.
 use borrow.Author.Needs.{needs}
-use Rattle.results.specs.Words.{or-is}
+use Rattle.results.proofs.Words.{or-is}
 use Rattle.results.proofs.either_bit.Statement.{statement}
 use Rattle.results.proofs.either_bit.Tie as tie
 

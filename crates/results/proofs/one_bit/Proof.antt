@@ -1,6 +1,6 @@
 -- The exclusive or of two words is the definition's, bit by bit.
 use borrow.Author.Needs.{needs}
-use Rattle.results.specs.Words.{xor-is}
+use Rattle.results.proofs.Words.{xor-is}
 use Rattle.results.proofs.one_bit.Statement.{statement}
 use Rattle.results.proofs.one_bit.Tie as tie
 

@@ -1,6 +1,6 @@
 -- The product of two words fits 32 bits, so nothing is lost before it is taken mod 65536.
 use borrow.Author.Needs.{needs}
-use Rattle.results.specs.Words.{product-fits}
+use Rattle.results.proofs.Words.{product-fits}
 use Rattle.results.proofs.product.Statement.{statement}
 use Rattle.results.proofs.product.Tie as tie
 

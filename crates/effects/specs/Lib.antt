@@ -1,0 +1,4 @@
+pub mod Parts
+pub mod Worked
+pub mod Holding
+pub mod Carrying

@@ -1,0 +1,4 @@
+pub mod Deciding
+pub mod Choosing
+pub mod OfKind
+pub mod Going
