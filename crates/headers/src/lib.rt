@@ -5,11 +5,13 @@ ghost use mathlib.Core.List.{map};
 ghost use Prim.Native.Nat.{_+_, _-_, _*_, _<_, _≤_};
 ghost use lib.Dec.{eqb};
 ghost use lib.ListN.{length, getD};
-ghost use Rattle.paper.specs.Image.{offset-words, offsets as packed-offsets, header-word as word-of-header, shape-of as shape-given, task, segment-start, total};
+ghost use Rattle.paper.specs.Image.{offset-words, offsets as packed-offsets, header-word as word-of-header, shape-of as shape-given, cell, at as word-at, segment-start, total};
 ghost use Rattle.paper.specs.Tests.{every, every-task};
 ghost use Rattle.paper.specs.Numbers.{within as is-within, out-of-range as is-out-of-range, not-packed as is-not-packed, segment-right as is-segment-right, wrong-segments as has-wrong-segments};
+ghost use Rattle.paper.specs.declared.Part.the-variants.{SegmentTable};
 ghost use Rattle.laws.specs.Sound.{Sized};
 ghost use Rattle.laws.specs.Layout.{Ranged};
+use connectives::both;
 use paper::BASE;
 use paper::CI_AT;
 use paper::CM_AT;
@@ -30,9 +32,9 @@ use paper::OUTPUT_BUFFERS_AT;
 use paper::PORT_WORDS;
 use paper::PORTS_AT;
 use paper::Part;
+use paper::Place;
 use paper::READY_QUEUE_AT;
 use paper::SEGMENT_TABLE_AT;
-use paper::SEGMENTS;
 use paper::SEGMENTS_AT;
 use paper::SLICE_AT;
 use paper::STATUS_TABLE_AT;
@@ -42,9 +44,10 @@ use paper::TASK_TABLE_AT;
 use paper::TASK_WORDS;
 use paper::TASKS_AT;
 use paper::TOTAL_AT;
+use paper::Task;
+use places::start_of;
 use places::wide;
 use places::word_of;
-use truths::both;
 
 // What a is more than b, or 0.
 fn rest(a: usize, b: usize) -> usize
@@ -127,12 +130,12 @@ pub fn out_of_range(s: Shape) -> bool
     !both(outputs, within(1, MOST_CAPACITY, s.cm))
 }
 
-// Where a part that starts at start ends.
-fn end_of(start: usize, rows: usize, width: usize) -> usize
-    requires { ⌜ (start ≤ 131072) × (rows ≤ 256) × (width ≤ 36) ⌝ }
-    ensures { λ r. ⌜ (r ≡ start + rows * width) × (r ≤ start + 9216) ⌝ }
+// Where a part that starts at a place ends.
+fn end_of(start: Place, rows: usize, width: usize) -> Place
+    requires { ⌜ (start .0 ≤ 131072) × (rows ≤ 256) × (width ≤ 36) ⌝ }
+    ensures { λ r. ⌜ (r .0 ≡ start .0 + rows * width) × (r .0 ≤ start .0 + 9216) ⌝ }
 {
-    start + rows * width
+    Place(start.0 + rows * width)
 }
 
 // The packed offsets of a shape in range.
@@ -141,7 +144,7 @@ pub fn offsets(s: Shape) -> [usize; OFFSETS]
     ensures { λ r. ⌜ r ≡ packed-offsets s ⌝ }
 {
     let n = s.n;
-    let tasks = HEADER_WORDS;
+    let tasks = Place(HEADER_WORDS);
     let ready = end_of(tasks, n, TASK_WORDS);
     let status = end_of(ready, 1, LEAD_WORDS + n);
     let inputs = end_of(status, n, STATUS_WORDS);
@@ -151,15 +154,15 @@ pub fn offsets(s: Shape) -> [usize; OFFSETS]
     let table = end_of(ports, n, PORT_WORDS);
     let segments = end_of(table, n, ENTRY_WORDS);
     [
-        tasks,
-        ready,
-        status,
-        inputs,
-        outputs,
-        messages,
-        ports,
-        table,
-        segments,
+        tasks.0,
+        ready.0,
+        status.0,
+        inputs.0,
+        outputs.0,
+        messages.0,
+        ports.0,
+        table.0,
+        segments.0,
     ]
 }
 
@@ -186,32 +189,33 @@ pub fn not_packed(s: Shape) -> bool
     !same(starts, offsets(s))
 }
 
-// Whether the segment of task k, which is to start at start, has its base and a length.
-fn segment_right(s: Shape, im: &[u16], k: usize, start: usize) -> bool
+// A word of the entry of task i in the segment table.
+fn entry_word(s: Shape, im: &[u16], i: Task, column: usize) -> u16
     requires { ⌜ Sized s (now im) ⌝ }
-    requires { ⌜ k < s .n ⌝ }
-    requires { ⌜ start ≡ segment-start s (now im) k ⌝ }
-    ensures { λ r. ⌜ r ≡ is-segment-right s (now (im .entry)) (task k) ⌝ }
+    requires { ⌜ (i .0 < s .n) × (column < 2) ⌝ }
+    ensures { λ r. ⌜ r ≡ word-at s (now (im .entry)) (cell SegmentTable (i .0) column) ⌝ }
 {
-    let base = wide(word_of(
+    word_of(
         s,
         im,
         Cell {
             part: Part::SegmentTable,
-            row: k,
-            column: BASE,
+            row: i.0 as usize,
+            column: column,
         },
-    ));
-    let length = word_of(
-        s,
-        im,
-        Cell {
-            part: Part::SegmentTable,
-            row: k,
-            column: LENGTH,
-        },
-    );
-    both(base == start, 1 <= length)
+    )
+}
+
+// Whether the segment of task i, which is to start at a place, has its base and a length.
+fn segment_right(s: Shape, im: &[u16], i: Task, start: Place) -> bool
+    requires { ⌜ Sized s (now im) ⌝ }
+    requires { ⌜ i .0 < s .n ⌝ }
+    requires { ⌜ start .0 ≡ segment-start s (now im) (i .0) ⌝ }
+    ensures { λ r. ⌜ r ≡ is-segment-right s (now (im .entry)) i ⌝ }
+{
+    let base = wide(entry_word(s, im, i, BASE));
+    let length = entry_word(s, im, i, LENGTH);
+    both(base == start.0, 1 <= length)
 }
 
 // Whether the segments follow one another in task order, and the last ends at T.
@@ -219,25 +223,16 @@ fn segments_right(s: Shape, im: &[u16]) -> bool
     requires { ⌜ Sized s (now im) ⌝ }
     ensures { λ r. ⌜ r ≡ (every-task s (is-segment-right s (now (im .entry))) && eqb (segment-start s (now (im .entry)) (s .n)) (total s)) ⌝ }
 {
-    let starts = s.starts;
-    let mut end = starts[SEGMENTS];
-    let mut k: usize = 0;
-    while k < s.n {
-        if !segment_right(s, im, k, end) {
+    let mut end = start_of(s, Part::Segments);
+    let mut i = Task(0);
+    while wide(i.0) < s.n {
+        if !segment_right(s, im, i, end) {
             return false;
         }
-        end += wide(word_of(
-            s,
-            im,
-            Cell {
-                part: Part::SegmentTable,
-                row: k,
-                column: LENGTH,
-            },
-        ));
-        k += 1;
+        end = Place(end.0 + wide(entry_word(s, im, i, LENGTH)));
+        i = Task(i.0 + 1);
     }
-    end == im.len()
+    end.0 == im.len()
 }
 
 // Whether a segment's base or length, or T, is wrong, T is over 32768, or the image is not T words.

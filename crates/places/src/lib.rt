@@ -35,23 +35,23 @@ pub fn wide(x: u16) -> usize
     x as usize
 }
 
-// Where a part starts.
-fn start_of(s: Shape, p: Part) -> usize
+// Where a part starts: the header's offset becomes a place.
+pub fn start_of(s: Shape, p: Part) -> Place
     requires { ⌜ Fit s ⌝ }
-    ensures { λ r. ⌜ r ≡ start s p ⌝ }
+    ensures { λ r. ⌜ r .0 ≡ start s p ⌝ }
 {
     let starts = s.starts;
     match p {
-        Part::Header => 0,
-        Part::TaskTable => starts[TASK_TABLE],
-        Part::ReadyQueue => starts[READY_QUEUE],
-        Part::StatusTable => starts[STATUS_TABLE],
-        Part::InputBuffers => starts[INPUT_BUFFERS],
-        Part::OutputBuffers => starts[OUTPUT_BUFFERS],
-        Part::MessageBuffers => starts[MESSAGE_BUFFERS],
-        Part::Ports => starts[PORTS],
-        Part::SegmentTable => starts[SEGMENT_TABLE],
-        Part::Segments => starts[SEGMENTS],
+        Part::Header => Place(0),
+        Part::TaskTable => Place(starts[TASK_TABLE]),
+        Part::ReadyQueue => Place(starts[READY_QUEUE]),
+        Part::StatusTable => Place(starts[STATUS_TABLE]),
+        Part::InputBuffers => Place(starts[INPUT_BUFFERS]),
+        Part::OutputBuffers => Place(starts[OUTPUT_BUFFERS]),
+        Part::MessageBuffers => Place(starts[MESSAGE_BUFFERS]),
+        Part::Ports => Place(starts[PORTS]),
+        Part::SegmentTable => Place(starts[SEGMENT_TABLE]),
+        Part::Segments => Place(starts[SEGMENTS]),
     }
 }
 
@@ -81,7 +81,7 @@ pub fn place_of(s: Shape, c: Cell) -> Place
     ensures { λ r. ⌜ r ≡ place s c ⌝ }
 {
     let p = c.part;
-    Place(start_of(s, p) + (c.row * width_of(s, p) + c.column))
+    Place(start_of(s, p).0 + (c.row * width_of(s, p) + c.column))
 }
 
 // The word at a place.

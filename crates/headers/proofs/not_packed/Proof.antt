@@ -1,6 +1,6 @@
 -- The shape is packed just where its nine offsets are those that its other numbers give.
 use borrow.Author.Needs.{needs}
-use Rattle.headers.specs.Needs.{packed-tested}
+use Rattle.headers.proofs.Tested.{packed-tested}
 use Rattle.headers.proofs.not_packed.Statement.{statement}
 use Rattle.headers.proofs.not_packed.Tie as tie
 

@@ -1,5 +1,5 @@
 -- A shape is in range just where all five of its numbers are within their bounds.
-use Rattle.headers.specs.Needs.{range-tested}
+use Rattle.headers.proofs.Tested.{range-tested}
 use borrow.Author.Needs.{needs}
 use Rattle.headers.proofs.out_of_range.Statement.{statement}
 use Rattle.headers.proofs.out_of_range.Tie as tie

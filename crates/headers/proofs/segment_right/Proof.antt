@@ -1,5 +1,5 @@
 -- The base and the length are read from the task's entry, and tested as in the definition.
-use Rattle.headers.specs.Needs.{segment-tested}
+use Rattle.headers.proofs.Tested.{segment-tested}
 use borrow.Author.Needs.{needs}
 use Rattle.headers.proofs.segment_right.Statement.{statement}
 use Rattle.headers.proofs.segment_right.Tie as tie

@@ -1,5 +1,5 @@
 -- The nine words are read from the header in the order of the offsets.
-use Rattle.headers.specs.Needs.{starts-read}
+use Rattle.headers.proofs.Tested.{starts-read}
 use borrow.Author.Needs.{needs}
 use Rattle.headers.proofs.starts_of.Statement.{statement}
 use Rattle.headers.proofs.starts_of.Tie as tie

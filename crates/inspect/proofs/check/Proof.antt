@@ -1,6 +1,6 @@
 -- The number is that of the verdict on the image.
 use borrow.Author.Needs.{needs}
-use Rattle.inspect.specs.Needs.{numbered}
+use Rattle.inspect.proofs.Tested.{numbered}
 use Rattle.inspect.proofs.check.Statement.{statement}
 use Rattle.inspect.proofs.check.Tie as tie
 

@@ -1,5 +1,5 @@
 -- The clock is at most the slice, and 0 where the ready queue is empty: both are tested.
-use Rattle.inspect.specs.Needs.{clock-tested}
+use Rattle.inspect.proofs.Tested.{clock-tested}
 use borrow.Author.Needs.{needs}
 use Rattle.inspect.proofs.clock_holds.Statement.{statement}
 use Rattle.inspect.proofs.clock_holds.Tie as tie

@@ -1,7 +1,7 @@
 -- One rule that fails makes the whole fail; where all others hold, those of the tasks decide.
 use borrow.Author.Tests.{not-false}
-use Rattle.rules.specs.Rows.{none-found}
-use Rattle.inspect.specs.Needs.{ready-fails, clock-fails, buffers-fail, characters-fail, others-fail, rules-tested, passed-so}
+use Rattle.queue_rules.specs.ReadyCounts.{none-found}
+use Rattle.inspect.proofs.Tested.{ready-fails, clock-fails, buffers-fail, characters-fail, others-fail, rules-tested, passed-so}
 use borrow.Author.Needs.{needs}
 use Rattle.inspect.proofs.rules_hold.Statement.{statement}
 use Rattle.inspect.proofs.rules_hold.Tie as tie
@@ -38,10 +38,7 @@ tasks-hold-requires c κs =
     (c10 .before .before .before .pre, (passed-so _ _ (c5 .before .before .buffers-hold .ensures) (c5 .before .if3 .left), (passed-so _ _ (c .before .before .before .before .before .characters-hold .ensures) (c .before .before .before .before .if4 .left), c .before .before .count-ready .ensures .1 (not-false _ (c .before .if5 .left)))))
 
 returns-6 : tie.Need-returns-6
-returns-6 c =
-    let c5 = c .before .before .before .before .before in
-    let c10 = c5 .before .before .before .before .before in
-    rules-tested _ _ _ _ _ _ (c10 .before .before .queued .ensures) (c10 .before .if1 .left) (c5 .before .before .before .before .before .clock-holds .ensures) (c5 .before .before .before .before .if2 .left) (c .before .before .before .count-ready .ensures .0) (c .before .before .if5 .left) (c .tasks-hold .ensures)
+returns-6 c = search rules-tested
 
 pub rules-hold-spec : {M : Type 1} → statement M
 rules-hold-spec =

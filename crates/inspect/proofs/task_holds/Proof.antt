@@ -1,5 +1,5 @@
 -- The rules of the task's buffers hold already, so the other four decide.
-use Rattle.inspect.specs.Needs.{once-fails, port-fails, flags-fail, task-tested}
+use Rattle.inspect.proofs.Tested.{once-fails, port-fails, flags-fail, task-tested}
 use borrow.Author.Needs.{needs}
 use Rattle.inspect.proofs.task_holds.Statement.{statement}
 use Rattle.inspect.proofs.task_holds.Tie as tie

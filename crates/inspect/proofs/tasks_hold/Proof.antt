@@ -8,7 +8,7 @@ use Rattle.paper.specs.Image.{task}
 use Rattle.paper.specs.Tests.{every, task-holds}
 use Rattle.laws.specs.Every.{every-none, every-more, every-done}
 use Rattle.laws.specs.Sound.{sized-few}
-use Rattle.inspect.specs.Needs.{each-buffers, each-characters, tasks-fail}
+use Rattle.inspect.proofs.Tested.{each-buffers, each-characters, tasks-fail}
 use borrow.Author.Needs.{needs}
 use Rattle.inspect.proofs.tasks_hold.Statement.{statement}
 use Rattle.inspect.proofs.tasks_hold.Tie as tie
@@ -29,7 +29,7 @@ task-holds-requires : tie.Need-task-holds-requires Inv-loop μ-loop
 task-holds-requires c κs = (c .before .before .before .before .pre .0, (c .if1 .taken, (each-buffers _ _ _ (c .if1 .taken) (c .before .before .before .before .pre .1 .0), (each-characters _ _ _ (c .if1 .taken) (c .before .before .before .before .pre .1 .1 .0), c .before .before .before .before .pre .1 .1 .1))))
 
 returns : tie.Need-returns Inv-loop μ-loop
-returns c = tasks-fail _ _ _ _ (c .before .before .if1 .taken) (c .before .task-holds .ensures) (c .if2 .taken)
+returns c = search tasks-fail
 
 loop-again : tie.Need-loop-again Inv-loop μ-loop
 loop-again c = (every-more _ _ (c .before .before .before .before .loop .inv .0) (sym (c .before .task-holds .ensures) ∙ not-false _ (c .if2 .left)), omega arith)

@@ -1,6 +1,6 @@
 -- The row of a message buffer is a small number.
 use native.Mathlib.Omega.{arith}
-use Rattle.places.specs.Needs.{pair-small}
+use Rattle.places.proofs.Cells.{pair-small}
 use borrow.Author.Needs.{needs}
 use Rattle.places.proofs.head_of.Statement.{statement}
 use Rattle.places.proofs.head_of.Tie as tie

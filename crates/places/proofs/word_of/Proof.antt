@@ -1,6 +1,6 @@
 -- A valid cell lies in the image, and the word at its place is the cell's.
 use Rattle.laws.specs.Sound.{sized-fit}
-use Rattle.places.specs.Needs.{cell-inside, cell-word}
+use Rattle.places.proofs.Cells.{cell-inside, cell-word}
 use Rattle.places.proofs.word_of.Statement.{statement}
 use Rattle.places.proofs.word_of.Tie as tie
 

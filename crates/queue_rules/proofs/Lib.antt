@@ -1,0 +1,6 @@
+pub mod Buffers
+pub mod Counting
+pub mod Held
+pub mod Leads
+pub mod LowWords
+pub mod Passing

@@ -1,0 +1,3 @@
+pub mod BufferRows
+pub mod Failing
+pub mod ReadyCounts
