@@ -1,91 +1,83 @@
 // Building an image from a plan.
 ghost use mathlib.Core.Path.{_≡_};
-ghost use mathlib.Core.List.{_++_};
-ghost use Prim.Native.Nat.{_+_, _*_, _≤_};
 ghost use lib.ListN.{length};
-ghost use Rattle.paper.specs.Image.{lead, begin, total};
+ghost use Rattle.paper.specs.Image.{ord, total};
 ghost use Rattle.paper.specs.Plans.{fresh-part, fresh};
 ghost use Rattle.paper.specs.Promises.{Builds};
-ghost use Rattle.paper.specs.declared.Part.the-variants.{Header, TaskTable, ReadyQueue, StatusTable, InputBuffers, OutputBuffers, MessageBuffers, Ports, SegmentTable, Segments};
-ghost use Rattle.plans.specs.Needs.{Packed};
-ghost use Rattle.writes.specs.Written.{written};
-ghost use Rattle.parts.specs.Needs.{Plan};
-ghost use Rattle.builds.specs.Needs.{Blank};
+ghost use Rattle.paper.specs.declared.Part.the-variants.{Header, ReadyQueue, StatusTable, Ports};
+ghost use Rattle.plans.specs.Sizes.{Packed};
+ghost use Rattle.fresh_parts.specs.Accepted.{Plan};
+ghost use Rattle.fresh_parts.specs.Writing.{Room, Wrote};
+ghost use Rattle.builds.specs.Stages.{BuiltUpto};
+use fresh_parts::put_header;
+use fresh_parts::put_lead;
+use fresh_parts::put_numbers;
+use fresh_parts::put_queues;
+use fresh_parts::put_segments;
+use fresh_parts::put_table;
+use fresh_parts::put_tasks;
 use numbers::number_of_verdict;
 use paper::NOT_REFUSED;
 use paper::PORT_WORDS;
+use paper::Place;
 use paper::Refusal;
 use paper::SEGMENTS;
 use paper::STATUS_WORDS;
 use paper::Shape;
 use paper::Size;
 use paper::Verdict;
-use parts::put_header;
-use parts::put_lead;
-use parts::put_numbers;
-use parts::put_queues;
-use parts::put_segments;
-use parts::put_table;
-use parts::put_tasks;
 use plans::shape_sized;
 use plans::size;
 use writes::put_zeros;
 
 // The ready queue: all tasks in order.
-fn put_ready(s: Shape, plan: &[u16], out: &mut [u16], at: usize) -> usize
+fn put_ready(s: Shape, plan: &[u16], out: &mut [u16], at: Place) -> Place
     requires { ⌜ Plan s (now plan) ⌝ }
-    requires { ⌜ at + (lead + s .n) ≤ length (now out) ⌝ }
-    ensures { λ r. ⌜ r ≡ at + (lead + s .n) ⌝ }
-    ensures { λ _. ⌜ now (out .exit) ≡ written (now (out .entry)) at (fresh-part s (now (plan .entry)) ReadyQueue) ⌝ }
+    requires { ⌜ Room (now out) at (fresh-part s (now plan) ReadyQueue) ⌝ }
+    ensures { λ r. ⌜ Wrote (now (out .entry)) at (fresh-part s (now (plan .entry)) ReadyQueue) (now (out .exit)) r ⌝ }
 {
     let n = s.n as u16;
     let slots = put_lead(out, at, n, n);
     put_numbers(out, slots, s.n)
 }
 
-// The header, the task table, the ready queue and the status table.
-fn put_tables(s: Shape, plan: &[u16], out: &mut [u16]) -> usize
+// The header, the task table and the ready queue.
+fn put_tables(s: Shape, plan: &[u16], out: &mut [u16]) -> Place
     requires { ⌜ Plan s (now plan) ⌝ }
     requires { ⌜ Packed s ⌝ }
-    requires { ⌜ begin s 4 ≤ length (now out) ⌝ }
-    requires { ⌜ Blank s (now out) 0 ⌝ }
-    ensures { λ r. ⌜ r ≡ begin s 4 ⌝ }
-    ensures { λ _. ⌜ now (out .exit) ≡ written (now (out .entry)) 0 (((fresh-part s (now (plan .entry)) Header ++ fresh-part s (now (plan .entry)) TaskTable) ++ fresh-part s (now (plan .entry)) ReadyQueue) ++ fresh-part s (now (plan .entry)) StatusTable) ⌝ }
+    requires { ⌜ BuiltUpto s (now plan) (ord Header) (now out) (now out) 0 ⌝ }
+    ensures { λ r. ⌜ BuiltUpto s (now (plan .entry)) (ord StatusTable) (now (out .entry)) (now (out .exit)) (r .0) ⌝ }
 {
     let tasks = put_header(s, out);
     let ready = put_tasks(s, plan, out, tasks);
-    let status = put_ready(s, plan, out, ready);
-    status + s.n * STATUS_WORDS
+    put_ready(s, plan, out, ready)
 }
 
-// The input, output and message buffers.
-fn put_buffers(s: Shape, plan: &[u16], out: &mut [u16], at: usize) -> usize
+// The status table, whose words are 0 already, and the input, output and message buffers.
+fn put_buffers(s: Shape, plan: &[u16], out: &mut [u16], at: Place) -> Place
     requires { ⌜ Plan s (now plan) ⌝ }
-    requires { ⌜ (at ≡ begin s 4) × (begin s 7 ≤ length (now out)) ⌝ }
-    requires { ⌜ Blank s (now out) 4 ⌝ }
-    ensures { λ r. ⌜ r ≡ begin s 7 ⌝ }
-    ensures { λ _. ⌜ now (out .exit) ≡ written (now (out .entry)) at ((fresh-part s (now (plan .entry)) InputBuffers ++ fresh-part s (now (plan .entry)) OutputBuffers) ++ fresh-part s (now (plan .entry)) MessageBuffers) ⌝ }
+    requires { ⌜ BuiltUpto s (now plan) (ord StatusTable) (now out) (now out) (at .0) ⌝ }
+    ensures { λ r. ⌜ BuiltUpto s (now (plan .entry)) (ord Ports) (now (out .entry)) (now (out .exit)) (r .0) ⌝ }
 {
     let n = s.n;
-    let outputs = put_queues(out, at, n, s.ci);
+    let inputs = Place(at.0 + n * STATUS_WORDS);
+    let outputs = put_queues(out, inputs, n, s.ci);
     let messages = put_queues(out, outputs, n, s.co);
     put_queues(out, messages, n * n, s.cm)
 }
 
-// The ports, the segment table and the segments.
-fn put_rest(s: Shape, plan: &[u16], out: &mut [u16], at: usize) -> usize
+// The ports, whose words are 0 already, the segment table and the segments.
+fn put_rest(s: Shape, plan: &[u16], out: &mut [u16], at: Place)
     requires { ⌜ Plan s (now plan) ⌝ }
-    requires { ⌜ (at ≡ begin s 7) × (total s ≤ length (now out)) ⌝ }
-    requires { ⌜ Blank s (now out) 7 ⌝ }
-    ensures { λ r. ⌜ r ≡ total s ⌝ }
-    ensures { λ _. ⌜ now (out .exit) ≡ written (now (out .entry)) at ((fresh-part s (now (plan .entry)) Ports ++ fresh-part s (now (plan .entry)) SegmentTable) ++ fresh-part s (now (plan .entry)) Segments) ⌝ }
+    requires { ⌜ BuiltUpto s (now plan) (ord Ports) (now out) (now out) (at .0) ⌝ }
+    ensures { λ _. ⌜ now (out .exit) ≡ fresh (now (plan .entry)) ⌝ }
 {
-    let table = at + s.n * PORT_WORDS;
+    let table = Place(at.0 + s.n * PORT_WORDS);
     let segments = put_table(s, plan, out, table);
-    put_segments(s, plan, out, segments)
+    put_segments(s, plan, out, segments);
 }
 
-// The fresh image of an accepted plan.
+// The fresh image of an accepted plan: all before the segments is 0 first.
 fn put_image(s: Shape, plan: &[u16], out: &mut [u16])
     requires { ⌜ Plan s (now plan) ⌝ }
     requires { ⌜ Packed s ⌝ }
@@ -94,8 +86,8 @@ fn put_image(s: Shape, plan: &[u16], out: &mut [u16])
 {
     let starts = s.starts;
     put_zeros(out, 0, starts[SEGMENTS]);
-    let inputs = put_tables(s, plan, out);
-    let ports = put_buffers(s, plan, out, inputs);
+    let status = put_tables(s, plan, out);
+    let ports = put_buffers(s, plan, out, status);
     put_rest(s, plan, out, ports);
 }
 

@@ -2,13 +2,15 @@
 ghost use mathlib.Core.Path.{_≡_};
 ghost use Prim.Native.Nat.{_≤_};
 ghost use Rattle.paper.specs.Plans.{plan-tasks, segment-length, program-length, segment-words, plan-shape as shape-planned};
-ghost use Rattle.paper.specs.Image.{start, total};
+ghost use Rattle.paper.specs.Image.{most-tasks, start, total};
 ghost use Rattle.paper.specs.Numbers.{plan-broken, check-plan as verdict-on-plan};
 ghost use Rattle.paper.specs.Promises.{Measures};
 ghost use Rattle.paper.specs.declared.Part.the-variants.{Segments};
 ghost use Rattle.paper.specs.declared.Verdict.the-variants.{Fine};
 ghost use Rattle.laws.specs.Layout.{Ranged};
-ghost use Rattle.plans.specs.Needs.{Summed, SizesOf, Packed};
+ghost use Rattle.plans.specs.Sizes.{most-planned, Summed, SizesOf, Packed};
+use connectives::both;
+use connectives::either;
 use headers::header_word;
 use headers::offsets;
 use headers::out_of_range;
@@ -22,14 +24,13 @@ use paper::PLAN_CM_AT;
 use paper::PLAN_CO_AT;
 use paper::PLAN_SLICE_AT;
 use paper::PLAN_TASKS_AT;
+use paper::Place;
 use paper::Refusal;
 use paper::SEGMENTS;
 use paper::Shape;
 use paper::Size;
+use paper::Task;
 use paper::Verdict;
-use places::wide;
-use truths::both;
-use truths::either;
 
 // What the pairs of a plan add up to: whether each is right, the words of all segments, and where the last program ends.
 struct Sums {
@@ -38,25 +39,23 @@ struct Sums {
     end: usize,
 }
 
-// The segment length of task k.
-pub fn length_of(plan: &[u16], k: usize) -> u16
-    requires { ⌜ k ≤ 16 ⌝ }
-    ensures { λ r. ⌜ r ≡ segment-length (now (plan .entry)) k ⌝ }
+// A task's segment length.
+pub fn length_of(plan: &[u16], i: Task) -> u16
+    ensures { λ r. ⌜ r ≡ segment-length (now (plan .entry)) (i .0) ⌝ }
 {
-    word_or_zero(plan, LEADING_WORDS + PAIR_WORDS * k)
+    word_or_zero(plan, LEADING_WORDS + PAIR_WORDS * i.0 as usize)
 }
 
-// The program length of task k.
-pub fn program_of(plan: &[u16], k: usize) -> u16
-    requires { ⌜ k ≤ 16 ⌝ }
-    ensures { λ r. ⌜ r ≡ program-length (now (plan .entry)) k ⌝ }
+// A task's program length.
+pub fn program_of(plan: &[u16], i: Task) -> u16
+    ensures { λ r. ⌜ r ≡ program-length (now (plan .entry)) (i .0) ⌝ }
 {
-    word_or_zero(plan, LEADING_WORDS + 1 + PAIR_WORDS * k)
+    word_or_zero(plan, LEADING_WORDS + 1 + PAIR_WORDS * i.0 as usize)
 }
 
 // What the pairs of a plan of n tasks add up to.
 fn add_up(plan: &[u16], n: usize) -> Sums
-    requires { ⌜ n ≤ 16 ⌝ }
+    requires { ⌜ n ≤ most-tasks ⌝ }
     requires { ⌜ n ≡ plan-tasks (now plan) ⌝ }
     ensures { λ r. ⌜ Summed (now (plan .entry)) n (r .right) (r .words) (r .end) ⌝ }
 {
@@ -65,11 +64,12 @@ fn add_up(plan: &[u16], n: usize) -> Sums
     let mut end = LEADING_WORDS + PAIR_WORDS * n;
     let mut k: usize = 0;
     while k < n {
-        let length = length_of(plan, k);
-        let program = program_of(plan, k);
+        let i = Task(k as u16);
+        let length = length_of(plan, i);
+        let program = program_of(plan, i);
         right = both(right, both(1 <= length, program <= length));
-        words += wide(length);
-        end += wide(program);
+        words += length as usize;
+        end += program as usize;
         k += 1;
     }
     Sums {
@@ -97,7 +97,7 @@ fn sizes_of(plan: &[u16]) -> Shape
 // The shape of a plan in range whose segments have so many words.
 fn shape_with(plan: &[u16], words: usize) -> Shape
     requires { ⌜ Ranged (shape-planned (now plan)) ⌝ }
-    requires { ⌜ (words ≡ segment-words (now plan) (plan-tasks (now plan))) × (words ≤ 1048560) ⌝ }
+    requires { ⌜ (words ≡ segment-words (now plan) (plan-tasks (now plan))) × (words ≤ most-planned) ⌝ }
     ensures { λ r. ⌜ r ≡ shape-planned (now (plan .entry)) ⌝ }
     ensures { λ r. ⌜ Packed r ⌝ }
 {
@@ -134,12 +134,12 @@ pub fn total_of(s: Shape) -> usize
 }
 
 // Where the segments of a shape in range start.
-fn first_segment(s: Shape) -> usize
+fn first_segment(s: Shape) -> Place
     requires { ⌜ Ranged s ⌝ }
-    ensures { λ r. ⌜ r ≡ start s Segments ⌝ }
+    ensures { λ r. ⌜ r .0 ≡ start s Segments ⌝ }
 {
     let starts = offsets(s);
-    starts[SEGMENTS]
+    Place(starts[SEGMENTS])
 }
 
 // The shape of an accepted plan whose T is known.
@@ -150,12 +150,12 @@ pub fn shape_sized(plan: &[u16], whole: usize) -> Shape
     ensures { λ r. ⌜ Packed r ⌝ }
 {
     let first = first_segment(sizes_of(plan));
-    shape_with(plan, whole - first)
+    shape_with(plan, whole - first.0)
 }
 
 // Whether a plan of n tasks in range, whose pairs and whose T are known, breaks another rule of plans.
 fn is_broken(plan: &[u16], n: usize, all: Sums, whole: usize) -> bool
-    requires { ⌜ (n ≤ 16) × (n ≡ plan-tasks (now plan)) ⌝ }
+    requires { ⌜ (n ≤ most-tasks) × (n ≡ plan-tasks (now plan)) ⌝ }
     requires { ⌜ Summed (now plan) n (all .right) (all .words) (all .end) ⌝ }
     requires { ⌜ whole ≡ total (shape-planned (now plan)) ⌝ }
     ensures { λ r. ⌜ r ≡ plan-broken (now (plan .entry)) ⌝ }
@@ -178,7 +178,8 @@ pub fn size(plan: &[u16]) -> Size
         return Size::Refused(Refusal::OutOfRange);
     }
     let all = add_up(plan, sizes.n);
-    let whole = first_segment(sizes) + all.words;
+    let first = first_segment(sizes);
+    let whole = first.0 + all.words;
     if is_broken(plan, sizes.n, all, whole) {
         return Size::Refused(Refusal::BadPlan);
     }

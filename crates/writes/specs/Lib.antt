@@ -1,2 +1,2 @@
 pub mod Written
-pub mod Clear
+pub mod Zeroed

@@ -3,10 +3,9 @@ use mathlib.Core.Path.{_≡_, refl, sym, ap, _∙_}
 use mathlib.Core.List.{List, [], _∷_, _++_, append-nil}
 use Prim.Native.Nat.{ℕ, zero, suc, _+_, _<_, _≤_}
 use native.Mathlib.Nat.{add-zero, zero-add, add-suc, suc-add}
-use native.Mathlib.Numerals.{add-one}
 use native.Mathlib.Omega.{arith}
-use lib.ListN.{length, getD, set, take, drop, replicate, length-drop, length-replicate, replicate-append-replicate}
-use lib.Seq.{sets, length-sets, sets-eq, set-set, length-take-le, take-suc, getD-drop, drop-length}
+use lib.ListN.{length, set}
+use lib.Seq.{sets, length-sets, sets-eq, set-set, drop-length}
 
 -- vs stored from index i on
 unfoldable pub written : List ℕ → ℕ → List ℕ → List ℕ
@@ -56,36 +55,17 @@ written-over l i (u ∷ us) (v ∷ vs) e =
     ap (λ (r : List ℕ). sets r (suc i) vs) (written-past (set l i u) i (suc i) v us (omega arith)) ∙
     ap (λ (r : List ℕ). sets (sets r (suc i) us) (suc i) vs) (set-set l i u v) ∙ written-over (set l i v) (suc i) us vs (omega arith)
 
--- one word more
-one-more : (l a : List ℕ) (at k v : ℕ) → k ≡ length a → set (written l at a) (at + k) v ≡ written l at (a ++ (v ∷ []))
-one-more l a at k v e = rw e (written-one (written l at a) (at + length a) v ∙ written-on l at a (v ∷ []))
-
-pub zero-more : (l : List ℕ) (at k : ℕ) → set (written l at (replicate k 0)) (at + k) 0 ≡ written l at (replicate (k + 1) 0)
-zero-more l at k =
-    one-more l (replicate k 0) at k 0 (sym (length-replicate k 0)) ∙ ap (written l at) (replicate-append-replicate k 1 0)
-
-pub word-more : (l src : List ℕ) (at from k : ℕ) → from + k < length src
-    → set (written l at (take k (drop from src))) (at + k) (getD src (from + k) 0) ≡ written l at (take (k + 1) (drop from src))
-word-more l src at from k h =
-    let long : k < length (drop from src) = simp length-drop (omega arith) in
-    one-more l (take k (drop from src)) at k (getD src (from + k) 0) (sym (length-take-le k (drop from src) (omega arith))) ∙
-    rw (← getD-drop from src k 0, ← take-suc (drop from src) k 0 long, add-one)
-
--- what a loop has written so far: k zeros, or k words of src
 pub kept-length : (l out : List ℕ) (at : ℕ) (vs : List ℕ) → out ≡ written l at vs → length out ≡ length l
 kept-length l out at vs e = ap length e ∙ written-length l at vs
 
+-- two lists written one after another
+pub then-on : (o a b : List ℕ) (at p : ℕ) (x y : List ℕ) → a ≡ written o at x → p ≡ at + length x → b ≡ written a p y → b ≡ written o at (x ++ y)
+then-on o a b at p x y ea ep eb = rw (eb, ea, ep) (written-on o at x y)
+
+-- what a loop has written so far: one word more, and all of it
 module _ (l out : List ℕ) (at k : ℕ) where
-  pub zeros-again : out ≡ written l at (replicate k 0) → set out (at + k) 0 ≡ written l at (replicate (k + 1) 0)
-  zeros-again e = rw e (zero-more l at k)
+  pub one-more : (vs : List ℕ) (v : ℕ) → out ≡ written l at vs → k ≡ length vs → set out (at + k) v ≡ written l at (vs ++ (v ∷ []))
+  one-more vs v e h = rw (h, e) (written-one (written l at vs) (at + length vs) v ∙ written-on l at vs (v ∷ []))
 
-  pub zeros-done : (n : ℕ) → out ≡ written l at (replicate k 0) → n ≤ k → k ≤ n → out ≡ written l at (replicate n 0)
-  zeros-done n e h g = let z : k ≡ n = omega arith in rw (← z) e
-
-  module _ (src : List ℕ) (from : ℕ) where
-    pub words-again : from + k < length src → out ≡ written l at (take k (drop from src))
-        → set out (at + k) (getD src (from + k) 0) ≡ written l at (take (k + 1) (drop from src))
-    words-again h e = rw e (word-more l src at from k h)
-
-    pub words-done : (n : ℕ) → out ≡ written l at (take k (drop from src)) → n ≤ k → k ≤ n → out ≡ written l at (take n (drop from src))
-    words-done n e h g = let z : k ≡ n = omega arith in rw (← z) e
+  pub all-done : (f : ℕ → List ℕ) (n : ℕ) → out ≡ written l at (f k) → n ≤ k → k ≤ n → out ≡ written l at (f n)
+  all-done f n e h g = let z : n ≡ k = omega arith in rw z e

@@ -1,4 +1,4 @@
-// Words written one after another: each call answers where the next word goes.
+// Words written one after another into any list of words, from an index on: each call answers where the next word goes.
 ghost use mathlib.Core.Path.{_≡_};
 ghost use mathlib.Core.List.{[], _∷_};
 ghost use Prim.Native.Nat.{_+_, _<_, _≤_};
@@ -29,7 +29,7 @@ pub fn put_zeros(out: &mut [u16], at: usize, n: usize) -> usize
     at + n
 }
 
-// Writes the n words of src from place from on.
+// Writes the n words of src from index from on.
 pub fn put_words(out: &mut [u16], at: usize, src: &[u16], from: usize, n: usize) -> usize
     requires { ⌜ at + n ≤ length (now out) ⌝ }
     requires { ⌜ from + n ≤ length (now src) ⌝ }

@@ -1,5 +1,5 @@
 -- The size tells a refused plan; a target of just that length takes the fresh image, any other is refused.
-use Rattle.builds.specs.Needs.{refused-plan, refused-target, built-plan, sized-fine, sized-total, sized-plan, target-long}
+use Rattle.builds.proofs.Answering.{refused-plan, refused-target, built-plan, sized-fine, sized-total, sized-plan, target-long}
 use borrow.Author.Needs.{needs}
 use Rattle.builds.proofs.build.Statement.{statement}
 use Rattle.builds.proofs.build.Tie as tie

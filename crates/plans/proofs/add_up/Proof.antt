@@ -1,7 +1,8 @@
 -- The pairs before k are added up.
 use Prim.Native.Nat.{_-_, _≤_}
 use native.Mathlib.Omega.{arith}
-use Rattle.plans.specs.Needs.{Summed, no-pairs, one-pair-more, all-pairs}
+use Rattle.plans.specs.Sizes.{Summed}
+use Rattle.plans.proofs.Measured.{no-pairs, one-pair-more, all-pairs}
 use borrow.Author.Needs.{needs}
 use Rattle.plans.proofs.add_up.Statement.{statement}
 use Rattle.plans.proofs.add_up.Tie as tie
@@ -16,20 +17,16 @@ loop-holds : tie.Need-loop-holds Inv-loop μ-loop
 loop-holds c = (no-pairs _ _ (c .before .pre .0) (c .before .pre .1), omega arith)
 
 add-words : tie.Need-add-words Inv-loop μ-loop
-add-words c =
-    let c5 = c .before .before .before .before .before in
-    omega (arith, c5 .before .loop .inv .0 .small)
+add-words c = omega (arith, c .before .before .before .before .before .loop .inv .0 .small)
 
 add-end-2 : tie.Need-add-end-2 Inv-loop μ-loop
-add-end-2 c =
-    let c5 = c .before .before .before .before .before in
-    omega (arith, c5 .before .before .loop .inv .0 .near)
+add-end-2 c = omega (arith, c .before .before .before .before .before .loop .inv .0 .near)
 
 loop-again : tie.Need-loop-again Inv-loop μ-loop
 loop-again c =
-    let c5 = c .before .before .before .before .before in
-    let b = c5 .before .before in
-    (one-pair-more _ _ _ _ _ _ _ _ _ _ _ (b .loop .inv .0) (c .before .before .before .before .before .length-of .ensures) (c .before .before .before .before .program-of .ensures) (c .before .before .before .both .ensures) (c .before .before .both2 .ensures) (c .before .wide .ensures) (c .wide2 .ensures) (omega arith) (omega arith), omega arith)
+    let l = c .before .before .before .length-of .ensures in
+    let p = c .before .before .program-of .ensures in
+    (one-pair-more _ _ _ _ _ _ _ _ _ (c .before .before .before .before .before .loop .inv .0) l p (c .before .both .ensures) (c .both2 .ensures) (omega arith) (omega arith), omega arith)
 
 returns : tie.Need-returns Inv-loop μ-loop
 returns c = all-pairs _ _ _ _ _ _ (c .before .loop .inv .0) (c .loop-test .left) (c .before .loop .inv .1)
@@ -38,6 +35,6 @@ pub add-up-spec : {M : Type 1} → statement M
 add-up-spec =
     tie.close
     (tie.spec
-    Inv-loop μ-loop (λ c. search needs) (λ c. search needs) loop-holds (λ c κs. search needs) (λ c κs. search needs)
-    (λ c κs. search needs) (λ c κs. search needs) (λ c κs. search needs) add-words (λ c κs. search needs) add-end-2
-    (λ c. search needs) (λ c. search needs) loop-again returns)
+    Inv-loop μ-loop (λ c. search needs) (λ c. search needs) loop-holds (λ c. search needs) (λ c κs. search needs)
+    (λ c κs. search needs) (λ c κs. search needs) (λ c κs. search needs) (λ c. search needs) add-words
+    (λ c. search needs) add-end-2 (λ c. search needs) (λ c. search needs) loop-again returns)

@@ -1,5 +1,5 @@
 -- The segments start at the last of the packed offsets.
-use Rattle.plans.specs.Needs.{first-is}
+use Rattle.plans.specs.Sizes.{first-is}
 use borrow.Author.Needs.{needs}
 use Rattle.plans.proofs.first_segment.Statement.{statement}
 use Rattle.plans.proofs.first_segment.Tie as tie

@@ -1,5 +1,5 @@
 -- The plan's length, its pairs, the end of its programs and T are tested, each as in the definition.
-use Rattle.plans.specs.Needs.{broken-tested}
+use Rattle.plans.proofs.Measured.{broken-tested}
 use borrow.Author.Needs.{needs}
 use Rattle.plans.proofs.is_broken.Statement.{statement}
 use Rattle.plans.proofs.is_broken.Tie as tie

@@ -1,5 +1,5 @@
 -- The pairs add up to the words of all segments, which the plan's shape has.
-use Rattle.plans.specs.Needs.{few-tasks, words-added}
+use Rattle.plans.proofs.Measured.{few-tasks, words-added}
 use borrow.Author.Needs.{needs}
 use Rattle.plans.proofs.shape_of_plan.Statement.{statement}
 use Rattle.plans.proofs.shape_of_plan.Tie as tie

@@ -1,5 +1,6 @@
 -- The segments of an accepted plan have as many words as T is past their start.
-use Rattle.plans.specs.Needs.{sizes-ranged, fine-ranged, first-inside, words-left}
+use Rattle.plans.specs.Sizes.{fine-ranged}
+use Rattle.plans.proofs.Measured.{sizes-ranged, first-inside, words-left}
 use borrow.Author.Needs.{needs}
 use Rattle.plans.proofs.shape_sized.Statement.{statement}
 use Rattle.plans.proofs.shape_sized.Tie as tie
@@ -12,8 +13,8 @@ sub-shape-with c = search first-inside
 
 shape-with-requires : tie.Need-shape-with-requires
 shape-with-requires c κs =
-    let p = c .before .before .before .pre in
-    (search fine-ranged, words-left _ _ _ _ (c .before .sizes-of .ensures) (c .first-segment .ensures) (p .0) (p .1))
+    let p = c .before .before .before .before .pre in
+    (search fine-ranged, words-left _ _ _ _ (c .before .before .sizes-of .ensures) (c .before .first-segment .ensures) (p .0) (p .1))
 
 pub shape-sized-spec : {M : Type 1} → statement M
 shape-sized-spec =

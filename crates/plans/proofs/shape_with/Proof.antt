@@ -1,5 +1,5 @@
 -- N, S and the capacities are read from the plan, and the packed offsets follow from them.
-use Rattle.plans.specs.Needs.{sizes-ranged, planned-shape, planned-packed}
+use Rattle.plans.proofs.Measured.{sizes-ranged, planned-shape, planned-packed}
 use borrow.Author.Needs.{needs}
 use Rattle.plans.proofs.shape_with.Statement.{statement}
 use Rattle.plans.proofs.shape_with.Tie as tie

@@ -1,6 +1,6 @@
 -- The tests are the definition's, in its order; past them the answer is T, the segments' start with their words.
 use native.Mathlib.Omega.{arith}
-use Rattle.plans.specs.Needs.{short-so, range-so, range-inside, few-sizes, sum-small, total-planned, broken-so, size-so}
+use Rattle.plans.proofs.Measured.{short-so, range-so, range-inside, few-sizes, sum-small, total-planned, broken-so, size-so}
 use borrow.Author.Needs.{needs}
 use Rattle.plans.proofs.size.Statement.{statement}
 use Rattle.plans.proofs.size.Tie as tie
@@ -19,12 +19,12 @@ first-segment-requires c κs = search range-inside
 
 add-whole : tie.Need-add-whole
 add-whole c =
-    let b = c .before .before .before in
-    omega (arith, sum-small _ _ _ _ _ _ _ (b .before .out-of-range .ensures) (b .if2 .left) (c .before .first-segment .ensures) (c .before .before .add-up .ensures))
+    let b = c .before .before .before .before in
+    omega (arith, sum-small _ _ _ _ _ _ _ (b .before .out-of-range .ensures) (b .if2 .left) (c .before .before .first-segment .ensures) (c .before .before .before .add-up .ensures))
 
 is-broken-requires : tie.Need-is-broken-requires
 is-broken-requires c κs =
-    let b = c .before .before .before in
+    let b = c .before .before .before .before in
     (few-sizes _ _ _ (b .before .before .sizes-of .ensures) (b .before .out-of-range .ensures) (b .if2 .left), (search needs, search total-planned))
 
 returns-3 : tie.Need-returns-3

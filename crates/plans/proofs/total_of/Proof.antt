@@ -1,6 +1,6 @@
 -- T is where the segments start and their words, and both are small enough to add.
 use native.Mathlib.Omega.{arith}
-use Rattle.plans.specs.Needs.{total-made, total-small}
+use Rattle.plans.proofs.Measured.{total-made, total-small}
 use borrow.Author.Needs.{needs}
 use Rattle.plans.proofs.total_of.Statement.{statement}
 use Rattle.plans.proofs.total_of.Tie as tie

@@ -1,6 +1,6 @@
 -- A plan with a size is fine, and any other has the refusal that its size tells.
 use mathlib.Core.Path.{sym}
-use Rattle.plans.specs.Needs.{told-words, told-refusal}
+use Rattle.plans.specs.Sizes.{told-words, told-refusal}
 use borrow.Author.Needs.{needs}
 use Rattle.plans.proofs.verdict.Statement.{statement}
 use Rattle.plans.proofs.verdict.Tie as tie

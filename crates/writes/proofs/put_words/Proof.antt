@@ -3,7 +3,8 @@ use mathlib.Core.Path.{_≡_, refl, sym}
 use Prim.Native.Nat.{_-_, _≤_}
 use native.Mathlib.Omega.{arith}
 use lib.ListN.{take, drop}
-use Rattle.writes.specs.Written.{written, written-none, kept-length, words-again, words-done}
+use Rattle.writes.specs.Written.{written, written-none, kept-length, all-done}
+use Rattle.writes.proofs.Looping.{words-again}
 use borrow.Author.Needs.{needs}
 use Rattle.writes.proofs.put_words.Statement.{statement}
 use Rattle.writes.proofs.put_words.Tie as tie
@@ -29,7 +30,9 @@ same-length : tie.Need-same-length Inv-loop μ-loop
 same-length c = kept-length _ _ _ _ (c .before .loop .inv .0)
 
 returns : tie.Need-returns Inv-loop μ-loop
-returns c = (refl, words-done _ _ _ _ (c .before .before .args .src .now) (c .before .before .args .from) _ (c .before .loop .inv .0) (c .loop-test .left) (c .before .loop .inv .1))
+returns c =
+    let a = c .before .before .args in
+    (refl, all-done _ _ _ _ (λ k. take k (drop (a .from) (a .src .now))) _ (c .before .loop .inv .0) (c .loop-test .left) (c .before .loop .inv .1))
 
 pub put-words-spec : {M : Type 1} → statement M
 put-words-spec =

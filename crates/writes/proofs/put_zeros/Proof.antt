@@ -3,7 +3,8 @@ use mathlib.Core.Path.{_≡_, refl, sym}
 use Prim.Native.Nat.{_-_, _≤_}
 use native.Mathlib.Omega.{arith}
 use lib.ListN.{replicate}
-use Rattle.writes.specs.Written.{written, written-none, kept-length, zeros-again, zeros-done}
+use Rattle.writes.specs.Written.{written, written-none, kept-length, all-done}
+use Rattle.writes.proofs.Looping.{zeros-again}
 use borrow.Author.Needs.{needs}
 use Rattle.writes.proofs.put_zeros.Statement.{statement}
 use Rattle.writes.proofs.put_zeros.Tie as tie
@@ -27,7 +28,7 @@ same-length : tie.Need-same-length Inv-loop μ-loop
 same-length c = kept-length _ _ _ _ (c .before .loop .inv .0)
 
 returns : tie.Need-returns Inv-loop μ-loop
-returns c = (refl, zeros-done _ _ _ _ _ (c .before .loop .inv .0) (c .loop-test .left) (c .before .loop .inv .1))
+returns c = (refl, all-done _ _ _ _ (λ k. replicate k 0) _ (c .before .loop .inv .0) (c .loop-test .left) (c .before .loop .inv .1))
 
 pub put-zeros-spec : {M : Type 1} → statement M
 put-zeros-spec =
