@@ -1,3 +1,3 @@
 pub mod Lists
 pub mod Ahead
-pub mod Needs
+pub mod InParts

@@ -6,28 +6,54 @@ ghost use lib.ListN.{length};
 ghost use Rattle.paper.specs.Waking.{outcome};
 ghost use Rattle.paper.specs.Events.{event-of as event-by, happening};
 ghost use Rattle.laws.specs.Events.{Lawful};
-ghost use Rattle.shapes.specs.Entries.{Shapes};
+ghost use Rattle.order_table.specs.Entries.{OrderTable};
 ghost use Rattle.happening.specs.Lists.{nth-event, Ends};
+ghost use Rattle.happening.specs.InParts.{kind-in, answer-by, told-by};
 ghost use Rattle.happening.specs.Ahead.{zeros-at, Ahead, Stops};
+use connectives::both;
 use events::event_of;
 use events::report;
+use numbers::task_of;
 use paper::Answer;
 use paper::EVENT_WORDS;
 use paper::HIGH_BYTES;
 use paper::Reply;
 use paper::Shape;
+use paper::Task;
+use paper::Verdict;
 use ticks::ticks;
-use truths::both;
 
 // How many events are looked at together: first a few, then more.
 const LOOK: usize = 4;
 
 const LONG_LOOK: usize = 8;
 
-// How many events were taken, and the reply of the last, or of the one that was refused.
+// How many events were passed over, and the reply of the last, or of the one that was refused.
+struct Past {
+    taken: usize,
+    last: Reply,
+}
+
+// The kinds of answers.
+pub enum Kind {
+    Idle,
+    ErrorStop,
+    TurnPassed,
+    ServiceDone,
+    ServiceWaits,
+    ServiceFaulted,
+    OrderDone,
+    OrderFaulted,
+    Input,
+    OutputDone,
+}
+
+// The same in parts, each of which is read as it was written: what stopped the events, and where nothing did, the kind and the task of the last answer.
 pub struct Took {
     pub taken: usize,
-    pub last: Reply,
+    pub stop: Verdict,
+    pub kind: Kind,
+    pub task: Task,
 }
 
 // Whether n words of a list, from a place on, are 0.
@@ -99,10 +125,10 @@ fn report_at(s: Shape, im: &mut [u16], events: &[u16], k: usize) -> Reply
     )
 }
 
-// Takes the events of a list, one after another, up to the first refused one.
-pub fn take_events(s: Shape, im: &mut [u16], shapes: &[u16; HIGH_BYTES], events: &[u16]) -> Took
+// Passes over the events of a list, one after another, up to the first refused one.
+fn pass_events(s: Shape, im: &mut [u16], table: &[u16; HIGH_BYTES], events: &[u16]) -> Past
     requires { ⌜ Lawful s (now im) ⌝ }
-    requires { ⌜ Shapes (now shapes) ⌝ }
+    requires { ⌜ OrderTable (now table) ⌝ }
     requires { ⌜ length (now events) % 3 ≡ 0 ⌝ }
     ensures { λ r. ⌜ Ends s (now (im .entry)) (now (events .entry)) (r .taken) (r .last) (now (im .exit)) ⌝ }
     ensures { λ _. ⌜ Lawful s (now (im .exit)) ⌝ }
@@ -113,11 +139,11 @@ pub fn take_events(s: Shape, im: &mut [u16], shapes: &[u16; HIGH_BYTES], events:
     while taken < count {
         let end = ticks_ahead(events, taken, count);
         if taken < end {
-            let passed = ticks(s, im, shapes, end - taken);
+            let passed = ticks(s, im, table, end - taken);
             taken += passed.taken;
             last = passed.last;
             if let Reply::Refused(_) = last {
-                return Took {
+                return Past {
                     taken: taken,
                     last: last,
                 };
@@ -126,7 +152,7 @@ pub fn take_events(s: Shape, im: &mut [u16], shapes: &[u16; HIGH_BYTES], events:
         if taken < count {
             last = report_at(s, im, events, taken);
             if let Reply::Refused(_) = last {
-                return Took {
+                return Past {
                     taken: taken,
                     last: last,
                 };
@@ -134,27 +160,102 @@ pub fn take_events(s: Shape, im: &mut [u16], shapes: &[u16; HIGH_BYTES], events:
             taken += 1;
         }
     }
-    Took {
+    Past {
         taken: taken,
         last: last,
     }
+}
+
+// The kind of an answer.
+fn kind_of(a: Answer) -> Kind
+    ensures { λ r. ⌜ r ≡ kind-in a ⌝ }
+{
+    match a {
+        Answer::Idle => Kind::Idle,
+        Answer::ErrorStop(_) => Kind::ErrorStop,
+        Answer::TurnPassed(_) => Kind::TurnPassed,
+        Answer::ServiceDone(_) => Kind::ServiceDone,
+        Answer::ServiceWaits(_) => Kind::ServiceWaits,
+        Answer::ServiceFaulted(_) => Kind::ServiceFaulted,
+        Answer::OrderDone(_) => Kind::OrderDone,
+        Answer::OrderFaulted(_) => Kind::OrderFaulted,
+        Answer::Input(_) => Kind::Input,
+        Answer::OutputDone(_) => Kind::OutputDone,
+    }
+}
+
+// What was passed over, in parts.
+fn in_parts(taken: usize, last: Reply) -> Took
+    ensures { λ r. ⌜ (r .taken ≡ taken) × (told-by (r .stop) (r .kind) (r .task) ≡ last) ⌝ }
+{
+    match last {
+        Reply::Accepted(a) => Took {
+            taken: taken,
+            stop: Verdict::Fine,
+            kind: kind_of(a),
+            task: Task(task_of(a)),
+        },
+        Reply::Refused(r) => Took {
+            taken: taken,
+            stop: Verdict::Refused(r),
+            kind: Kind::Idle,
+            task: Task(0),
+        },
+    }
+}
+
+// The answer of a kind and a task.
+fn answer_of(kind: Kind, t: Task) -> Answer
+    ensures { λ r. ⌜ r ≡ answer-by kind t ⌝ }
+{
+    match kind {
+        Kind::Idle => Answer::Idle,
+        Kind::ErrorStop => Answer::ErrorStop(t),
+        Kind::TurnPassed => Answer::TurnPassed(t),
+        Kind::ServiceDone => Answer::ServiceDone(t),
+        Kind::ServiceWaits => Answer::ServiceWaits(t),
+        Kind::ServiceFaulted => Answer::ServiceFaulted(t),
+        Kind::OrderDone => Answer::OrderDone(t),
+        Kind::OrderFaulted => Answer::OrderFaulted(t),
+        Kind::Input => Answer::Input(t),
+        Kind::OutputDone => Answer::OutputDone(t),
+    }
+}
+
+// Takes the events of a list, up to the first refused one.
+pub fn take_events(s: Shape, im: &mut [u16], table: &[u16; HIGH_BYTES], events: &[u16]) -> Took
+    requires { ⌜ Lawful s (now im) ⌝ }
+    requires { ⌜ OrderTable (now table) ⌝ }
+    requires { ⌜ length (now events) % 3 ≡ 0 ⌝ }
+    ensures { λ r. ⌜ Ends s (now (im .entry)) (now (events .entry)) (r .taken) (told-by (r .stop) (r .kind) (r .task)) (now (im .exit)) ⌝ }
+    ensures { λ _. ⌜ Lawful s (now (im .exit)) ⌝ }
+{
+    let past = pass_events(s, im, table, events);
+    let last = past.last;
+    in_parts(past.taken, last)
 }
 
 // The event of three words: kind, device, character.
 pub fn step(
     s: Shape,
     im: &mut [u16],
-    shapes: &[u16; HIGH_BYTES],
+    table: &[u16; HIGH_BYTES],
     kind: u16,
     device: u16,
     character: u16,
 ) -> Reply
     requires { ⌜ Lawful s (now im) ⌝ }
-    requires { ⌜ Shapes (now shapes) ⌝ }
+    requires { ⌜ OrderTable (now table) ⌝ }
     ensures { λ r. ⌜ outcome r (now (im .exit)) ≡ happening s (now (im .entry)) (event-by s kind device character) ⌝ }
     ensures { λ _. ⌜ Lawful s (now (im .exit)) ⌝ }
 {
     let list: [u16; EVENT_WORDS] = [kind, device, character];
-    let took = take_events(s, im, shapes, &list);
-    took.last
+    let took = take_events(s, im, table, &list);
+    let stop = took.stop;
+    let kind = took.kind;
+    let task = took.task;
+    match stop {
+        Verdict::Fine => Reply::Accepted(answer_of(kind, task)),
+        Verdict::Refused(r) => Reply::Refused(r),
+    }
 }

@@ -7,19 +7,18 @@ ghost use Rattle.paper.specs.Numbers.{and-then, refused-if};
 ghost use Rattle.paper.specs.Promises.{Happens, Runs};
 ghost use Rattle.paper.specs.declared.Refusal.the-variants.{MalformedEvent};
 ghost use Rattle.paper.specs.declared.Verdict.the-variants.{Fine};
-ghost use Rattle.happening.specs.Lists.{stop-of as stop-by};
 pub use builds::build;
 use happening::step;
 use happening::take_events;
 pub use inspect::check;
 use inspect::inspect;
+use order_table::laid_out;
 use paper::EVENT_WORDS;
 use paper::Ended;
 use paper::Refusal;
 use paper::Reply;
 use paper::Verdict;
 pub use plans::size;
-use shapes::order_shapes;
 
 // One event: kind, device, character.
 pub fn event(im: &mut [u16], kind: u16, device: u16, character: u16) -> Reply
@@ -29,20 +28,10 @@ pub fn event(im: &mut [u16], kind: u16, device: u16, character: u16) -> Reply
     let verdict = found.verdict;
     match verdict {
         Verdict::Fine => {
-            let shapes = order_shapes();
-            step(found.shape, im, &shapes, kind, device, character)
+            let table = laid_out();
+            step(found.shape, im, &table, kind, device, character)
         }
         Verdict::Refused(r) => Reply::Refused(r),
-    }
-}
-
-// The verdict that a run ends with, by the reply of its last event.
-fn stop_of(last: Reply) -> Verdict
-    ensures { λ r. ⌜ r ≡ stop-by last ⌝ }
-{
-    match last {
-        Reply::Accepted(_) => Verdict::Fine,
-        Reply::Refused(r) => Verdict::Refused(r),
     }
 }
 
@@ -77,12 +66,12 @@ pub fn run(im: &mut [u16], events: &[u16]) -> Ended
     let verdict = in_turn(image, list);
     match verdict {
         Verdict::Fine => {
-            let shapes = order_shapes();
-            let took = take_events(found.shape, im, &shapes, events);
-            let last = took.last;
+            let table = laid_out();
+            let took = take_events(found.shape, im, &table, events);
+            let stop = took.stop;
             Ended {
                 taken: took.taken,
-                stop: stop_of(last),
+                stop: stop,
             }
         }
         Verdict::Refused(r) => Ended {

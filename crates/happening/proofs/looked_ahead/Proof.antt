@@ -1,7 +1,8 @@
 -- All events passed are ticks: four or eight of them are passed only where all their words are 0.
 use Prim.Native.Nat.{_-_, _≤_}
 use native.Mathlib.Omega.{arith}
-use Rattle.happening.specs.Ahead.{Ahead, ahead-none, ahead-four, ahead-eight}
+use Rattle.happening.specs.Ahead.{Ahead}
+use Rattle.happening.proofs.AllZero.{ahead-none, ahead-four, ahead-eight}
 use borrow.Author.Needs.{needs}
 use Rattle.happening.proofs.looked_ahead.Statement.{statement}
 use Rattle.happening.proofs.looked_ahead.Tie as tie

@@ -1,6 +1,6 @@
 -- The three words make the event that is reported.
-use Rattle.happening.specs.Ahead.{words-no-tick}
-use Rattle.happening.specs.Needs.{lawful-sound, made-formed, nth-outcome, nth-lawful}
+use Rattle.happening.proofs.AllZero.{words-no-tick}
+use Rattle.happening.proofs.Taking.{lawful-sound, made-formed, nth-outcome, nth-lawful}
 use borrow.Author.Needs.{needs}
 use Rattle.happening.proofs.report_at.Statement.{statement}
 use Rattle.happening.proofs.report_at.Tie as tie

@@ -1,7 +1,8 @@
 -- All events passed are ticks; the one where it stops is none, or no event is left.
 use Prim.Native.Nat.{_-_, _≤_}
 use native.Mathlib.Omega.{arith}
-use Rattle.happening.specs.Ahead.{Ahead, ahead-one, stops-here, stops-last}
+use Rattle.happening.specs.Ahead.{Ahead}
+use Rattle.happening.proofs.AllZero.{ahead-one, stops-here, stops-last}
 use borrow.Author.Needs.{needs}
 use Rattle.happening.proofs.ticks_ahead.Statement.{statement}
 use Rattle.happening.proofs.ticks_ahead.Tie as tie

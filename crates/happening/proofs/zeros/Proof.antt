@@ -2,7 +2,8 @@
 use Prim.Native.Nat.{_-_, _≤_}
 use mathlib.Core.Path.{_≡_}
 use native.Mathlib.Omega.{arith}
-use Rattle.happening.specs.Ahead.{zeros-at, zeros-none, zeros-more, zeros-done}
+use Rattle.happening.specs.Ahead.{zeros-at}
+use Rattle.happening.proofs.AllZero.{zeros-none, zeros-more, zeros-done}
 use borrow.Author.Needs.{needs}
 use Rattle.happening.proofs.zeros.Statement.{statement}
 use Rattle.happening.proofs.zeros.Tie as tie
@@ -16,15 +17,6 @@ abbrev μ-loop : tie.MeasureT-loop
 loop-holds : tie.Need-loop-holds Inv-loop μ-loop
 loop-holds c = (search zeros-none, omega arith)
 
-add-both : tie.Need-add-both Inv-loop μ-loop
-add-both c = omega arith
-
-mul-both : tie.Need-mul-both Inv-loop μ-loop
-mul-both c = omega arith
-
-shared-slice-read-both : tie.Need-shared-slice-read-both Inv-loop μ-loop
-shared-slice-read-both c = omega arith
-
 loop-again : tie.Need-loop-again Inv-loop μ-loop
 loop-again c = (search zeros-more, omega arith)
 
@@ -35,5 +27,5 @@ pub zeros-spec : {M : Type 1} → statement M
 zeros-spec =
     tie.close
     (tie.spec
-    Inv-loop μ-loop loop-holds add-both mul-both shared-slice-read-both (λ c κs. search needs) (λ c. search needs)
+    Inv-loop μ-loop loop-holds (λ c. omega arith) (λ c. omega arith) (λ c. omega arith) (λ c κs. search needs) (λ c. search needs)
     (λ c. search needs) loop-again returns)

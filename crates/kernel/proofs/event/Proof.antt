@@ -1,6 +1,6 @@
 -- A good image takes the event as one step; any other is refused and left as it is.
 use Rattle.laws.specs.Events.{inspected-lawful}
-use Rattle.kernel.specs.Needs.{event-fine, event-refused}
+use Rattle.kernel.proofs.Promised.{event-fine, event-refused}
 use borrow.Author.Needs.{needs}
 use Rattle.kernel.proofs.event.Statement.{statement}
 use Rattle.kernel.proofs.event.Tie as tie

@@ -1,5 +1,5 @@
 -- A refusal stands; where there is none, the later verdict does.
-use Rattle.kernel.specs.Needs.{turn-fine, turn-refused}
+use Rattle.kernel.proofs.Promised.{turn-fine, turn-refused}
 use borrow.Author.Needs.{needs}
 use Rattle.kernel.proofs.in_turn.Statement.{statement}
 use Rattle.kernel.proofs.in_turn.Tie as tie

@@ -1,5 +1,5 @@
 -- On a good image, whole events are taken up to the first refused one; else none is taken.
-use Rattle.kernel.specs.Needs.{run-lawful, run-whole, run-fine, run-refused}
+use Rattle.kernel.proofs.Promised.{run-lawful, run-whole, run-fine, run-refused}
 use borrow.Author.Needs.{needs}
 use Rattle.kernel.proofs.run.Statement.{statement}
 use Rattle.kernel.proofs.run.Tie as tie
@@ -18,5 +18,4 @@ run-spec =
     tie.close
     (tie.spec
     (λ c κs. search needs) (λ c κs. search needs) (λ c κs. search needs) (λ c. search needs) (λ c κs. search needs)
-    take-events-requires (λ c κs. search needs) (λ c. search needs) (λ c. search needs) returns (λ c. search needs)
-    returns-2)
+    take-events-requires (λ c. search needs) (λ c. search needs) returns (λ c. search needs) returns-2)

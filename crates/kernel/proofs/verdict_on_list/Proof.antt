@@ -1,5 +1,5 @@
 -- A list holds whole events just where its count of words is a multiple of 3.
-use Rattle.kernel.specs.Needs.{list-refused, list-fine}
+use Rattle.kernel.proofs.Promised.{list-refused, list-fine}
 use Rattle.kernel.proofs.verdict_on_list.Statement.{statement}
 use Rattle.kernel.proofs.verdict_on_list.Tie as tie
 

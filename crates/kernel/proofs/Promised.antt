@@ -1,4 +1,4 @@
--- What the calls of this crate ask and make, as laws over values. Assumes nothing.
+-- What `event` and `run` promise, from what the calls behind them answer. Assumes nothing.
 use mathlib.Core.Logic.{_≢_}
 use mathlib.Core.Path.{_≡_, refl, sym, ap, _∙_}
 use mathlib.Core.List.{List, [], _∷_}
@@ -15,6 +15,7 @@ use Rattle.paper.specs.Numbers.{verdict-number, reply-number, reply-values, and
 use Rattle.paper.specs.Calls.{Ran, one-more, goes-on, run-from, check-run, event, run}
 use Rattle.paper.specs.Promises.{Happens, Runs}
 use Rattle.paper.specs.declared.Ended.{Ended}
+use Rattle.paper.specs.declared.Task.{Task}
 use Rattle.paper.specs.declared.Shape.{Shape}
 use Rattle.paper.specs.declared.Answer.{Answer}
 use Rattle.paper.specs.declared.Refusal.{Refusal}
@@ -22,7 +23,10 @@ use Rattle.paper.specs.declared.Reply.{Reply}
 use Rattle.paper.specs.declared.Verdict.{Verdict}
 use Rattle.laws.specs.Checked.{never-fine, then-fine}
 use Rattle.laws.specs.Events.{Lawful, inspected-lawful}
-use Rattle.happening.specs.Lists.{Toll, goes-on as tells-on, told-from, stop-of, Ends}
+use Rattle.happening.specs.Lists.{Toll, tells-on, told-from, stop-of, Ends}
+use Rattle.happening.specs.InParts.{told-by}
+use Rattle.happening.specs.declared.Kind.{Kind}
+use Rattle.happening.proofs.RepliesInParts.{stop-told}
 
 -- one event
 module _ (im : List ℕ) (k d c : ℕ) where
@@ -64,10 +68,6 @@ run-told s im (k ∷ d ∷ c ∷ events) h a =
     go later (Reply.Accepted b) out = ap one-more (later out b)
     go later (Reply.Refused f) out = refl
 
--- the verdict by the reply of the last event
-pub stops-refused : (last : Reply) (r : Refusal) → last ≡ Reply.Refused r → Verdict.Refused r ≡ stop-of last
-stops-refused last r f = rw f
-
 -- a verdict on a run
 module _ (im events : List ℕ) (image list verdict : Verdict) (ei : image ≡ check im)
     (el : list ≡ refused-if (not (eqb (length events % 3) 0)) Refusal.MalformedEvent Verdict.Fine)
@@ -101,13 +101,13 @@ module _ (im events : List ℕ) (image list verdict : Verdict) (ei : image ≡ c
         go true e h = eqb-true (length events % 3) 0 e
         go false e h = absurd (never-fine Refusal.MalformedEvent h)
 
-    pub run-fine : (s : Shape) (last : Reply) (answer : Ended) (out : List ℕ) → s ≡ shape-of im → Ends s im events (answer .taken) last out
-        → answer .stop ≡ stop-of last → Runs im events answer out
+    pub run-fine : (s : Shape) (kind : Kind) (t : Task) (answer : Ended) (out : List ℕ) → s ≡ shape-of im → Ends s im events (answer .taken) (told-by (answer .stop) kind t) out
+        → Runs im events answer out
     unfolding run Ends
-    run-fine s last answer out es e ep =
+    run-fine s kind t answer out es e =
         let at : check-run im events ≡ Verdict.Fine = sym verdict-is ∙ f in
-        let t = run-told s im events run-whole Answer.Idle ∙ ap ran-as e in
-        ran answer out (rw (at, ← es, t, ep))
+        let all = run-told s im events run-whole Answer.Idle ∙ ap ran-as e in
+        ran answer out (rw (at, ← es, all, stop-told (answer .stop) kind t))
 
 -- a list's verdict
 module _ (words : ℕ) where

@@ -1,0 +1,3 @@
+pub mod AllZero
+pub mod Taking
+pub mod RepliesInParts
