@@ -8,8 +8,8 @@ use Rattle.paper.specs.Calls.{plan-size, size-number, size-value, built, event,
 use Rattle.grammar.specs.Texts.{program, judged, answered, translation-words, translation-number, translation-text, stored, named-line}
 use Rattle.kernel_c.specs.Answers.{told-kind, told-task}
 use Rattle.kernel_c.specs.declared.Measured.{Measured}
-use Rattle.kernel_c.specs.declared.Told.{Told}
-use Rattle.kernel_c.specs.declared.Ran.{Ran}
+use Rattle.kernel_c.specs.declared.ReplyNumbers.{ReplyNumbers}
+use Rattle.kernel_c.specs.declared.RunNumbers.{RunNumbers}
 use Rattle.kernel_c.specs.declared.scripts.Translated.{Translated}
 use Rattle.kernel_c.specs.declared.scripts.RefusedLine.{RefusedLine}
 
@@ -28,14 +28,14 @@ pub record BuildsC (plan target : List ℕ) (answer : ℕ) (after : List ℕ) : 
   pub left : after ≡ built plan target
 
 -- one event
-pub record HappensC (image : List ℕ) (k d c : ℕ) (answer : Told) (after : List ℕ) : Type 0 where
+pub record HappensC (image : List ℕ) (k d c : ℕ) (answer : ReplyNumbers) (after : List ℕ) : Type 0 where
   pub numbered : answer .number ≡ reply-number (event image k d c .reply)
   pub kinded : answer .kind ≡ told-kind (event image k d c .reply)
   pub tasked : answer .task ≡ told-task (event image k d c .reply)
   pub left : after ≡ event image k d c .image
 
 -- a run over a list of events
-pub record RunsC (image events : List ℕ) (answer : Ran) (after : List ℕ) : Type 0 where
+pub record RunsC (image events : List ℕ) (answer : RunNumbers) (after : List ℕ) : Type 0 where
   pub counted : answer .taken ≡ run image events .taken
   pub numbered : answer .number ≡ verdict-number (run image events .stop)
   pub left : after ≡ run image events .image

@@ -31,7 +31,7 @@ pub struct Measured {
 
 // 0, and the kind and the task of an answer; or the number of the refusal.
 #[repr(C)]
-pub struct Told {
+pub struct ReplyNumbers {
     pub number: u16,
     pub kind: u16,
     pub task: u16,
@@ -39,7 +39,7 @@ pub struct Told {
 
 // How many events a run took, and the number of the refusal that stopped it, 0 if none did.
 #[repr(C)]
-pub struct Ran {
+pub struct RunNumbers {
     pub taken: u64,
     pub number: u16,
 }
@@ -62,18 +62,18 @@ fn measure(size: Size) -> Measured
 }
 
 // A reply, in numbers.
-pub fn tell(reply: Reply) -> Told
+pub fn tell(reply: Reply) -> ReplyNumbers
     ensures { λ r. ⌜ r .number ≡ reply-number reply ⌝ }
     ensures { λ r. ⌜ r .kind ≡ told-kind reply ⌝ }
     ensures { λ r. ⌜ r .task ≡ told-task reply ⌝ }
 {
     match reply {
-        Reply::Accepted(a) => Told {
+        Reply::Accepted(a) => ReplyNumbers {
             number: NOT_REFUSED,
             kind: kind_of(a),
             task: task_of(a),
         },
-        Reply::Refused(r) => Told {
+        Reply::Refused(r) => ReplyNumbers {
             number: number_of(r),
             kind: NO_ANSWER,
             task: NO_ANSWER,
@@ -107,7 +107,12 @@ pub extern "C" fn kernel_build(plan: &[u16], target: &mut [u16]) -> u16
 
 // One event: kind, device, character.
 #[no_mangle]
-pub extern "C" fn kernel_event(image: &mut [u16], kind: u16, device: u16, character: u16) -> Told
+pub extern "C" fn kernel_event(
+    image: &mut [u16],
+    kind: u16,
+    device: u16,
+    character: u16,
+) -> ReplyNumbers
     ensures { λ r. ⌜ HappensC (now (image .entry)) kind device character r (now (image .exit)) ⌝ }
 {
     tell(event(image, kind, device, character))
@@ -115,12 +120,12 @@ pub extern "C" fn kernel_event(image: &mut [u16], kind: u16, device: u16, charac
 
 // A run over a list of events.
 #[no_mangle]
-pub extern "C" fn kernel_run(image: &mut [u16], events: &[u16]) -> Ran
+pub extern "C" fn kernel_run(image: &mut [u16], events: &[u16]) -> RunNumbers
     ensures { λ r. ⌜ RunsC (now (image .entry)) (now (events .entry)) r (now (image .exit)) ⌝ }
 {
     let ended = run(image, events);
     let stop = ended.stop;
-    Ran {
+    RunNumbers {
         taken: ended.taken as u64,
         number: number_of_verdict(stop),
     }

@@ -13,8 +13,9 @@ ghost use Rattle.paper.specs.declared.Answer.the-variants.{ServiceDone, Service
 ghost use Rattle.paper.specs.declared.Queue.the-variants.{Ready, Output};
 ghost use Rattle.paper.specs.declared.Service.the-variants.{Send, Receive, Input, Output as Print};
 ghost use Rattle.laws.specs.Sound.{Sound};
-ghost use Rattle.words.specs.Names.{Rowed};
+ghost use Rattle.words.specs.Spots.{Rowed};
 ghost use Rattle.services.specs.Done.{done};
+use connectives::both;
 use paper::ASK_INPUT;
 use paper::Answer;
 use paper::BUSY;
@@ -40,7 +41,6 @@ use paper::WAITS_TO_SEND;
 use paper::WORD;
 use results::with_fault;
 use results::with_pending;
-use truths::both;
 use waking::leave;
 use waking::wake;
 use waking::with_status;

@@ -8,7 +8,7 @@ use Rattle.paper.specs.Image.{at, base, len}
 use Rattle.paper.specs.Queues.{empty, first}
 use Rattle.paper.specs.declared.Shape.{Shape}
 use Rattle.paper.specs.declared.Queue.{Queue}
-use Rattle.words.specs.Names.{Rowed}
+use Rattle.words.specs.Spots.{Rowed}
 use Rattle.ticks.specs.declared.Seat.{Seat}
 
 -- the words of an image from a place on

@@ -8,14 +8,14 @@ ghost use Rattle.paper.specs.declared.Answer.{Answer};
 ghost use Rattle.paper.specs.declared.Reply.{Reply};
 ghost use Rattle.paper.specs.declared.Queue.the-variants.{Ready};
 ghost use Rattle.laws.specs.Events.{Lawful};
-ghost use Rattle.shapes.specs.Entries.{Shapes};
-ghost use Rattle.machine.specs.Parts.{row-length};
+ghost use Rattle.order_table.specs.Entries.{OrderTable};
+ghost use Rattle.machine.specs.InRow.{row-length};
 ghost use Rattle.ticks.specs.Seated.{First, FirstIf, part-of};
-ghost use Rattle.words.specs.Names.{Rowed};
+ghost use Rattle.words.specs.Spots.{Rowed};
 ghost use Rattle.ticks.specs.Told.{by-flags, reply-of, stays-of, one-gone, gone, Told, AtMost, Passes};
+use effects::Segment;
 use events::before_order;
 use events::turn;
-use machine::Segment;
 use machine::orders;
 use paper::Answer;
 use paper::BASE;
@@ -95,13 +95,13 @@ fn least(a: usize, b: u16) -> u16
 fn run_orders(
     s: Shape,
     im: &mut [u16],
-    shapes: &[u16; HIGH_BYTES],
+    table: &[u16; HIGH_BYTES],
     x: Seat,
     clock: u16,
     most: usize,
 ) -> usize
     requires { ⌜ Lawful s (now im) ⌝ }
-    requires { ⌜ Shapes (now shapes) ⌝ }
+    requires { ⌜ OrderTable (now table) ⌝ }
     requires { ⌜ First s (now im) x ⌝ }
     requires { ⌜ word-at s (now im) (flags-cell (x .row .task)) < 4 ⌝ }
     requires { ⌜ clock ≡ word-at s (now im) clock-cell ⌝ }
@@ -112,7 +112,7 @@ fn run_orders(
 {
     let ticks = least(most, clock);
     let row = x.row.place.0;
-    let taken = orders(&mut im[row..], shapes, x.segment, ticks);
+    let taken = orders(&mut im[row..], table, x.segment, ticks);
     put(s, im, Spot::Clock, clock - taken);
     taken as usize
 }
@@ -170,9 +170,9 @@ fn rule(s: Shape, im: &mut [u16], x: Seat, flags: u16, clock: u16) -> Gone
 }
 
 // One tick by the rules of the first task, or orders of it in a row.
-fn go_on(s: Shape, im: &mut [u16], shapes: &[u16; HIGH_BYTES], x: Seat, most: usize) -> Gone
+fn go_on(s: Shape, im: &mut [u16], table: &[u16; HIGH_BYTES], x: Seat, most: usize) -> Gone
     requires { ⌜ Lawful s (now im) ⌝ }
-    requires { ⌜ Shapes (now shapes) ⌝ }
+    requires { ⌜ OrderTable (now table) ⌝ }
     requires { ⌜ First s (now im) x ⌝ }
     requires { ⌜ 0 < most ⌝ }
     ensures { λ r. ⌜ r ≡ gone s (now (im .entry)) x most ⌝ }
@@ -194,7 +194,7 @@ fn go_on(s: Shape, im: &mut [u16], shapes: &[u16; HIGH_BYTES], x: Seat, most: us
         };
     }
     Gone {
-        taken: run_orders(s, im, shapes, x, clock, most),
+        taken: run_orders(s, im, table, x, clock, most),
         came: Came::Ordered,
     }
 }
@@ -222,9 +222,9 @@ fn idled(most: usize) -> Passed
 }
 
 // At most so many ticks, up to one that is refused.
-pub fn ticks(s: Shape, im: &mut [u16], shapes: &[u16; HIGH_BYTES], most: usize) -> Passed
+pub fn ticks(s: Shape, im: &mut [u16], table: &[u16; HIGH_BYTES], most: usize) -> Passed
     requires { ⌜ Lawful s (now im) ⌝ }
-    requires { ⌜ Shapes (now shapes) ⌝ }
+    requires { ⌜ OrderTable (now table) ⌝ }
     requires { ⌜ 0 < most ⌝ }
     ensures { λ r. ⌜ Passes s (now (im .entry)) most (r .taken) (r .last) (now (im .exit)) ⌝ }
     ensures { λ _. ⌜ Lawful s (now (im .exit)) ⌝ }
@@ -236,7 +236,7 @@ pub fn ticks(s: Shape, im: &mut [u16], shapes: &[u16; HIGH_BYTES], most: usize) 
     let mut taken: usize = 0;
     let mut came = Came::Ordered;
     while taken < most {
-        let gone = go_on(s, im, shapes, x, most - taken);
+        let gone = go_on(s, im, table, x, most - taken);
         taken += gone.taken;
         came = gone.came;
         if gone.taken == 0 {

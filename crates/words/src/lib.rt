@@ -7,7 +7,7 @@ ghost use Rattle.paper.specs.declared.Part.the-variants.{TaskTable, SegmentTabl
 ghost use Rattle.paper.specs.Rules.{Fit};
 ghost use Rattle.paper.specs.Queues.{Has, head, appended, first as first-of, taken, count as count-cell, empty as empty-of, full as full-of};
 ghost use Rattle.laws.specs.Sound.{Sound};
-ghost use Rattle.words.specs.Names.{spot-cell, Names, Rowed};
+ghost use Rattle.words.specs.Spots.{spot-cell, HasSpot, Rowed};
 use paper::CHARACTER;
 use paper::CLOCK_AT;
 use paper::Cell;
@@ -80,7 +80,7 @@ fn cell_of(x: Spot) -> Cell
 // The word at a spot.
 pub fn get(s: Shape, im: &[u16], x: Spot) -> u16
     requires { ⌜ Sound s (now im) ⌝ }
-    requires { ⌜ Names s x ⌝ }
+    requires { ⌜ HasSpot s x ⌝ }
     ensures { λ r. ⌜ r ≡ word-at s (now (im .entry)) (spot-cell x) ⌝ }
 {
     word_of(s, im, cell_of(x))
@@ -89,7 +89,7 @@ pub fn get(s: Shape, im: &[u16], x: Spot) -> u16
 // Writes a word at a spot.
 pub fn put(s: Shape, im: &mut [u16], x: Spot, v: u16)
     requires { ⌜ Sound s (now im) ⌝ }
-    requires { ⌜ Names s x ⌝ }
+    requires { ⌜ HasSpot s x ⌝ }
     ensures { λ _. ⌜ now (im .exit) ≡ put-word s (now (im .entry)) (spot-cell x) v ⌝ }
     ensures { λ _. ⌜ Sound s (now (im .exit)) ⌝ }
 {

@@ -1,5 +1,5 @@
 -- The flags and the clock tell which rule applies, as in the definition; with a service pending there is no error.
-use Rattle.events.specs.Needs.{comes-to-stop, comes-to-turn, service-known, comes-to-serve}
+use Rattle.events.proofs.Branches.{comes-to-stop, comes-to-turn, service-known, comes-to-serve}
 use borrow.Author.Needs.{needs}
 use Rattle.events.proofs.before_order.Statement.{statement}
 use Rattle.events.proofs.before_order.Tie as tie

@@ -1,5 +1,5 @@
 -- The tests are those of the definition, joined in its order.
-use Rattle.events.specs.Needs.{tick-made, input-made, done-made, malformed}
+use Rattle.events.proofs.Branches.{tick-made, input-made, done-made, malformed}
 use borrow.Author.Needs.{needs}
 use Rattle.events.proofs.event_of.Statement.{statement}
 use Rattle.events.proofs.event_of.Tie as tie

@@ -1,7 +1,7 @@
 -- The buffer, then the room for the owner decide, as in the definition, before anything is written.
 use mathlib.Core.Path.{sym, _∙_}
-use Rattle.services.specs.Needs.{not-full}
-use Rattle.events.specs.Needs.{input-is, refused-by-test, refused-by-room, moved-and-woken, input-room, owner-room}
+use Rattle.services.proofs.Needs.{not-full}
+use Rattle.events.proofs.Branches.{input-is, refused-by-test, refused-by-room, moved-and-woken, input-room, owner-room}
 use borrow.Author.Needs.{needs}
 use Rattle.events.proofs.input.Statement.{statement}
 use Rattle.events.proofs.input.Tie as tie

@@ -1,5 +1,5 @@
 -- The output buffer tells whether the port goes on or idles.
-use Rattle.events.specs.Needs.{port-idles, some-output, port-prints}
+use Rattle.events.proofs.Branches.{port-idles, some-output, port-prints}
 use borrow.Author.Needs.{needs}
 use Rattle.events.proofs.next_output.Statement.{statement}
 use Rattle.events.proofs.next_output.Tie as tie

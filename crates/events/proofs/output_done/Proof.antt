@@ -1,5 +1,5 @@
 -- The port, then the room for the owner decide, as in the definition, before anything is written.
-use Rattle.events.specs.Needs.{port-idle, port-busy, output-done-is, refused-by-test, refused-by-room, moved-and-woken, port-room, owner-room}
+use Rattle.events.proofs.Branches.{port-idle, port-busy, output-done-is, refused-by-test, refused-by-room, moved-and-woken, port-room, owner-room}
 use borrow.Author.Needs.{needs}
 use Rattle.events.proofs.output_done.Statement.{statement}
 use Rattle.events.proofs.output_done.Tie as tie

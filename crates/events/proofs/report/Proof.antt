@@ -6,7 +6,7 @@ use types.Run.{OneOf, miss}
 use denote.Enum.Declared.{tagOf}
 use Rattle.paper.specs.declared.Event.{Event}
 use Rattle.paper.proofs.Event as event
-use Rattle.events.specs.Needs.{input-task, done-task, input-happens, done-happens, malformed-happens}
+use Rattle.events.proofs.Branches.{input-task, done-task, input-happens, done-happens, malformed-happens}
 use borrow.Author.Needs.{needs}
 use Rattle.events.proofs.report.Statement.{statement}
 use Rattle.events.proofs.report.Tie as tie

@@ -1,5 +1,5 @@
 -- A status written leaves the ready queue as it was, so the first task is there to leave.
-use Rattle.events.specs.Needs.{still-some, stops}
+use Rattle.events.proofs.Branches.{still-some, stops}
 use borrow.Author.Needs.{needs}
 use Rattle.events.proofs.stop.Statement.{statement}
 use Rattle.events.proofs.stop.Tie as tie

@@ -1,5 +1,5 @@
 -- A task taken leaves room for it at the end.
-use Rattle.events.specs.Needs.{room-again, turns}
+use Rattle.events.proofs.Branches.{room-again, turns}
 use borrow.Author.Needs.{needs}
 use Rattle.events.proofs.turn.Statement.{statement}
 use Rattle.events.proofs.turn.Tie as tie

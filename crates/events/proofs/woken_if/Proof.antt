@@ -1,5 +1,5 @@
 -- The status read decides, as in the definition.
-use Rattle.events.specs.Needs.{wakes-owner, wakes-none}
+use Rattle.events.proofs.Branches.{wakes-owner, wakes-none}
 use borrow.Author.Needs.{needs}
 use Rattle.events.proofs.woken_if.Statement.{statement}
 use Rattle.events.proofs.woken_if.Tie as tie

@@ -1,5 +1,5 @@
 -- What the event answers is told in numbers, and the image is as it leaves it.
-use Rattle.kernel_c.specs.Needs.{happens-is}
+use Rattle.kernel_c.proofs.Promised.{happens-is}
 use borrow.Author.Needs.{needs}
 use Rattle.kernel_c.proofs.kernel_event.Statement.{statement}
 use Rattle.kernel_c.proofs.kernel_event.Tie as tie

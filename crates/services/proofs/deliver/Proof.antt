@@ -1,5 +1,5 @@
 -- The word taken is the buffer's first, and the flags are those with nothing pending.
-use Rattle.services.specs.Needs.{delivers}
+use Rattle.services.proofs.Needs.{delivers}
 use borrow.Author.Needs.{needs}
 use Rattle.services.proofs.deliver.Statement.{statement}
 use Rattle.services.proofs.deliver.Tie as tie

@@ -1,5 +1,5 @@
 -- The flags written are those of the definition of a fault.
-use Rattle.services.specs.Needs.{faulted}
+use Rattle.services.proofs.Needs.{faulted}
 use borrow.Author.Needs.{needs}
 use Rattle.services.proofs.fault.Statement.{statement}
 use Rattle.services.proofs.fault.Tie as tie

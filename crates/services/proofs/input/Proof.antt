@@ -1,5 +1,5 @@
 -- The buffer tells whether the task waits or the word is delivered, and nobody is woken.
-use Rattle.services.specs.Needs.{not-empty, comes-to-wait, comes-to-pass}
+use Rattle.services.proofs.Needs.{not-empty, comes-to-wait, comes-to-pass}
 use mathlib.Core.Path.{refl}
 use borrow.Author.Needs.{needs}
 use Rattle.services.proofs.input.Statement.{statement}

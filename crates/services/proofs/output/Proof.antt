@@ -1,5 +1,5 @@
 -- The word, then the buffer tell whether the task faults, waits or is done, and nobody is woken.
-use Rattle.services.specs.Needs.{not-full, then-some, too-large, small-enough, comes-to-wait, comes-to-pass, put-out}
+use Rattle.services.proofs.Needs.{not-full, then-some, too-large, small-enough, comes-to-wait, comes-to-pass, put-out}
 use mathlib.Core.Path.{refl}
 use borrow.Author.Needs.{needs}
 use Rattle.services.proofs.output.Statement.{statement}

@@ -1,5 +1,5 @@
 -- The word read is the one in R3, and the flags are those with nothing pending.
-use Rattle.services.specs.Needs.{passes}
+use Rattle.services.proofs.Needs.{passes}
 use borrow.Author.Needs.{needs}
 use Rattle.services.proofs.pass.Statement.{statement}
 use Rattle.services.proofs.pass.Tie as tie

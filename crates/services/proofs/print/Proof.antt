@@ -1,5 +1,5 @@
 -- The three changes are those of the definition, in its order.
-use Rattle.services.specs.Needs.{prints}
+use Rattle.services.proofs.Needs.{prints}
 use borrow.Author.Needs.{needs}
 use Rattle.services.proofs.print.Statement.{statement}
 use Rattle.services.proofs.print.Tie as tie

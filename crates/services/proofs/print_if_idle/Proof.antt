@@ -1,5 +1,5 @@
 -- The port's first word decides, as in the definition.
-use Rattle.services.specs.Needs.{printed, not-printed}
+use Rattle.services.proofs.Needs.{printed, not-printed}
 use borrow.Author.Needs.{needs}
 use Rattle.services.proofs.print_if_idle.Statement.{statement}
 use Rattle.services.proofs.print_if_idle.Tie as tie

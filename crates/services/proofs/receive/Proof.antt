@@ -1,6 +1,6 @@
 -- The number in R2, then the buffer tell whether the task faults, waits or gets a word; its source's status tells whether it is woken.
 use mathlib.Core.Path.{refl}
-use Rattle.services.specs.Needs.{not-empty, receives, gets-from, unnamed, other-waits, no-room-left, room-got, moved-waking, moved-alone}
+use Rattle.services.proofs.Needs.{unnamed, other-waits, no-room-left, room-got, moved-waking, moved-alone, not-empty, receives, gets-from}
 use borrow.Author.Needs.{needs}
 use Rattle.services.proofs.receive.Statement.{statement}
 use Rattle.services.proofs.receive.Tie as tie

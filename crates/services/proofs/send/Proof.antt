@@ -1,6 +1,6 @@
 -- The number in R2, then the buffer tell whether the task faults, waits or sends; its peer's status tells whether it is woken.
 use mathlib.Core.Path.{refl}
-use Rattle.services.specs.Needs.{not-full, sends, sends-to, unnamed, other-waits, no-room-left, room-sent, moved-waking, moved-alone}
+use Rattle.services.proofs.Needs.{unnamed, other-waits, no-room-left, room-sent, moved-waking, moved-alone, not-full, sends, sends-to}
 use borrow.Author.Needs.{needs}
 use Rattle.services.proofs.send.Statement.{statement}
 use Rattle.services.proofs.send.Tie as tie

@@ -1,7 +1,7 @@
 -- Each number is that of the service called; the last is 4, since the number is none of the others and at most 4.
 use mathlib.Core.Path.{refl}
 use Rattle.paper.specs.declared.Service.{Service}
-use Rattle.services.specs.Needs.{serves, last-number}
+use Rattle.services.proofs.Needs.{serves, last-number}
 use borrow.Author.Needs.{needs}
 use Rattle.services.proofs.service.Statement.{statement}
 use Rattle.services.proofs.service.Tie as tie

@@ -1,5 +1,5 @@
 -- A status written leaves the ready queue as it was, so the first task is there to leave.
-use Rattle.services.specs.Needs.{still-some, gone}
+use Rattle.services.proofs.Needs.{still-some, gone}
 use borrow.Author.Needs.{needs}
 use Rattle.services.proofs.wait.Statement.{statement}
 use Rattle.services.proofs.wait.Tie as tie

@@ -1,5 +1,5 @@
 -- Both words are read where the definition reads them.
-use Rattle.services.specs.Needs.{tested}
+use Rattle.services.proofs.Needs.{tested}
 use borrow.Author.Needs.{needs}
 use Rattle.services.proofs.waits_for.Statement.{statement}
 use Rattle.services.proofs.waits_for.Tie as tie

@@ -1,5 +1,5 @@
 -- The error in the flags tells whether the order faulted.
-use Rattle.ticks.specs.Needs.{flags-done, flags-faulted}
+use Rattle.ticks.proofs.Needs.{flags-done, flags-faulted}
 use borrow.Author.Needs.{needs}
 use Rattle.ticks.proofs.by_flags.Statement.{statement}
 use Rattle.ticks.proofs.by_flags.Tie as tie

@@ -1,5 +1,5 @@
 -- The first task's row, and its entry of the segment table.
-use Rattle.ticks.specs.Needs.{lawful-sound, lawful-fit, first-in, row-before, seat-made}
+use Rattle.ticks.proofs.Needs.{first-in, row-before, seat-made, lawful-sound, lawful-fit}
 use borrow.Author.Needs.{needs}
 use Rattle.ticks.proofs.first_seat.Statement.{statement}
 use Rattle.ticks.proofs.first_seat.Tie as tie

@@ -1,6 +1,6 @@
 -- By the flags and the clock: a rule before an order, the turn, or orders in a row.
-use Rattle.ticks.specs.Needs.{lawful-sound, first-rowed, first-some, rule-gone, turn-gone, turn-most, turn-told, turn-leaves, orders-gone, orders-most, orders-reply, orders-stay, flags-calm, has-time}
-use Rattle.ticks.specs.Told.{fewer}
+use Rattle.ticks.proofs.Needs.{rule-gone, turn-gone, turn-told, orders-gone, lawful-sound, first-rowed, first-some, turn-most, turn-leaves, orders-most, orders-reply, orders-stay, flags-calm, has-time}
+use Rattle.ticks.proofs.Telling.{fewer}
 use borrow.Author.Needs.{needs}
 use Rattle.ticks.proofs.go_on.Statement.{statement}
 use Rattle.ticks.proofs.go_on.Tie as tie

@@ -1,5 +1,5 @@
 -- The rule's outcome is the tick's; a refused tick is not taken.
-use Rattle.ticks.specs.Needs.{lawful-sound, first-rowed, first-some, first-flagged, none-gone, none-most, one-most, some-gone, rule-refused, rule-taken, rule-stays, rule-leaves}
+use Rattle.ticks.proofs.Needs.{none-gone, none-most, one-most, some-gone, rule-refused, rule-taken, rule-stays, rule-leaves, lawful-sound, first-rowed, first-some, first-flagged}
 use borrow.Author.Needs.{needs}
 use Rattle.ticks.proofs.rule.Statement.{statement}
 use Rattle.ticks.proofs.rule.Tie as tie

@@ -1,7 +1,7 @@
 -- The part from the task's row on is lent; its orders are ticks, and the clock falls by as many.
 use native.Mathlib.Omega.{arith}
-use Rattle.ticks.specs.Lent.{row-within, row-small, part-lent, part-calm, back-sound, orders-first, orders-told}
-use Rattle.ticks.specs.Needs.{lawful-sound, sound-long, least-some, least-second, row-fits, row-least}
+use Rattle.ticks.proofs.Lent.{back-sound, orders-first, orders-told, row-within, row-small, part-lent, part-calm}
+use Rattle.ticks.proofs.Needs.{lawful-sound, sound-long, least-some, least-second, row-fits, row-least}
 use borrow.Author.Needs.{needs}
 use Rattle.ticks.proofs.run_orders.Statement.{statement}
 use Rattle.ticks.proofs.run_orders.Tie as tie

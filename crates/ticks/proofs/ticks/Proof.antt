@@ -2,17 +2,18 @@
 use mathlib.Core.Path.{sym, _∙_}
 use Prim.Native.Nat.{_-_}
 use native.Mathlib.Omega.{arith}
-use Rattle.ticks.specs.Told.{reply-of, all-idle, Goes, goes-none, goes-as, goes-lawful, goes-first, goes-all, gone-taken, left-reply, next-few, next-lawful, next-refused, next-goes, next-idle, next-all, passes-as}
-use Rattle.ticks.specs.Needs.{lawful-sound, sound-long, first-rowed, first-still}
+use Rattle.ticks.specs.Told.{reply-of}
+use Rattle.ticks.proofs.Telling.{next-few, next-lawful, next-refused, next-goes, next-idle, next-all, all-idle, Goes, goes-none, goes-as, goes-lawful, goes-first, goes-all, gone-taken, left-reply, passes-as}
+use Rattle.ticks.proofs.Needs.{lawful-sound, sound-long, first-rowed, first-still}
 use borrow.Author.Needs.{needs}
 use Rattle.ticks.proofs.ticks.Statement.{statement}
 use Rattle.ticks.proofs.ticks.Tie as tie
 
 abbrev Inv-loop : tie.InvT-loop
-Inv-loop s im₀ shapes most x₀ taken₀ came₀ im x taken came = Goes s im₀ most taken (reply-of s im x came) im x
+Inv-loop s im₀ table most x₀ taken₀ came₀ im x taken came = Goes s im₀ most taken (reply-of s im x came) im x
 
 abbrev μ-loop : tie.MeasureT-loop
-μ-loop s im₀ shapes most x₀ taken₀ came₀ im x taken came = most - taken
+μ-loop s im₀ table most x₀ taken₀ came₀ im x taken came = most - taken
 
 empty-requires : tie.Need-empty-requires Inv-loop μ-loop
 empty-requires c κs = search (lawful-sound, needs)

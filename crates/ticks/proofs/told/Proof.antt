@@ -1,5 +1,5 @@
 -- An order's reply is told by the flags, any other is at hand.
-use Rattle.ticks.specs.Needs.{lawful-sound, told-order, told-reply}
+use Rattle.ticks.proofs.Needs.{lawful-sound, told-order, told-reply}
 use borrow.Author.Needs.{needs}
 use Rattle.ticks.proofs.told.Statement.{statement}
 use Rattle.ticks.proofs.told.Tie as tie

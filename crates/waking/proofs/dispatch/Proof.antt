@@ -1,5 +1,5 @@
 -- The ready queue tells whether the clock becomes 0 or the slice.
-use Rattle.waking.specs.Needs.{dispatched-none, dispatched-some}
+use Rattle.waking.proofs.Needs.{dispatched-none, dispatched-some}
 use borrow.Author.Needs.{needs}
 use Rattle.waking.proofs.dispatch.Statement.{statement}
 use Rattle.waking.proofs.dispatch.Tie as tie

@@ -1,5 +1,5 @@
 -- For nobody there is always room, and for one task where the ready queue is not full.
-use Rattle.waking.specs.Needs.{room-nobody, room-one}
+use Rattle.waking.proofs.Needs.{room-nobody, room-one}
 use borrow.Author.Needs.{needs}
 use Rattle.waking.proofs.fits.Statement.{statement}
 use Rattle.waking.proofs.fits.Tie as tie

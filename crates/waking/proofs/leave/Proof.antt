@@ -1,5 +1,5 @@
 -- The first task is taken from the ready queue and another dispatched, in the definition's order.
-use Rattle.waking.specs.Needs.{gone}
+use Rattle.waking.proofs.Needs.{gone}
 use borrow.Author.Needs.{needs}
 use Rattle.waking.proofs.leave.Statement.{statement}
 use Rattle.waking.proofs.leave.Tie as tie

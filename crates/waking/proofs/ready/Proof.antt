@@ -1,5 +1,5 @@
 -- A status written leaves the ready queue as it was, so it has room for the task.
-use Rattle.waking.specs.Needs.{room-kept, made-ready}
+use Rattle.waking.proofs.Needs.{room-kept, made-ready}
 use borrow.Author.Needs.{needs}
 use Rattle.waking.proofs.ready.Statement.{statement}
 use Rattle.waking.proofs.ready.Tie as tie

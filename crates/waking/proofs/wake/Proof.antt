@@ -1,5 +1,5 @@
 -- The task joins the ready queue, and it is dispatched just where the queue was empty before.
-use Rattle.waking.specs.Needs.{woken-alone, woken-among}
+use Rattle.waking.proofs.Needs.{woken-alone, woken-among}
 use borrow.Author.Needs.{needs}
 use Rattle.waking.proofs.wake.Statement.{statement}
 use Rattle.waking.proofs.wake.Tie as tie

@@ -1,5 +1,5 @@
 -- The status and the peer are written as in the definition, and the image stays sound with each.
-use Rattle.waking.specs.Needs.{statused}
+use Rattle.waking.proofs.Needs.{statused}
 use borrow.Author.Needs.{needs}
 use Rattle.waking.proofs.with_status.Statement.{statement}
 use Rattle.waking.proofs.with_status.Tie as tie

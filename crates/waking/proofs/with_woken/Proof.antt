@@ -1,5 +1,5 @@
 -- Either one task is woken, for which the ready queue has room, or nobody is.
-use Rattle.waking.specs.Needs.{task-of, room-of, one-woken, nobody-woken}
+use Rattle.waking.proofs.Needs.{task-of, room-of, one-woken, nobody-woken}
 use borrow.Author.Needs.{needs}
 use Rattle.waking.proofs.with_woken.Statement.{statement}
 use Rattle.waking.proofs.with_woken.Tie as tie

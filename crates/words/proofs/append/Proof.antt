@@ -1,6 +1,6 @@
 -- The queue is a ring at its place that has room, and what is appended to the ring is appended to the queue.
 use Rattle.laws.specs.Sound.{sound-fit}
-use Rattle.words.specs.Needs.{ring-is, room-is, appended-is, appended-keeps}
+use Rattle.words.proofs.Needs.{ring-is, room-is, appended-is, appended-keeps}
 use borrow.Author.Needs.{needs}
 use Rattle.words.proofs.append.Statement.{statement}
 use Rattle.words.proofs.append.Tie as tie

@@ -1,6 +1,6 @@
 -- The queue is a ring at its place, and the ring's count is the queue's.
 use Rattle.laws.specs.Sound.{sound-fit}
-use Rattle.words.specs.Needs.{ring-is, count-is}
+use Rattle.words.proofs.Needs.{ring-is, count-is}
 use Rattle.words.proofs.count.Statement.{statement}
 use Rattle.words.proofs.count.Tie as tie
 

@@ -1,5 +1,5 @@
 -- A queue is empty just where its count is 0.
-use Rattle.words.specs.Needs.{empty-is}
+use Rattle.words.proofs.Needs.{empty-is}
 use borrow.Author.Needs.{needs}
 use Rattle.words.proofs.empty.Statement.{statement}
 use Rattle.words.proofs.empty.Tie as tie

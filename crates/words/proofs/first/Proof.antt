@@ -1,6 +1,6 @@
 -- The queue is a ring at its place, and the ring's first word is the queue's.
 use Rattle.laws.specs.Sound.{sound-fit}
-use Rattle.words.specs.Needs.{ring-is, first-is}
+use Rattle.words.proofs.Needs.{ring-is, first-is}
 use Rattle.words.proofs.first.Statement.{statement}
 use Rattle.words.proofs.first.Tie as tie
 

@@ -1,6 +1,6 @@
 -- The queue is a ring at its place, and the ring is full just where the queue is.
 use Rattle.laws.specs.Sound.{sound-fit}
-use Rattle.words.specs.Needs.{ring-is, full-is}
+use Rattle.words.proofs.Needs.{ring-is, full-is}
 use Rattle.words.proofs.full.Statement.{statement}
 use Rattle.words.proofs.full.Tie as tie
 

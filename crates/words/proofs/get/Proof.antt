@@ -1,7 +1,7 @@
 -- A spot lies in the image, and the word of its cell is read.
 use borrow.Author.Needs.{needs}
 use Rattle.laws.specs.Sound.{sound-sized}
-use Rattle.words.specs.Needs.{found-valid, got}
+use Rattle.words.proofs.Needs.{found-valid, got}
 use Rattle.words.proofs.get.Statement.{statement}
 use Rattle.words.proofs.get.Tie as tie
 

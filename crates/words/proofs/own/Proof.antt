@@ -1,6 +1,6 @@
 -- The word k places after the row's first is the cell in column k.
 use native.Mathlib.Omega.{arith}
-use Rattle.words.specs.Needs.{own-inside, own-small, own-is}
+use Rattle.words.proofs.Needs.{own-inside, own-small, own-is}
 use Rattle.words.proofs.own.Statement.{statement}
 use Rattle.words.proofs.own.Tie as tie
 

@@ -1,7 +1,7 @@
 -- The word k places after the row's first is the cell in column k.
 use native.Mathlib.Omega.{arith}
 use borrow.Author.Needs.{needs}
-use Rattle.words.specs.Needs.{own-inside, own-small, own-put, own-put-sound}
+use Rattle.words.proofs.Needs.{own-inside, own-small, own-put, own-put-sound}
 use Rattle.words.proofs.put_own.Statement.{statement}
 use Rattle.words.proofs.put_own.Tie as tie
 

@@ -1,5 +1,5 @@
 -- A queue's first word is a valid cell, so it has a place.
-use Rattle.words.specs.Needs.{head-valid}
+use Rattle.words.proofs.Needs.{head-valid}
 use borrow.Author.Needs.{needs}
 use Rattle.words.proofs.queue_place.Statement.{statement}
 use Rattle.words.proofs.queue_place.Tie as tie

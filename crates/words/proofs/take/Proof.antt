@@ -1,6 +1,6 @@
 -- The queue is a ring at its place that holds a word, and what is taken from the ring is taken from the queue.
 use Rattle.laws.specs.Sound.{sound-fit}
-use Rattle.words.specs.Needs.{ring-is, some-is, first-is, taken-is, taken-keeps}
+use Rattle.words.proofs.Needs.{ring-is, some-is, taken-is, taken-keeps, first-is}
 use borrow.Author.Needs.{needs}
 use Rattle.words.proofs.take.Statement.{statement}
 use Rattle.words.proofs.take.Tie as tie

@@ -1,5 +1,5 @@
 -- The line at fault is told in numbers, and where nothing is refused, 0 and 0 are.
-use Rattle.kernel_c.specs.Scripts.{names-line-is}
+use Rattle.kernel_c.proofs.PromisedOfTexts.{names-line-is}
 use borrow.Author.Needs.{needs}
 use Rattle.kernel_c.proofs.scripts.kernel_refused_line.Statement.{statement}
 use Rattle.kernel_c.proofs.scripts.kernel_refused_line.Tie as tie

@@ -1,5 +1,5 @@
 -- What the translation answers is told in numbers, and the target is as it leaves it.
-use Rattle.kernel_c.specs.Scripts.{translates-is}
+use Rattle.kernel_c.proofs.PromisedOfTexts.{translates-is}
 use borrow.Author.Needs.{needs}
 use Rattle.kernel_c.proofs.scripts.kernel_translate.Statement.{statement}
 use Rattle.kernel_c.proofs.scripts.kernel_translate.Tie as tie

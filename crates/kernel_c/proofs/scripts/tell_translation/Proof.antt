@@ -1,5 +1,5 @@
 -- The answer has a count of words and no refusal, or a refusal with its text and no words.
-use Rattle.kernel_c.specs.Scripts.{no-words, refusal-number, refusal-text}
+use Rattle.kernel_c.proofs.PromisedOfTexts.{no-words, refusal-number, refusal-text}
 use borrow.Author.Needs.{needs}
 use Rattle.kernel_c.proofs.scripts.tell_translation.Statement.{statement}
 use Rattle.kernel_c.proofs.scripts.tell_translation.Tie as tie

@@ -27,13 +27,14 @@ use Rattle.laws.specs.Orders.{lies-apart}
 use Rattle.laws.specs.Events.{Lawful, good}
 use Rattle.event_laws.specs.Stays.{first-task}
 use Rattle.event_laws.specs.First.{stays-first, tick-stays}
-use Rattle.words.specs.Names.{Rowed}
+use Rattle.words.specs.Spots.{Rowed}
 use Rattle.words.specs.declared.Row.{Row}
-use Rattle.machine.specs.Parts.{row-length}
-use Rattle.machine.specs.Rows.{row-few}
-use Rattle.machine.specs.declared.Segment.{Segment}
+use Rattle.machine.specs.InRow.{row-length}
+use Rattle.machine.specs.RowLength.{row-few}
+use Rattle.effects.specs.declared.Segment.{Segment}
 use Rattle.ticks.specs.Seated.{Seated, First, FirstIf, part-of}
-use Rattle.ticks.specs.Told.{by-flags, reply-of, stays-of, one-gone, gone, Told, AtMost, told-one, told-none}
+use Rattle.ticks.specs.Told.{by-flags, reply-of, stays-of, one-gone, gone, Told, AtMost}
+use Rattle.ticks.proofs.Telling.{told-one, told-none}
 use Rattle.ticks.specs.declared.Came.{Came}
 use Rattle.ticks.specs.declared.Gone.{Gone}
 use Rattle.ticks.specs.declared.Seat.{Seat}

@@ -1,4 +1,4 @@
--- What the calls of this crate ask and make, as laws over values. Assumes nothing.
+-- Each branch of this crate's functions comes to what the definition says there. Assumes nothing.
 use mathlib.Core.Path.{_≡_, refl, sym, _∙_}
 use mathlib.Core.List.{List}
 use mathlib.Core.Bool.{Bool, true, false, not, cond, _&&_}
@@ -29,7 +29,7 @@ use Rattle.laws.specs.Events.{Formed}
 use Rattle.waking.specs.Room.{Room, has-room}
 use Rattle.laws.specs.Frame.{frame-none, frame-appended, kept-full}
 use Rattle.laws.specs.Changes.{device-parts, frame-next}
-use Rattle.services.specs.Needs.{outcomes, no-room, some-room, room-stays, the-one}
+use Rattle.services.proofs.Needs.{outcomes, no-room, some-room, room-stays, the-one}
 
 -- three tests, as the code joins them
 three : (a b c p t : Bool) → p ≡ (b && c) → t ≡ (a && p) → (a && b && c) ≡ t

@@ -1,4 +1,4 @@
--- What the exported functions on texts make of what the calls behind them answer, as laws over values. Assumes nothing.
+-- What the exported functions on texts promise, from what the calls behind them answer. Assumes nothing.
 use mathlib.Core.Path.{_≡_, ap, _∙_}
 use mathlib.Core.List.{List}
 use Prim.Native.Nat.{ℕ}

@@ -15,14 +15,14 @@ use Rattle.paper.specs.declared.Part.{Part}
 use Rattle.paper.specs.declared.Queue.{Queue}
 use Rattle.laws.specs.Places.{below}
 use Rattle.laws.specs.Queues.{word-valid}
-use Rattle.laws.specs.Sound.{Sound, sound, has-room, has-word, fixed, put-sound, appended-sound, taken-sound}
+use Rattle.laws.specs.Sound.{Sound, sound, has-space, has-word, fixed, put-sound, appended-sound, taken-sound}
 use Rattle.rings.specs.Ring.{Ring, append-at, first-at, take-at}
-use Rattle.words.specs.Names.{spot-cell, Names, Rowed}
+use Rattle.words.specs.Spots.{spot-cell, HasSpot, Rowed}
 use Rattle.words.specs.declared.Spot.{Spot}
 use Rattle.words.specs.declared.Row.{Row}
 
 -- a spot is a cell of the image, past the fixed words of its row
-pub spot-valid : (s : Shape) (x : Spot) → Names s x → Valid s (spot-cell x)
+pub spot-valid : (s : Shape) (x : Spot) → HasSpot s x → Valid s (spot-cell x)
 spot-valid s Spot.Clock h = omega arith
 spot-valid s (Spot.Status i) h = omega arith
 spot-valid s (Spot.Peer i) h = omega arith
@@ -37,7 +37,7 @@ spot-free (Spot.Busy i) = omega arith
 spot-free (Spot.Character i) = omega arith
 
 -- the cell that code finds for a spot
-pub found-valid : (s : Shape) (x : Spot) (c : Cell) → c ≡ spot-cell x → Names s x → Valid s c
+pub found-valid : (s : Shape) (x : Spot) (c : Cell) → c ≡ spot-cell x → HasSpot s x → Valid s c
 found-valid s x c e n = rw e (spot-valid s x n)
 
 -- the word read at a spot
@@ -53,7 +53,7 @@ module _ (s : Shape) (im out : List ℕ) (x : Spot) (c : Cell) (p : Place) (v : 
   unfolding put
   spot-put = rw (eo, ep, ec)
 
-  pub spot-put-sound : Sound s im → Names s x → Sound s out
+  pub spot-put-sound : Sound s im → HasSpot s x → Sound s out
   spot-put-sound h n = rw spot-put (put-sound s im (spot-cell x) v (spot-valid s x n) (spot-free x) h)
 
 -- a word of a task's row, as it lies from the row's place on
@@ -138,7 +138,7 @@ module _ (s : Shape) (im : List ℕ) (q : Queue) (p : Place) (e : p ≡ place s 
         }
 
     pub room-is : full s im q ≡ false → getD im (p .0 + 2) 0 < getD im (p .0 + 3) 0
-    room-is f = rw (word-is 2, word-is 3) (has-room s im h q hq f)
+    room-is f = rw (word-is 2, word-is 3) (has-space s im h q hq f)
 
     pub some-is : empty s im q ≡ false → 0 < getD im (p .0 + 2) 0
     some-is f = rw (word-is 2) (has-word s im h q hq f)
@@ -148,7 +148,7 @@ module _ (s : Shape) (im : List ℕ) (q : Queue) (p : Place) (e : p ≡ place s 
       appended-is v eo = eo ∙ append-is v
 
       pub appended-keeps : (v : ℕ) → out ≡ append-at im (p .0) v → full s im q ≡ false → Sound s out
-      appended-keeps v eo f = rw (appended-is v eo) (appended-sound s im q hq h v (has-room s im h q hq f))
+      appended-keeps v eo f = rw (appended-is v eo) (appended-sound s im q hq h v (has-space s im h q hq f))
 
       pub taken-is : out ≡ take-at im (p .0) → out ≡ taken s im q
       taken-is eo = eo ∙ take-is

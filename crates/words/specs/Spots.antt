@@ -16,12 +16,12 @@ spot-cell (Spot.Busy i) = busy i
 spot-cell (Spot.Character i) = character i
 
 -- the spot is one of an image of shape s
-abbrev pub Names : Shape → Spot → Type 0
-Names s Spot.Clock = Unit {0}
-Names s (Spot.Status i) = i .0 < s .n
-Names s (Spot.Peer i) = i .0 < s .n
-Names s (Spot.Busy i) = i .0 < s .n
-Names s (Spot.Character i) = i .0 < s .n
+abbrev pub HasSpot : Shape → Spot → Type 0
+HasSpot s Spot.Clock = Unit {0}
+HasSpot s (Spot.Status i) = i .0 < s .n
+HasSpot s (Spot.Peer i) = i .0 < s .n
+HasSpot s (Spot.Busy i) = i .0 < s .n
+HasSpot s (Spot.Character i) = i .0 < s .n
 
 -- the row is that of a task of an image of shape s
 pub record Rowed (s : Shape) (x : Row) : Type 0 where

@@ -1,19 +1,16 @@
--- Which task an answer names: one of the image's, so at most 15. Assumes nothing.
+-- An accepted event's kind and task are the paper's two values, and not those of a refused one: the task is one of the image's. Assumes nothing.
 use mathlib.Core.Path.{_≡_, refl, ap}
-use mathlib.Core.List.{List}
+use mathlib.Core.List.{List, [], _∷_}
 use Prim.Native.Nat.{ℕ, _<_}
 use native.Mathlib.Omega.{arith}
 use Rattle.paper.specs.Image.{most-tasks, shape-of}
 use Rattle.paper.specs.Rules.{Good}
 use Rattle.paper.specs.Waking.{Outcome}
-use Rattle.paper.specs.Orders.{order, order-answer}
-use Rattle.paper.specs.Events.{event-of, running, ordered, happening}
-use Rattle.paper.specs.Numbers.{kind, answer-task, check}
+use Rattle.paper.specs.Events.{event-of, happening}
+use Rattle.paper.specs.Numbers.{kind, answer-task, reply-values, check}
 use Rattle.paper.specs.Calls.{event-if, event}
-use Rattle.paper.specs.declared.Task.{Task}
 use Rattle.paper.specs.declared.Shape.{Shape}
 use Rattle.paper.specs.declared.Event.{Event}
-use Rattle.paper.specs.declared.Effect.{Effect}
 use Rattle.paper.specs.declared.Answer.{Answer}
 use Rattle.paper.specs.declared.Reply.{Reply}
 use Rattle.paper.specs.declared.Verdict.{Verdict}
@@ -21,7 +18,24 @@ use Rattle.laws.specs.Checked.{checked-good}
 use Rattle.laws.specs.Events.{Formed, event-formed}
 use Rattle.event_laws.specs.Walk.{tick-any, input-any, done-any, event-any}
 use Rattle.event_laws.specs.Stays.{first-task}
-use Rattle.kernel_c.specs.Answers.{no-answer, kind-below}
+use Rattle.kernel_c.specs.Answers.{no-answer, told-kind, told-task}
+
+-- an accepted event's kind and task are the paper's two values
+pub told-values : (a : Answer) → reply-values (Reply.Accepted a) ≡ told-kind (Reply.Accepted a) ∷ told-task (Reply.Accepted a) ∷ []
+told-values a = refl
+
+-- no answer has that kind
+kind-below : (a : Answer) → kind a < no-answer
+kind-below Answer.Idle = omega arith
+kind-below (Answer.ErrorStop i) = omega arith
+kind-below (Answer.TurnPassed i) = omega arith
+kind-below (Answer.ServiceDone i) = omega arith
+kind-below (Answer.ServiceWaits i) = omega arith
+kind-below (Answer.ServiceFaulted i) = omega arith
+kind-below (Answer.OrderDone i) = omega arith
+kind-below (Answer.OrderFaulted i) = omega arith
+kind-below (Answer.Input i) = omega arith
+kind-below (Answer.OutputDone i) = omega arith
 
 -- the task that a reply names, 0 where it names none
 abbrev named : Reply → ℕ
@@ -29,19 +43,14 @@ named (Reply.Accepted a) = answer-task a
 named (Reply.Refused r) = 0
 
 -- a reply that names a task of the image
-abbrev Names : Shape → Outcome → Type 0
-Names s o = named (o .reply) < s .n
+abbrev InImage : Shape → Outcome → Type 0
+InImage s o = named (o .reply) < s .n
 
--- an order's answer names its task
-ordered-task : (i : Task) (e : Effect) → answer-task (order-answer i e) ≡ i .0
-ordered-task i (Effect.Does next c) = refl
-ordered-task i (Effect.Faults e) = refl
-
-happens : (s : Shape) (im : List ℕ) → 0 < s .n → Good s im → (e : Event) → Formed s e → Names s (happening s im e)
-unfolding ordered Formed
+happens : (s : Shape) (im : List ℕ) → 0 < s .n → Good s im → (e : Event) → Formed s e → InImage s (happening s im e)
+unfolding Formed
 happens s im some g =
-    event-any s im (λ e o. Formed s e → Names s o)
-    (λ _. tick-any (Names s)
+    event-any s im (λ e o. Formed s e → InImage s o)
+    (λ _. tick-any (InImage s)
     record {
       idle = λ _. some;
       stops = λ r _. first-task s im g r;
@@ -49,10 +58,10 @@ happens s im some g =
       serves = λ r _ _ _ _ _.
           let hi = first-task s im g r in
           record { faults = λ _ _. hi; stuck = λ _ _. hi; alone = λ _ _ _. hi; woke = λ _ _ _ _ _. hi; no-room = λ _ _ _. some };
-      orders = λ r _ _ _. rw (ordered-task (running s im) (order s im (running s im))) (first-task s im g r);
+      orders = λ r _ _ _ _ _. record { does = λ _ _ _. first-task s im g r; faults = λ _ _. first-task s im g r };
     })
-    (λ i c f. input-any s im i (Names s) (λ _. some) c (λ _. some) (λ _ _. f .0) (λ _ _ _. f .0))
-    (λ i f. done-any s im i (Names s) (λ _. some) (λ _. some) (λ _. f) (λ _ _. f)) (λ _. some)
+    (λ i c f. input-any s im i (InImage s) (λ _. some) c (λ _. some) (λ _ _. f .0) (λ _ _ _. f .0))
+    (λ i f. done-any s im i (InImage s) (λ _. some) (λ _. some) (λ _. f) (λ _ _. f)) (λ _. some)
 
 names-below : (im : List ℕ) (k d c : ℕ) → named (event im k d c .reply) < most-tasks
 unfolding event
@@ -64,7 +73,7 @@ names-below im k d c = go (check im) refl
         let s : Shape = shape-of im in
         let g : Good s im = checked-good im e in
         let n = g .laid .fit .tasks in
-        let h : Names s (happening s im (event-of s k d c)) = happens s im (omega (arith, n)) g (event-of s k d c) (event-formed s k d c) in
+        let h : InImage s (happening s im (event-of s k d c)) = happens s im (omega (arith, n)) g (event-of s k d c) (event-formed s k d c) in
         omega (arith, n, h)
 
 -- whatever is lent, an accepted event's kind and task are not those of a refused one

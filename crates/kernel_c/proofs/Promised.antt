@@ -1,4 +1,4 @@
--- What the exported functions make of what the calls behind them answer, as laws over values. Assumes nothing.
+-- What `kernel_event` promises, from what the call behind it answers. Assumes nothing.
 use mathlib.Core.Path.{_≡_, ap, _∙_}
 use mathlib.Core.List.{List}
 use Prim.Native.Nat.{ℕ}
@@ -9,7 +9,7 @@ use Rattle.paper.specs.declared.Refusal.{Refusal}
 use Rattle.paper.specs.declared.Reply.{Reply}
 use Rattle.kernel_c.specs.Answers.{no-answer, told-kind, told-task}
 use Rattle.kernel_c.specs.Promises.{HappensC}
-use Rattle.kernel_c.specs.declared.Told.{Told}
+use Rattle.kernel_c.specs.declared.ReplyNumbers.{ReplyNumbers}
 
 -- an accepted reply, in numbers
 module _ (reply : Reply) (a : Answer) (e : reply ≡ Reply.Accepted a) where
@@ -34,7 +34,7 @@ module _ (reply : Reply) (r : Refusal) (e : reply ≡ Reply.Refused r) where
   refused-task = rw e
 
 -- one event
-pub happens-is : (image : List ℕ) (k d c : ℕ) (reply : Reply) (answer : Told) (after : List ℕ) → Happens image k d c reply after
+pub happens-is : (image : List ℕ) (k d c : ℕ) (reply : Reply) (answer : ReplyNumbers) (after : List ℕ) → Happens image k d c reply after
     → answer .number ≡ reply-number reply → answer .kind ≡ told-kind reply → answer .task ≡ told-task reply → HappensC image k d c answer after
 happens-is image k d c reply answer after p en ek et =
     record {

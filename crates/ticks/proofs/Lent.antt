@@ -24,12 +24,12 @@ use Rattle.laws.specs.Sound.{Sound, sound}
 use Rattle.laws.specs.Effects.{answer-told}
 use Rattle.laws.specs.Orders.{lies-apart, own-flags}
 use Rattle.laws.specs.Agree.{own-after}
-use Rattle.machine.specs.Parts.{Lent, row-length}
-use Rattle.machine.specs.Rows.{row-some, row-few, row-quiet}
-use Rattle.machine.specs.Parts as part
+use Rattle.effects.specs.Parts.{Lent}
+use Rattle.machine.specs.InRow.{part-after, row-length}
+use Rattle.machine.specs.RowLength.{row-some, row-few, row-quiet}
 use Rattle.ticks.specs.Seated.{Sits, Seated, First, part-of}
-use Rattle.ticks.specs.Row.{in-a-row, row-sound, row-table, row-part, row-flags}
-use Rattle.ticks.specs.Ticks.{past-clock, row-held, row-leads, ticks-row, row-told}
+use Rattle.ticks.proofs.Row.{row-part, row-flags, in-a-row, row-sound, row-table}
+use Rattle.ticks.proofs.Ticked.{ticks-row, row-told, past-clock, row-held, row-leads}
 use Rattle.ticks.specs.Told.{by-flags, Told}
 use Rattle.ticks.specs.declared.Seat.{Seat}
 
@@ -123,7 +123,7 @@ module _ (s : Shape) (im : List ℕ) (x : Seat) (h : Sound s im) (f : First s im
       rw e (answer-told (own s m t) none t)
 
   -- the image with the part after n orders in its place
-  module _ (n : ℕ) (p : List ℕ) (ep : p ≡ part.in-a-row (x .segment) (part-of r im) n) where
+  module _ (n : ℕ) (p : List ℕ) (ep : p ≡ part-after (x .segment) (part-of r im) n) where
     back : with-part r im p ≡ in-a-row s im t n
     back = part-back r im p ∙ rw ep (sym (row-part s im t h (sits .rowed .known) (x .segment) xs (part-of r im) joined there n))
 
@@ -162,7 +162,7 @@ module _ (s : Shape) (im : List ℕ) (x : Seat) (h : Sound s im) (f : First s im
     pub orders-few : n ≤ most
     orders-few = rw en (row-few (x .segment) (part-of r im) most)
 
-    pub orders-told : 0 < most → most ≤ c → (p out : List ℕ) → p ≡ part.in-a-row (x .segment) (part-of r im) n → out ≡ put s (with-part r im p) clock (c - n)
+    pub orders-told : 0 < most → most ≤ c → (p out : List ℕ) → p ≡ part-after (x .segment) (part-of r im) n → out ≡ put s (with-part r im p) clock (c - n)
         → Told s im n (by-flags (at s out (flags t)) t) out
     unfolding Told
     orders-told some-order within p out ep eo =

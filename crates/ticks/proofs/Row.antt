@@ -21,9 +21,9 @@ use Rattle.laws.specs.Sound.{Sound, sound}
 use Rattle.laws.specs.Queues.{word-valid}
 use Rattle.laws.specs.Orders.{order-keeps, not-own, keeps-sound, own-flags}
 use Rattle.laws.specs.Agree.{lies-same}
-use Rattle.machine.specs.Parts.{in-part, ordered}
-use Rattle.machine.specs.Parts as part
-use Rattle.machine.specs.declared.Segment.{Segment}
+use Rattle.effects.specs.Parts.{lies-of, part-ordered}
+use Rattle.machine.specs.InRow.{part-after}
+use Rattle.effects.specs.declared.Segment.{Segment}
 
 -- the image after k orders of task i, the clock as it was
 abbrev pub in-a-row : Shape → List ℕ → Task → ℕ → List ℕ
@@ -75,25 +75,25 @@ module _ (s : Shape) (im : List ℕ) (i : Task) (h : Sound s im) (hi : i .0 < s 
   step g l = put-back g l (after (machine g l) (decided (machine g l)))
 
   -- words before the part do not matter to it
-  step-after : (xs l : List ℕ) (g : Segment) → step (past-others xs (g .from) (g .to - g .from)) (xs ++ l) ≡ xs ++ ordered g l
-  unfolding ordered
+  step-after : (xs l : List ℕ) (g : Segment) → step (past-others xs (g .from) (g .to - g .from)) (xs ++ l) ≡ xs ++ part-ordered g l
+  unfolding part-ordered
   step-after xs l g =
       let n = g .to - g .from in
       ap (λ (m : Machine). put-back (past-others xs (g .from) n) (xs ++ l) (after m (decided m))) (machine-after xs l (g .from) n) ∙
-      put-after xs l (g .from) n (after (machine (in-part g) l) (decided (machine (in-part g) l)))
+      put-after xs l (g .from) n (after (machine (lies-of g) l) (decided (machine (lies-of g) l)))
 
   -- the part from the task's row on, and where its segment lies there
   module _ (g : Segment) (xs l : List ℕ) (joined : xs ++ l ≡ im) (there : lies s im i ≡ past-others xs (g .from) (g .to - g .from)) where
     -- orders in a row in the part are orders in a row of the image
-    pub row-part : (k : ℕ) → in-a-row s im i k ≡ xs ++ part.in-a-row g l k
+    pub row-part : (k : ℕ) → in-a-row s im i k ≡ xs ++ part-after g l k
     row-part zero = sym joined
     row-part (suc k) =
         ap (λ (f : Lies). step f (in-a-row s im i k)) (row-lies k ∙ there) ∙
-        ap (step (past-others xs (g .from) (g .to - g .from))) (row-part k) ∙ step-after xs (part.in-a-row g l k) g
+        ap (step (past-others xs (g .from) (g .to - g .from))) (row-part k) ∙ step-after xs (part-after g l k) g
 
     -- and the flags stand in its ninth word
-    pub row-flags : (k : ℕ) → at s (in-a-row s im i k) (flags i) ≡ getD (part.in-a-row g l k) 8 0
+    pub row-flags : (k : ℕ) → at s (in-a-row s im i k) (flags i) ≡ getD (part-after g l k) 8 0
     row-flags k =
         let m = in-a-row s im i k in
         let r : place s (reg i 0) .0 ≡ length xs = ap (λ (f : Lies). f .row) there in
-        own-flags s m i ∙ machine-flags (lies s m i) m ∙ rw (r, row-part k) (getD-append-add xs (part.in-a-row g l k) 8 0)
+        own-flags s m i ∙ machine-flags (lies s m i) m ∙ rw (r, row-part k) (getD-append-add xs (part-after g l k) 8 0)

@@ -4,8 +4,8 @@ use mathlib.Core.List.{List}
 use Prim.Native.Nat.{ℕ}
 use Rattle.kernel_c.specs.Promises.{ChecksC, MeasuresC, BuildsC, HappensC, RunsC, TranslatesC, NamesLineC}
 use Rattle.kernel_c.specs.declared.Measured.{Measured}
-use Rattle.kernel_c.specs.declared.Told.{Told}
-use Rattle.kernel_c.specs.declared.Ran.{Ran}
+use Rattle.kernel_c.specs.declared.ReplyNumbers.{ReplyNumbers}
+use Rattle.kernel_c.specs.declared.RunNumbers.{RunNumbers}
 use Rattle.kernel_c.specs.declared.scripts.Translated.{Translated}
 use Rattle.kernel_c.specs.declared.scripts.RefusedLine.{RefusedLine}
 
@@ -27,22 +27,22 @@ pub builds-c-once : (plan target : List ℕ) (a b : ℕ) (x y : List ℕ) → Bu
 builds-c-once plan target a b x y p q = (p .numbered ∙ sym (q .numbered), p .left ∙ sym (q .left))
 
 -- one event: number, kind, task and every word of the image
-told-same : (a b : Told) → a .number ≡ b .number → a .kind ≡ b .kind → a .task ≡ b .task → a ≡ b
+told-same : (a b : ReplyNumbers) → a .number ≡ b .number → a .kind ≡ b .kind → a .task ≡ b .task → a ≡ b
 told-same a b en ek et =
-    let again : ℕ → ℕ → ℕ → Told = λ n k t. record { number = n; kind = k; task = t } in
+    let again : ℕ → ℕ → ℕ → ReplyNumbers = λ n k t. record { number = n; kind = k; task = t } in
     ap (λ n. again n (a .kind) (a .task)) en ∙ ap (λ k. again (b .number) k (a .task)) ek ∙ ap (again (b .number) (b .kind)) et
 
-pub happens-c-once : (image : List ℕ) (k d c : ℕ) (a b : Told) (x y : List ℕ) → HappensC image k d c a x → HappensC image k d c b y → (a ≡ b) × (x ≡ y)
+pub happens-c-once : (image : List ℕ) (k d c : ℕ) (a b : ReplyNumbers) (x y : List ℕ) → HappensC image k d c a x → HappensC image k d c b y → (a ≡ b) × (x ≡ y)
 happens-c-once image k d c a b x y p q =
     (told-same a b (p .numbered ∙ sym (q .numbered)) (p .kinded ∙ sym (q .kinded)) (p .tasked ∙ sym (q .tasked)), p .left ∙ sym (q .left))
 
 -- a run: how many events were taken, the number, and every word of the image
-ran-same : (a b : Ran) → a .taken ≡ b .taken → a .number ≡ b .number → a ≡ b
+ran-same : (a b : RunNumbers) → a .taken ≡ b .taken → a .number ≡ b .number → a ≡ b
 ran-same a b et en =
-    let again : ℕ → ℕ → Ran = λ t n. record { taken = t; number = n } in
+    let again : ℕ → ℕ → RunNumbers = λ t n. record { taken = t; number = n } in
     ap (λ t. again t (a .number)) et ∙ ap (again (b .taken)) en
 
-pub runs-c-once : (image events : List ℕ) (a b : Ran) (x y : List ℕ) → RunsC image events a x → RunsC image events b y → (a ≡ b) × (x ≡ y)
+pub runs-c-once : (image events : List ℕ) (a b : RunNumbers) (x y : List ℕ) → RunsC image events a x → RunsC image events b y → (a ≡ b) × (x ≡ y)
 runs-c-once image events a b x y p q =
     (ran-same a b (p .counted ∙ sym (q .counted)) (p .numbered ∙ sym (q .numbered)), p .left ∙ sym (q .left))
 

@@ -1,0 +1,4 @@
+pub mod Promised
+pub mod PromisedOfTexts
+pub mod Once
+pub mod Apart

@@ -1,0 +1,5 @@
+mod Lent
+mod Needs
+mod Row
+mod Ticked
+mod Telling
