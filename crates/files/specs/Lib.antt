@@ -1,2 +1,2 @@
 pub mod Bytes
-pub mod Needs
+pub mod PlanFiles

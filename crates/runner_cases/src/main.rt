@@ -2,8 +2,8 @@
 ghost use Prim.Native.Nat.{_+_, _≤_};
 ghost use lib.ListN.{length};
 use libc::STDOUT_FILENO;
-use lines::put_text;
-use running::run_files;
+use runner_files::run_files;
+use runner_lines::put_text;
 
 // The first argument after the program's own name.
 const FIRST: usize = 1;

@@ -3,7 +3,7 @@ use mathlib.Core.Path.{sym, _∙_, ap}
 use Rattle.paper.specs.Numbers.{check-plan}
 use Rattle.paper.specs.declared.Refusal.{Refusal}
 use Rattle.laws.specs.Checked.{never-fine}
-use Rattle.files.specs.Bytes.{odd-file, even-file}
+use Rattle.files.proofs.LongPlans.{odd-file, even-file}
 use borrow.Author.Needs.{needs}
 use Rattle.files.proofs.file_verdict.Statement.{statement}
 use Rattle.files.proofs.file_verdict.Tie as tie

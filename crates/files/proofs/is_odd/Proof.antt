@@ -1,5 +1,5 @@
 -- A sum of two counts is odd just where one of them is odd and the other is not.
-use Rattle.files.specs.Bytes.{odd-after}
+use Rattle.files.proofs.LongPlans.{odd-after}
 use Rattle.files.proofs.is_odd.Statement.{statement}
 use Rattle.files.proofs.is_odd.Tie as tie
 

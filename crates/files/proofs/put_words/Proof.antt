@@ -2,7 +2,7 @@
 use Prim.Native.Nat.{_-_}
 use native.Mathlib.Omega.{arith}
 use lib.ListN.{length}
-use Rattle.files.specs.Needs.{Words, no-words, word-room, word-more, words-done}
+use Rattle.files.proofs.Words.{Words, no-words, word-room, word-more, words-done}
 use borrow.Author.Needs.{needs}
 use Rattle.files.proofs.put_words.Statement.{statement}
 use Rattle.files.proofs.put_words.Tie as tie

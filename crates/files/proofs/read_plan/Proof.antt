@@ -1,7 +1,7 @@
 -- The words stand at the front of their buffer, and these alone are lent for the verdict on the file.
 use mathlib.Core.Path.{sym}
 use lib.Seq.{length-take-le}
-use Rattle.files.specs.Needs.{few-bytes, words-inside, words-taken, plan-read}
+use Rattle.files.proofs.Reading.{few-bytes, words-inside, words-taken, plan-read}
 use borrow.Author.Needs.{needs}
 use Rattle.files.proofs.read_plan.Statement.{statement}
 use Rattle.files.proofs.read_plan.Tie as tie

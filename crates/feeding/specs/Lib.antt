@@ -1,4 +1,0 @@
-pub mod Printing
-pub mod Buffers
-pub mod Needs
-pub mod Runs

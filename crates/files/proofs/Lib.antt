@@ -1,0 +1,3 @@
+mod Words
+mod LongPlans
+mod Reading

@@ -1,0 +1,4 @@
+mod Printing
+mod Taking
+mod ByBuffers
+mod AsRun
