@@ -1,3 +1,1 @@
 pub mod Passes
-pub mod Laws
-pub mod Lines

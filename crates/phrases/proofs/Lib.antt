@@ -1,1 +1,3 @@
 pub mod Tags
+mod Laws
+mod Phrases

@@ -8,7 +8,7 @@ use Rattle.grammar.specs.declared.Kept.{Kept}
 use Rattle.grammar.proofs.Kept as kept
 use Rattle.tokens.specs.declared.Token.{Token}
 use Rattle.tokens.proofs.Token as token
-use Rattle.phrases.specs.Phrases.{is-word, is-register}
+use Rattle.phrases.proofs.Phrases.{is-word, is-register}
 
 pub not-word : (t : Token) → OneOf (0 ∷ 1 ∷ 3 ∷ 4 ∷ []) (tagOf token.the-type t) → is-word t ≡ false
 not-word Token.End h = refl

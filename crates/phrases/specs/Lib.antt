@@ -1,2 +1,1 @@
 pub mod Phrases
-pub mod Laws

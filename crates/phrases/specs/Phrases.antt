@@ -25,20 +25,6 @@ free Kept.Later = false
 abbrev pub is-name : List ℕ → Bool
 is-name w = free (kept-as w)
 
--- whether a token is a word, and whether a word is a register
-abbrev pub is-word : Token → Bool
-is-word Token.End = false
-is-word (Token.Number from to) = false
-is-word (Token.Word from to) = true
-is-word (Token.Mark b to) = false
-is-word (Token.Stray to) = false
-
-abbrev pub is-register : Kept → Bool
-is-register Kept.Free = false
-is-register (Kept.Register a) = true
-is-register (Kept.Order o f) = false
-is-register Kept.Later = false
-
 -- a line of the names
 abbrev pub shown-names : List ℕ → NamesLine → Lines.NamesLine
 shown-names l NamesLine.Outside = Lines.NamesLine.outside

@@ -1,1 +1,1 @@
-pub mod Names
+pub mod UsedNames

@@ -6,7 +6,7 @@ ghost use Rattle.tokens.specs.Shown.{part};
 ghost use Rattle.tables.specs.Tables.{table, Chained, Headed};
 ghost use Rattle.texts.specs.Reads.{Within};
 ghost use Rattle.outside.specs.Reasons.{Fits, left};
-ghost use Rattle.reasons.specs.Names.{most-text, Held, Steps};
+ghost use Rattle.reasons.specs.UsedNames.{most-text, Held, Steps};
 use grammar::Found;
 use grammar::Kept;
 use grammar::LINE_END;

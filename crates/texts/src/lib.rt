@@ -10,7 +10,7 @@ use grammar::Line;
 use grammar::Text;
 use grammar::Translation;
 use judging::judge_script;
-use labelling::read_labels;
+use naming::read_labels;
 use naming::read_names;
 use storing::store_words;
 use tables::MOST_NAMES;

@@ -54,7 +54,7 @@ pub record Skips (l : List ℕ) (at r : ℕ) : Type 0 where
   pub stops : r < length l → blank (getD l r 0) ≡ false
 
 -- a number or a word that goes on from a place to another, where it ends
-pub record Runs (still : List ℕ → Open) (l : List ℕ) (at r : ℕ) : Type 0 where
+pub record Lasts (still : List ℕ → Open) (l : List ℕ) (at r : ℕ) : Type 0 where
   pub from : at ≤ r
   pub to : r ≤ length l
   pub on : (w : List ℕ) → tokens-on (still w) (drop at l) ≡ ended (still (w ++ part l at r)) ++ tokens (drop r l)

@@ -4,7 +4,7 @@ ghost use Prim.Native.Nat.{_≤_};
 ghost use lib.ListN.{length, drop};
 ghost use Rattle.grammar.specs.Tokens.{letter, digit, blank, is-mark, word-byte, tokens};
 ghost use Rattle.grammar.specs.Tokens.Open.{in-number, in-word};
-ghost use Rattle.tokens.specs.Shown.{shown, Inside, marks, is-end, Skips, Runs};
+ghost use Rattle.tokens.specs.Shown.{shown, Inside, marks, is-end, Skips, Lasts};
 use grammar::FIRST_DIGIT;
 use grammar::FIRST_LETTER;
 use grammar::LAST_LETTER;
@@ -125,7 +125,7 @@ fn skip(line: &[u8], at: usize) -> usize
 // The place after the word that goes on at a place.
 fn word_end(line: &[u8], at: usize) -> usize
     requires { ⌜ at ≤ length (now line) ⌝ }
-    ensures { λ r. ⌜ Runs in-word (now (line .entry)) at r ⌝ }
+    ensures { λ r. ⌜ Lasts in-word (now (line .entry)) at r ⌝ }
 {
     let mut k = at;
     while k < line.len() {
@@ -140,7 +140,7 @@ fn word_end(line: &[u8], at: usize) -> usize
 // The place after the number that goes on at a place.
 fn number_end(line: &[u8], at: usize) -> usize
     requires { ⌜ at ≤ length (now line) ⌝ }
-    ensures { λ r. ⌜ Runs in-number (now (line .entry)) at r ⌝ }
+    ensures { λ r. ⌜ Lasts in-number (now (line .entry)) at r ⌝ }
 {
     let mut k = at;
     while k < line.len() {

@@ -4,7 +4,7 @@ ghost use lib.ListN.{length};
 ghost use Rattle.tokens.specs.Shown.{part};
 ghost use Rattle.texts.specs.Reads.{Within};
 ghost use Rattle.outside.specs.Reasons.{Lies, Fits};
-ghost use Rattle.reasons.specs.Names.{most-text};
+ghost use Rattle.reasons.specs.UsedNames.{most-text};
 ghost use Rattle.translating.specs.Files.{Short};
 use disk::Loaded;
 use disk::Outcome;

@@ -2,7 +2,7 @@
 use Prim.Native.Nat.{_-_}
 use native.Mathlib.Omega.{arith}
 use lib.ListN.{length}
-use Rattle.disk.specs.Bytes.{Put, put-none, put-more, put-all}
+use Rattle.disk.proofs.Bytes.{Put, put-none, put-more, put-all}
 use Rattle.disk.proofs.put_bytes.Statement.{statement}
 use Rattle.disk.proofs.put_bytes.Tie as tie
 

@@ -1,6 +1,6 @@
 -- Where one flaw is none the other is answered, else the one with the lower number, and the first of equals.
 use borrow.Author.Needs.{needs}
-use Rattle.flaws.specs.Laws.{goes-before, goes-not-before}
+use Rattle.flaws.proofs.Laws.{goes-before, goes-not-before}
 use Rattle.flaws.proofs.lower.Statement.{statement}
 use Rattle.flaws.proofs.lower.Tie as tie
 

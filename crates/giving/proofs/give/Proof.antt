@@ -2,7 +2,7 @@
 use Prim.Native.Nat.{_<_}
 use native.Mathlib.Omega.{arith}
 use Rattle.tables.specs.Tables.{most}
-use Rattle.giving.specs.Laws.{entry-gives, full-gives}
+use Rattle.giving.proofs.Laws.{entry-gives, full-gives}
 use Rattle.giving.proofs.give.Statement.{statement}
 use Rattle.giving.proofs.give.Tie as tie
 

@@ -1,6 +1,6 @@
 -- Where the table is not full, the label has the next entry.
 use borrow.Author.Needs.{needs}
-use Rattle.giving.specs.Laws.{full-flaw, found-flaw}
+use Rattle.giving.proofs.Laws.{full-flaw, found-flaw}
 use Rattle.giving.proofs.label_flaw.Statement.{statement}
 use Rattle.giving.proofs.label_flaw.Tie as tie
 

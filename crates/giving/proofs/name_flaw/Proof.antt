@@ -1,6 +1,6 @@
 -- A full table refuses any name; else a name is at fault just where it is found in the table.
 use borrow.Author.Needs.{needs}
-use Rattle.giving.specs.Laws.{full-flaw, found-flaw}
+use Rattle.giving.proofs.Laws.{full-flaw, found-flaw}
 use Rattle.giving.proofs.name_flaw.Statement.{statement}
 use Rattle.giving.proofs.name_flaw.Tie as tie
 

@@ -1,5 +1,5 @@
 -- A number lies in its text.
-use Rattle.joining.specs.Texts.{number-end, number-digits}
+use Rattle.joining.proofs.Texts.{number-end, number-digits}
 use borrow.Author.Needs.{needs}
 use Rattle.joining.proofs.leading.Statement.{statement}
 use Rattle.joining.proofs.leading.Tie as tie

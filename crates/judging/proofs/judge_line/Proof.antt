@@ -2,7 +2,7 @@
 use mathlib.Core.Path.{refl}
 use native.Mathlib.Omega.{arith}
 use Rattle.tables.specs.Tables.{table}
-use Rattle.judging.specs.Laws.{few-counted, label-stands, label-known, line-unlabelled, line-labelled}
+use Rattle.judging.proofs.Laws.{line-unlabelled, line-labelled, few-counted, label-stands, label-known}
 use borrow.Author.Needs.{needs}
 use Rattle.judging.proofs.judge_line.Statement.{statement}
 use Rattle.judging.proofs.judge_line.Tie as tie

@@ -3,8 +3,8 @@ use Prim.Native.Nat.{_-_}
 use native.Mathlib.Omega.{arith}
 use lib.ListN.{length}
 use Rattle.tables.specs.Tables.{table}
-use Rattle.giving.specs.Lines.{line-within, no-lines}
-use Rattle.judging.specs.Laws.{SoFar, none-so-far, so-known, one-line-more, all-so-far}
+use Rattle.giving.proofs.Lines.{line-within, no-lines}
+use Rattle.judging.proofs.Laws.{so-known, one-line-more, all-so-far, SoFar, none-so-far}
 use borrow.Author.Needs.{needs}
 use Rattle.judging.proofs.judge_script.Statement.{statement}
 use Rattle.judging.proofs.judge_script.Tie as tie

@@ -1,5 +1,5 @@
 -- There is one entry more while the table has room, and none more when it is full.
-use Rattle.judging.specs.Laws.{has-one-more, has-no-more}
+use Rattle.judging.proofs.Laws.{has-one-more, has-no-more}
 use borrow.Author.Needs.{needs}
 use Rattle.judging.proofs.next_above.Statement.{statement}
 use Rattle.judging.proofs.next_above.Tie as tie

@@ -1,5 +1,5 @@
 -- Words that fit the room are no flaw; more of them are noted at the last line.
-use Rattle.judging.specs.Laws.{room-enough, room-short}
+use Rattle.judging.proofs.Laws.{room-enough, room-short}
 use borrow.Author.Needs.{needs}
 use Rattle.judging.proofs.with_room.Statement.{statement}
 use Rattle.judging.proofs.with_room.Tie as tie

@@ -1,6 +1,6 @@
 -- `kept::counts` meets its contract: each way is one case of what a byte counts.
 use borrow.Author.Needs.{needs}
-use Rattle.kept.specs.Laws.{counts-before, counts-after, counts-among}
+use Rattle.kept.proofs.Laws.{counts-before, counts-after, counts-among}
 use Rattle.kept.proofs.counts.Statement.{statement}
 use Rattle.kept.proofs.counts.Tie as tie
 

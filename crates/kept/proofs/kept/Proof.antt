@@ -4,7 +4,7 @@ use mathlib.Core.Path.{_≡_, sym, ap, _∙_}
 use native.Mathlib.Omega.{arith}
 use borrow.Author.Needs.{needs}
 use Rattle.kept.specs.Keys.{kept-by, names-register}
-use Rattle.kept.specs.Laws.{long-free, told-by-key, register-parts, register-kept}
+use Rattle.kept.proofs.Laws.{long-free, told-by-key, register-parts, register-kept}
 use Rattle.kept.proofs.kept.Statement.{statement}
 use Rattle.kept.proofs.kept.Tie as tie
 

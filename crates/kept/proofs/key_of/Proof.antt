@@ -5,7 +5,7 @@ use native.Mathlib.Omega.{arith}
 use borrow.Author.Needs.{needs}
 use lib.ListN.{length, drop}
 use Rattle.kept.specs.Keys.{key}
-use Rattle.kept.specs.Laws.{nothing-counts, key-longer, longer-fits}
+use Rattle.kept.proofs.Laws.{nothing-counts, key-longer, longer-fits}
 use Rattle.kept.proofs.key_of.Statement.{statement}
 use Rattle.kept.proofs.key_of.Tie as tie
 

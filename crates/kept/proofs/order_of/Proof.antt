@@ -8,7 +8,7 @@ use lib.ListN.{take, drop}
 use Rattle.grammar.specs.Tokens.{bytes}
 use Rattle.grammar.specs.Kept.{Row, kept-words}
 use Rattle.kept.specs.Keys.{counted, key, kept-under, registers, kept-by}
-use Rattle.kept.specs.Laws.{each-word, an-arm, no-arm-free}
+use Rattle.kept.proofs.Laws.{each-word, an-arm, no-arm-free}
 use Rattle.kept.proofs.order_of.Statement.{statement}
 use Rattle.kept.proofs.order_of.Tie as tie
 

@@ -1,5 +1,5 @@
 -- A word of a line lies in it, and what a callee tells is told on.
-use Rattle.outside.specs.Reasons.{word-order, word-end}
+use Rattle.outside.proofs.Reasons.{word-order, word-end}
 use borrow.Author.Needs.{needs}
 use Rattle.outside.proofs.body_reason.Statement.{statement}
 use Rattle.outside.proofs.body_reason.Tie as tie

@@ -1,5 +1,5 @@
 -- A mark leaves fewer tokens.
-use Rattle.outside.specs.Reasons.{steps-mark}
+use Rattle.outside.proofs.Reasons.{steps-mark}
 use borrow.Author.Needs.{needs}
 use Rattle.outside.proofs.next_step.Statement.{statement}
 use Rattle.outside.proofs.next_step.Tie as tie

@@ -1,6 +1,7 @@
 -- Each token of a sum leaves fewer.
 use borrow.Author.Needs.{needs}
-use Rattle.outside.specs.Reasons.{left, step-stops, step-goes}
+use Rattle.outside.specs.Reasons.{left}
+use Rattle.outside.proofs.Reasons.{step-stops, step-goes}
 use Rattle.outside.proofs.sum_reason.Statement.{statement}
 use Rattle.outside.proofs.sum_reason.Tie as tie
 

@@ -1,5 +1,5 @@
 -- The tokens from a place on are those that the next one shows.
-use Rattle.outside.specs.Reasons.{steps-from, steps-from-any}
+use Rattle.outside.proofs.Reasons.{steps-from, steps-from-any}
 use borrow.Author.Needs.{needs}
 use Rattle.outside.proofs.sum_step.Statement.{statement}
 use Rattle.outside.proofs.sum_step.Tie as tie

@@ -1,5 +1,5 @@
 -- A token that is known lies in the line and leaves fewer.
-use Rattle.outside.specs.Reasons.{word-order, word-end, past-word, past-number, steps-mark}
+use Rattle.outside.proofs.Reasons.{word-order, word-end, past-word, past-number, steps-mark}
 use borrow.Author.Needs.{needs}
 use Rattle.outside.proofs.term_step.Statement.{statement}
 use Rattle.outside.proofs.term_step.Tie as tie

@@ -1,7 +1,7 @@
 -- A line gives what its first token says, and a word what it is kept for.
 use borrow.Author.Needs.{needs}
 use Rattle.grammar.specs.Lines.{given}
-use Rattle.phrases.specs.Laws.{order-small, word-inside}
+use Rattle.phrases.proofs.Laws.{order-small, word-inside}
 use Rattle.phrases.proofs.given.Statement.{statement}
 use Rattle.phrases.proofs.given.Tie as tie
 

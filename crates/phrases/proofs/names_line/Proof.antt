@@ -7,7 +7,7 @@ use Rattle.grammar.specs.Lines.{names-line, gives-sum}
 use Rattle.grammar.specs.Sums.{Entry, sum-of}
 use Rattle.grammar.specs.Tokens.{tokens}
 use Rattle.tokens.specs.Shown.{shown, part}
-use Rattle.phrases.specs.Laws.{word-inside, no-token, names-no-word, names-kept, names-no-mark, names-sum}
+use Rattle.phrases.proofs.Laws.{word-inside, no-token, names-no-word, names-kept, names-no-mark, names-sum}
 use Rattle.phrases.proofs.Tags.{not-word}
 use Rattle.phrases.proofs.names_line.Statement.{statement}
 use Rattle.phrases.proofs.names_line.Tie as tie

@@ -1,7 +1,7 @@
 -- A line ends where no token is left.
 use mathlib.Core.Path.{sym, _∙_}
 use borrow.Author.Needs.{needs}
-use Rattle.phrases.specs.Laws.{no-token, one-goes-on}
+use Rattle.phrases.proofs.Laws.{no-token, one-goes-on}
 use Rattle.phrases.proofs.one.Statement.{statement}
 use Rattle.phrases.proofs.one.Tie as tie
 

@@ -1,7 +1,7 @@
 -- An order gives what its operands say; a register is small, so the word fits.
 use native.Mathlib.Omega.{arith}
 use borrow.Author.Needs.{needs}
-use Rattle.phrases.specs.Laws.{operand-inside}
+use Rattle.phrases.proofs.Laws.{operand-inside}
 use Rattle.phrases.proofs.order.Statement.{statement}
 use Rattle.phrases.proofs.order.Tie as tie
 

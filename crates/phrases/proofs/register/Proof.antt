@@ -1,7 +1,7 @@
 -- A register is a word that is kept as one.
 use borrow.Author.Needs.{needs}
 use Rattle.grammar.specs.Lines.{register}
-use Rattle.phrases.specs.Laws.{register-small, word-inside, no-word-register, no-register}
+use Rattle.phrases.proofs.Laws.{register-small, word-inside, no-word-register, no-register}
 use Rattle.phrases.proofs.Tags.{not-word, not-register}
 use Rattle.phrases.proofs.register.Statement.{statement}
 use Rattle.phrases.proofs.register.Tie as tie

@@ -2,7 +2,7 @@
 use native.Mathlib.Omega.{arith}
 use borrow.Author.Needs.{needs}
 use Rattle.grammar.specs.Lines.{size-of}
-use Rattle.phrases.specs.Laws.{word-inside, few-words}
+use Rattle.phrases.proofs.Laws.{word-inside, few-words}
 use Rattle.phrases.proofs.size.Statement.{statement}
 use Rattle.phrases.proofs.size.Tie as tie
 

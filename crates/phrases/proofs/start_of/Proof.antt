@@ -1,7 +1,7 @@
 -- A line starts as its tokens say, one after another.
 use mathlib.Core.Path.{sym, _∙_}
 use borrow.Author.Needs.{needs}
-use Rattle.phrases.specs.Laws.{word-inside, starts-alone, no-word-label, starts-no-mark, starts-kept, starts-labelled}
+use Rattle.phrases.proofs.Laws.{word-inside, starts-alone, no-word-label, starts-no-mark, starts-kept, starts-labelled}
 use Rattle.phrases.proofs.Tags.{not-word}
 use Rattle.phrases.proofs.start_of.Statement.{statement}
 use Rattle.phrases.proofs.start_of.Tie as tie

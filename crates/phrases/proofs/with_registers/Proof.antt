@@ -2,7 +2,7 @@
 use native.Mathlib.Omega.{arith}
 use borrow.Author.Needs.{needs}
 use Prim.Native.Nat.{_<_}
-use Rattle.phrases.specs.Laws.{operand-inside}
+use Rattle.phrases.proofs.Laws.{operand-inside}
 use Rattle.phrases.proofs.with_registers.Statement.{statement}
 use Rattle.phrases.proofs.with_registers.Tie as tie
 

@@ -1,6 +1,6 @@
 -- The parts of a plan lie in it.
 use mathlib.Core.Path.{refl}
-use Rattle.planner.specs.Parts.{plan-end, plan-count, plan-whole}
+use Rattle.planner.proofs.Parts.{plan-end, plan-count, plan-whole}
 use borrow.Author.Needs.{needs}
 use Rattle.planner.proofs.join.Statement.{statement}
 use Rattle.planner.proofs.join.Tie as tie

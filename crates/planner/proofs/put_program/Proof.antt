@@ -1,8 +1,9 @@
 -- A program has no more words than half its bytes.
 use Prim.Native.Nat.{_≤_}
 use native.Mathlib.Omega.{arith}
-use Rattle.disk.specs.Bytes.{loaded-end, loaded-count}
-use Rattle.planner.specs.Parts.{most-program, few-words, words-fit}
+use Rattle.disk.proofs.Bytes.{loaded-end, loaded-count}
+use Rattle.planner.specs.Parts.{most-program}
+use Rattle.planner.proofs.Parts.{few-words, words-fit}
 use borrow.Author.Needs.{needs}
 use Rattle.planner.proofs.put_program.Statement.{statement}
 use Rattle.planner.proofs.put_program.Tie as tie

@@ -1,7 +1,7 @@
 -- The parts of a plan lie in it.
 use native.Mathlib.Omega.{arith}
 use lib.ListN.{length-set}
-use Rattle.planner.specs.Parts.{end-low, end-high, name-begins}
+use Rattle.planner.proofs.Parts.{end-low, end-high, name-begins}
 use borrow.Author.Needs.{needs}
 use Rattle.planner.proofs.put_task.Statement.{statement}
 use Rattle.planner.proofs.put_task.Tie as tie

@@ -4,7 +4,8 @@ use mathlib.Core.Path.{_≡_}
 use Prim.Native.Nat.{_+_, _-_, _*_, _≤_}
 use native.Mathlib.Omega.{arith}
 use lib.ListN.{length}
-use Rattle.planner.specs.Parts.{leading, pair, most-program, join-low, join-high}
+use Rattle.planner.specs.Parts.{leading, pair, most-program}
+use Rattle.planner.proofs.Parts.{join-low, join-high}
 use Rattle.planner.proofs.put_tasks.Statement.{statement}
 use Rattle.planner.proofs.put_tasks.Tie as tie
 

@@ -4,7 +4,7 @@ use Prim.Native.Nat.{_+_, _-_, _≤_}
 use native.Mathlib.Omega.{arith}
 use lib.ListN.{length, drop}
 use Rattle.grammar.specs.Tokens.{first-line}
-use Rattle.reader.specs.Lines.{line-on, line-ends, line-over}
+use Rattle.reader.proofs.Lines.{line-on, line-ends, line-over}
 use Rattle.reader.proofs.first_count.Statement.{statement}
 use Rattle.reader.proofs.first_count.Tie as tie
 

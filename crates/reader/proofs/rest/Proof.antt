@@ -1,6 +1,6 @@
 -- Below the text's end all from the place on is lent, past it an empty part.
 use native.Mathlib.Omega.{arith}
-use Rattle.reader.specs.Lines.{rest-whole, rest-none}
+use Rattle.reader.proofs.Lines.{rest-whole, rest-none}
 use Rattle.reader.proofs.rest.Statement.{statement}
 use Rattle.reader.proofs.rest.Tie as tie
 

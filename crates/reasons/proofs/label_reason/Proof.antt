@@ -1,5 +1,5 @@
 -- A word of a line lies in it.
-use Rattle.reasons.specs.Names.{label-order, label-end}
+use Rattle.reasons.proofs.UsedNames.{label-order, label-end}
 use borrow.Author.Needs.{needs}
 use Rattle.reasons.proofs.label_reason.Statement.{statement}
 use Rattle.reasons.proofs.label_reason.Tie as tie

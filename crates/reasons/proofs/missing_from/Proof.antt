@@ -1,7 +1,7 @@
 -- Each token passed leaves fewer.
 use borrow.Author.Needs.{needs}
 use Rattle.outside.specs.Reasons.{left}
-use Rattle.reasons.specs.Names.{step-missing, step-past}
+use Rattle.reasons.proofs.UsedNames.{step-missing, step-past}
 use Rattle.reasons.proofs.missing_from.Statement.{statement}
 use Rattle.reasons.proofs.missing_from.Tie as tie
 

@@ -1,6 +1,6 @@
 -- A token that is known lies in the line and leaves fewer.
-use Rattle.outside.specs.Reasons.{word-order, word-end}
-use Rattle.reasons.specs.Names.{past-number, past-word, past-mark, past-stray}
+use Rattle.outside.proofs.Reasons.{word-order, word-end}
+use Rattle.reasons.proofs.UsedNames.{past-number, past-word, past-mark, past-stray}
 use borrow.Author.Needs.{needs}
 use Rattle.reasons.proofs.missing_step.Statement.{statement}
 use Rattle.reasons.proofs.missing_step.Tie as tie

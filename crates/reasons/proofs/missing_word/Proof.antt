@@ -1,6 +1,6 @@
 -- An empty table is fit to read texts into.
 use mathlib.Core.Path.{refl}
-use Rattle.tables.specs.Laws.{fresh-chained, fresh-headed}
+use Rattle.tables.proofs.Laws.{fresh-chained, fresh-headed}
 use borrow.Author.Needs.{needs}
 use Rattle.reasons.proofs.missing_word.Statement.{statement}
 use Rattle.reasons.proofs.missing_word.Tie as tie

@@ -1,5 +1,5 @@
 -- A word of a line lies in it.
-use Rattle.outside.specs.Reasons.{word-order, word-end}
+use Rattle.outside.proofs.Reasons.{word-order, word-end}
 use borrow.Author.Needs.{needs}
 use Rattle.reasons.proofs.name_reason.Statement.{statement}
 use Rattle.reasons.proofs.name_reason.Tie as tie

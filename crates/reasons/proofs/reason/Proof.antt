@@ -1,7 +1,7 @@
 -- The line is a part of its text.
 use native.Mathlib.Omega.{arith}
-use Rattle.texts.specs.Laws.{within-fits, within-names, within-script}
-use Rattle.reasons.specs.Names.{fits-names, fits-script}
+use Rattle.texts.proofs.Laws.{within-fits, within-names, within-script}
+use Rattle.reasons.proofs.UsedNames.{fits-names, fits-script}
 use borrow.Author.Needs.{needs}
 use Rattle.reasons.proofs.reason.Statement.{statement}
 use Rattle.reasons.proofs.reason.Tie as tie

@@ -1,5 +1,5 @@
 -- A word of a line lies in it.
-use Rattle.reasons.specs.Names.{word-held}
+use Rattle.reasons.proofs.UsedNames.{word-held}
 use borrow.Author.Needs.{needs}
 use Rattle.reasons.proofs.use_reason.Statement.{statement}
 use Rattle.reasons.proofs.use_reason.Tie as tie

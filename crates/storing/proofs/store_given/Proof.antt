@@ -3,7 +3,7 @@ use mathlib.Core.Logic.{⊎-elim}
 use native.Mathlib.Omega.{arith}
 use mathlib.Core.Path.{ap}
 use Rattle.grammar.specs.Lines.{line-words}
-use Rattle.storing.specs.Laws.{nothing-stored, one-lacks, two-lacks, one-fits, one-stored, two-fits, second-fits, two-stored}
+use Rattle.storing.proofs.Laws.{two-fits, second-fits, two-stored, nothing-stored, one-lacks, two-lacks, one-fits, one-stored}
 use borrow.Author.Needs.{needs}
 use Rattle.storing.proofs.store_given.Statement.{statement}
 use Rattle.storing.proofs.store_given.Tie as tie

@@ -1,5 +1,5 @@
 -- The words that the line's body gives are those that are stored.
-use Rattle.storing.specs.Laws.{words-fit, words-stored}
+use Rattle.storing.proofs.Laws.{words-fit, words-stored}
 use borrow.Author.Needs.{needs}
 use Rattle.storing.proofs.store_line.Statement.{statement}
 use Rattle.storing.proofs.store_line.Tie as tie

@@ -3,8 +3,8 @@ use Prim.Native.Nat.{_-_}
 use native.Mathlib.Omega.{arith}
 use lib.ListN.{length}
 use Rattle.tables.specs.Tables.{table, entries}
-use Rattle.giving.specs.Lines.{line-within, no-lines}
-use Rattle.storing.specs.Laws.{SoFar, none-so-far, line-fits, one-line-more, all-so-far}
+use Rattle.giving.proofs.Lines.{line-within, no-lines}
+use Rattle.storing.proofs.Laws.{line-fits, one-line-more, all-so-far, SoFar, none-so-far}
 use borrow.Author.Needs.{needs}
 use Rattle.storing.proofs.store_words.Statement.{statement}
 use Rattle.storing.proofs.store_words.Tie as tie

@@ -10,7 +10,7 @@ use borrow.Fn.PlainCycle.{Measures, is, falls, and}
 use Rattle.tokens.specs.Shown.{shown}
 use Rattle.tables.specs.Tables.{table, entries}
 use Rattle.sums.specs.declared.Reading.{Reading}
-use Rattle.sums.specs.Ways.{inside-as, fewer, starts-on, ProductOn, product-on, product-fails, product-done, SumOn, sum-on-up, sum-on-down, sum-fails, sum-done, end-read, stray-read, number-read, name-read, kept-read, mark-read, deep-read, inner-fewer, bracket-fails, bracket-unclosed, bracket-read}
+use Rattle.sums.proofs.Ways.{product-fails, sum-on-up, sum-on-down, sum-fails, number-read, name-read, mark-read, deep-read, bracket-fails, bracket-unclosed, bracket-read, inside-as, fewer, starts-on, ProductOn, product-on, product-done, SumOn, sum-done, end-read, stray-read, kept-read, inner-fewer}
 use Rattle.sums.proofs.product.Reads as product
 use Rattle.sums.proofs.product.Kinds as product-kinds
 use Rattle.sums.proofs.+product+sum+term.Lts-product as product-lts

@@ -1,5 +1,5 @@
 -- A sum comes to its value only where it is read and no token is left.
-use Rattle.sums.specs.Ways.{total-fails, total-comes, total-goes-on}
+use Rattle.sums.proofs.Ways.{total-comes, total-goes-on, total-fails}
 use borrow.Author.Needs.{needs}
 use Rattle.sums.proofs.sum_of.Statement.{statement}
 use Rattle.sums.proofs.sum_of.Tie as tie

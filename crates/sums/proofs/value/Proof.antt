@@ -1,5 +1,5 @@
 -- A name that is not found is missing, and one that is found has the value kept for it, if in range.
-use Rattle.sums.specs.Ways.{value-missing, value-found}
+use Rattle.sums.proofs.Ways.{value-missing, value-found}
 use borrow.Author.Needs.{needs}
 use Rattle.sums.proofs.value.Statement.{statement}
 use Rattle.sums.proofs.value.Tie as tie

@@ -4,7 +4,7 @@ use Prim.Native.Nat.{_-_, _<_, _≤_}
 use native.Mathlib.Omega.{arith}
 use lib.ListN.{length, drop}
 use Rattle.tables.specs.Tables.{mixed as mixed-of}
-use Rattle.tables.specs.Laws.{mixed-goes-on, mixed-comes-to-bucket}
+use Rattle.tables.proofs.Laws.{mixed-goes-on, mixed-comes-to-bucket}
 use Rattle.tables.proofs.bucket_of.Statement.{statement}
 use Rattle.tables.proofs.bucket_of.Tie as tie
 

@@ -4,7 +4,7 @@ use Prim.Native.Nat.{_≤_}
 use mathlib.Core.Bool.{false≢true}
 use native.Mathlib.Omega.{arith}
 use Rattle.tables.specs.Tables.{table, above, most}
-use Rattle.tables.specs.Laws.{Leads, entry-stands, entries-are-few, search-finds, search-ends, search-goes-on, search-falls, next-in-range}
+use Rattle.tables.proofs.Laws.{Leads, entry-stands, entries-are-few, search-finds, search-ends, search-goes-on, search-falls, next-in-range}
 use Rattle.tables.proofs.find.Statement.{statement}
 use Rattle.tables.proofs.find.Tie as tie
 

@@ -2,7 +2,7 @@
 use mathlib.Core.Path.{_∙_, ap}
 use native.Mathlib.Omega.{arith}
 use Rattle.tables.specs.Tables.{bucket}
-use Rattle.tables.specs.Laws.{entry-added}
+use Rattle.tables.proofs.Laws.{entry-added}
 use Rattle.tables.proofs.insert.Statement.{statement}
 use Rattle.tables.proofs.insert.Tie as tie
 

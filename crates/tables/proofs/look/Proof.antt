@@ -1,7 +1,7 @@
 -- The head of the word's bucket leads to what is found among all entries.
 use mathlib.Core.Path.{_∙_}
 use native.Mathlib.Omega.{arith}
-use Rattle.tables.specs.Laws.{head-leads}
+use Rattle.tables.proofs.Laws.{head-leads}
 use Rattle.tables.proofs.look.Statement.{statement}
 use Rattle.tables.proofs.look.Tie as tie
 

@@ -2,7 +2,7 @@
 use mathlib.Core.Path.{_∙_, ap}
 use native.Mathlib.Omega.{arith}
 use Rattle.tables.specs.Tables.{bucket}
-use Rattle.tables.specs.Laws.{entries-are-few, next-leads}
+use Rattle.tables.proofs.Laws.{entries-are-few, next-leads}
 use Rattle.tables.proofs.look_before.Statement.{statement}
 use Rattle.tables.proofs.look_before.Tie as tie
 

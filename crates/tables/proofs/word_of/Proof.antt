@@ -5,7 +5,7 @@ use native.Mathlib.Omega.{arith}
 use borrow.Author.Tests.{lt-ltb, le-ltb}
 use denote.Ref.{now}
 use Rattle.tables.specs.Tables.{text-at}
-use Rattle.tables.specs.Laws.{text-in-range}
+use Rattle.tables.proofs.Laws.{text-in-range}
 use Rattle.tables.proofs.word_of.Statement.{statement}
 use Rattle.tables.proofs.word_of.Tie as tie
 

@@ -1,7 +1,7 @@
 -- A fresh table is empty; with both texts read into it, the script is judged as in the definition.
 use mathlib.Core.Path.{refl}
-use Rattle.tables.specs.Laws.{fresh-chained, fresh-headed}
-use Rattle.texts.specs.Laws.{labelled-by, texts-judged}
+use Rattle.tables.proofs.Laws.{fresh-chained, fresh-headed}
+use Rattle.texts.proofs.Laws.{labelled-by, texts-judged}
 use Rattle.texts.proofs.judge.Statement.{statement}
 use Rattle.texts.proofs.judge.Tie as tie
 

@@ -1,7 +1,7 @@
 -- The line lies in its text, and that part is lent.
 use mathlib.Core.Path.{refl}
 use native.Mathlib.Omega.{arith}
-use Rattle.texts.specs.Laws.{within-fits, within-names, within-script, names-line-of, script-line-of}
+use Rattle.texts.proofs.Laws.{within-fits, within-names, within-script, names-line-of, script-line-of}
 use borrow.Author.Needs.{needs}
 use Rattle.texts.proofs.line_of.Statement.{statement}
 use Rattle.texts.proofs.line_of.Tie as tie

@@ -1,5 +1,5 @@
 -- The names are read into an empty table, and the labels into the one that they leave.
-use Rattle.texts.specs.Laws.{names-chained, names-headed, texts-read}
+use Rattle.texts.proofs.Laws.{names-chained, names-headed, texts-read}
 use borrow.Author.Needs.{needs}
 use Rattle.texts.proofs.read_texts.Statement.{statement}
 use Rattle.texts.proofs.read_texts.Tie as tie

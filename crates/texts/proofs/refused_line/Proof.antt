@@ -1,7 +1,7 @@
 -- A refused line lies in its text; where nothing is refused, the empty part is lent.
 use mathlib.Core.Path.{refl}
 use native.Mathlib.Omega.{arith}
-use Rattle.texts.specs.Laws.{line-within, none-named, line-named}
+use Rattle.texts.proofs.Laws.{line-within, none-named, line-named}
 use borrow.Author.Needs.{needs}
 use Rattle.texts.proofs.refused_line.Statement.{statement}
 use Rattle.texts.proofs.refused_line.Tie as tie

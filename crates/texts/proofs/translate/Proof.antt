@@ -1,7 +1,7 @@
 -- A fresh table is empty; a refusal stores nothing, and words that are not refused fit the target.
 use mathlib.Core.Path.{refl}
-use Rattle.tables.specs.Laws.{fresh-chained, fresh-headed}
-use Rattle.texts.specs.Laws.{labelled-by, words-fit, refused-translates, fine-translates}
+use Rattle.tables.proofs.Laws.{fresh-chained, fresh-headed}
+use Rattle.texts.proofs.Laws.{words-fit, refused-translates, fine-translates, labelled-by}
 use borrow.Author.Needs.{needs}
 use Rattle.texts.proofs.translate.Statement.{statement}
 use Rattle.texts.proofs.translate.Tie as tie

@@ -1,6 +1,6 @@
 -- The marks are the bytes 40 to 43, which the match takes as a range, and three keys.
 use native.Mathlib.Omega.{arith}
-use Rattle.tokens.specs.Laws.{rare-mark, common-mark, no-mark}
+use Rattle.tokens.proofs.Laws.{rare-mark, common-mark, no-mark}
 use Rattle.tokens.proofs.is_a_mark.Statement.{statement}
 use Rattle.tokens.proofs.is_a_mark.Tie as tie
 

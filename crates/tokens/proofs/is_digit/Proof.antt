@@ -1,5 +1,5 @@
 -- A digit is no byte under the first, and none after the last.
-use Rattle.tokens.specs.Laws.{under, not-under}
+use Rattle.tokens.proofs.Laws.{under, not-under}
 use Rattle.tokens.proofs.is_digit.Statement.{statement}
 use Rattle.tokens.proofs.is_digit.Tie as tie
 

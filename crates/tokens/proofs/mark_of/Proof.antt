@@ -1,6 +1,6 @@
 -- No token but a mark is one, and a mark is the one that is asked for or another.
 use borrow.Author.Needs.{needs}
-use Rattle.tokens.specs.Laws.{the-mark, another-mark}
+use Rattle.tokens.proofs.Laws.{the-mark, another-mark}
 use Rattle.tokens.proofs.mark_of.Statement.{statement}
 use Rattle.tokens.proofs.mark_of.Tie as tie
 

@@ -2,7 +2,7 @@
 use mathlib.Core.Path.{sym, _∙_}
 use native.Mathlib.Omega.{arith}
 use borrow.Author.Needs.{needs}
-use Rattle.tokens.specs.Laws.{nothing-next, word-next, number-next, mark-next, comment-next, stray-next}
+use Rattle.tokens.proofs.Laws.{word-next, number-next, mark-next, comment-next, stray-next, nothing-next}
 use Rattle.tokens.proofs.next_token.Statement.{statement}
 use Rattle.tokens.proofs.next_token.Tie as tie
 

@@ -6,7 +6,7 @@ use lib.ListN.{length}
 use borrow.Author.Needs.{needs}
 use borrow.Author.Tests.{not-true, not-false}
 use Rattle.grammar.specs.Tokens.Open.{in-number}
-use Rattle.tokens.specs.Laws.{Running, numbers, run-begins, run-goes, run-stops, run-ends}
+use Rattle.tokens.proofs.Laws.{run-goes, run-stops, run-ends, Running, numbers, run-begins}
 use Rattle.tokens.proofs.number_end.Statement.{statement}
 use Rattle.tokens.proofs.number_end.Tie as tie
 

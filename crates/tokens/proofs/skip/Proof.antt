@@ -6,7 +6,7 @@ use lib.ListN.{length, drop}
 use borrow.Author.Needs.{needs}
 use borrow.Author.Tests.{not-true, not-false}
 use Rattle.grammar.specs.Tokens.{tokens}
-use Rattle.tokens.specs.Laws.{blank-passed}
+use Rattle.tokens.proofs.Laws.{blank-passed}
 use Rattle.tokens.proofs.skip.Statement.{statement}
 use Rattle.tokens.proofs.skip.Tie as tie
 

@@ -6,7 +6,7 @@ use lib.ListN.{length}
 use borrow.Author.Needs.{needs}
 use borrow.Author.Tests.{not-true, not-false}
 use Rattle.grammar.specs.Tokens.Open.{in-word}
-use Rattle.tokens.specs.Laws.{Running, words, run-begins, run-goes, run-stops, run-ends}
+use Rattle.tokens.proofs.Laws.{run-goes, run-stops, run-ends, Running, words, run-begins}
 use Rattle.tokens.proofs.word_end.Statement.{statement}
 use Rattle.tokens.proofs.word_end.Tie as tie
 

@@ -1,5 +1,5 @@
 -- What is told of a line lies in it.
-use Rattle.translating.specs.Files.{judged-within}
+use Rattle.translating.proofs.Files.{judged-within}
 use borrow.Author.Needs.{needs}
 use Rattle.translating.proofs.refuse.Statement.{statement}
 use Rattle.translating.proofs.refuse.Tie as tie

@@ -1,5 +1,5 @@
 -- What is told of a line lies in it.
-use Rattle.translating.specs.Files.{kept-lies, later-lies, twice-lies, missing-lies}
+use Rattle.translating.proofs.Files.{kept-lies, later-lies, twice-lies, missing-lies}
 use borrow.Author.Needs.{needs}
 use Rattle.translating.proofs.say_reason.Statement.{statement}
 use Rattle.translating.proofs.say_reason.Tie as tie

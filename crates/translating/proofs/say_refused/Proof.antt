@@ -1,7 +1,7 @@
 -- What is told of a line lies in it.
 use native.Mathlib.Omega.{arith}
-use Rattle.texts.specs.Laws.{within-fits, within-names, within-script}
-use Rattle.translating.specs.Files.{names-fits, script-fits}
+use Rattle.texts.proofs.Laws.{within-fits, within-names, within-script}
+use Rattle.translating.proofs.Files.{names-fits, script-fits}
 use borrow.Author.Needs.{needs}
 use Rattle.translating.proofs.say_refused.Statement.{statement}
 use Rattle.translating.proofs.say_refused.Tie as tie

@@ -1,5 +1,5 @@
 -- What was read lies in its buffer.
-use Rattle.disk.specs.Bytes.{loaded-end, loaded-count, part-short}
+use Rattle.disk.proofs.Bytes.{loaded-end, loaded-count, part-short}
 use borrow.Author.Needs.{needs}
 use Rattle.translating.proofs.translate_files.Statement.{statement}
 use Rattle.translating.proofs.translate_files.Tie as tie

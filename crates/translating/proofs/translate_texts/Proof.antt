@@ -1,7 +1,7 @@
 -- An accepted program lies in its target.
 use mathlib.Core.Path.{sym}
 use lib.Seq.{length-take-le}
-use Rattle.translating.specs.Files.{words-fit}
+use Rattle.translating.proofs.Files.{words-fit}
 use borrow.Author.Needs.{needs}
 use Rattle.translating.proofs.translate_texts.Statement.{statement}
 use Rattle.translating.proofs.translate_texts.Tie as tie

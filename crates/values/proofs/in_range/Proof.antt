@@ -1,6 +1,6 @@
 -- A number below 65536 is a value, and any other is beyond.
 use borrow.Author.Needs.{needs}
-use Rattle.values.specs.Laws.{lies-within, lies-beyond}
+use Rattle.values.proofs.Laws.{lies-within, lies-beyond}
 use Rattle.values.proofs.in_range.Statement.{statement}
 use Rattle.values.proofs.in_range.Tie as tie
 

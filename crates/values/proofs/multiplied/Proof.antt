@@ -1,6 +1,6 @@
 -- The product of two words fits 32 bits.
 use borrow.Author.Needs.{needs}
-use Rattle.values.specs.Laws.{product-fits}
+use Rattle.values.proofs.Laws.{product-fits}
 use Rattle.values.proofs.multiplied.Statement.{statement}
 use Rattle.values.proofs.multiplied.Tie as tie
 

@@ -4,7 +4,7 @@ use Prim.Native.Nat.{_-_, _≤_, min}
 use native.Mathlib.Omega.{arith}
 use lib.ListN.{length, take}
 use Rattle.grammar.specs.Sums.{decimal, end-of-range}
-use Rattle.values.specs.Laws.{digit-lies, one-more, all-read}
+use Rattle.values.proofs.Laws.{digit-lies, one-more, all-read}
 use Rattle.values.proofs.number.Statement.{statement}
 use Rattle.values.proofs.number.Tie as tie
 

@@ -1,5 +1,5 @@
 -- A difference that is not below 0 is a value, and any other is beyond.
-use Rattle.values.specs.Laws.{difference-within, difference-beyond}
+use Rattle.values.proofs.Laws.{difference-within, difference-beyond}
 use Rattle.values.proofs.subtracted.Statement.{statement}
 use Rattle.values.proofs.subtracted.Tie as tie
 

@@ -1,0 +1,2 @@
+mod LabelsRead
+mod NamesRead
