@@ -4,7 +4,7 @@ ghost use lib.ListN.{length};
 use crate::replies::EventWords;
 use crate::replies::are_same;
 use crate::replies::said_to;
-use kernel_c::Told;
+use kernel_c::ReplyNumbers;
 use paper::NOT_REFUSED;
 use vectors::changes::changed_answer;
 use vectors::images::lay_out;
@@ -38,7 +38,7 @@ const TASK_AT: usize = 4;
 // What a record of an event says before its changes: the event, what is expected, and how many changes follow.
 struct Case {
     event: EventWords,
-    expected: Told,
+    expected: ReplyNumbers,
     changes: usize,
 }
 
@@ -60,7 +60,7 @@ fn read_case(fd: i32, head: Head) -> Asked {
         device: words[DEVICE_AT],
         character: words[CHARACTER_AT],
     };
-    let expected = Told {
+    let expected = ReplyNumbers {
         number: head.number,
         kind: words[ANSWER_AT],
         task: words[TASK_AT],

@@ -2,7 +2,7 @@
 ghost use mathlib.Core.Path.{_≡_};
 ghost use Prim.Native.Nat.{_+_, _<_, _≤_};
 ghost use lib.ListN.{length};
-ghost use Rattle.shapes.specs.Entries.{Shapes};
+ghost use Rattle.order_table.specs.Entries.{OrderTable};
 use crate::outcomes::Outcome;
 use crate::outcomes::outcome_of;
 use paper::HIGH_BYTES;
@@ -71,18 +71,18 @@ fn read_case(fd: i32, head: Head) -> Asked {
 
 // The answer to one order on an image.
 fn order_answer(
-    shapes: &[u16; HIGH_BYTES],
+    table: &[u16; HIGH_BYTES],
     trial: &mut [u16],
     image: &[u16],
     changes: &[u16; CHANGE_WORDS],
     case: Case,
 ) -> Answer
-    requires { ⌜ Shapes (now shapes) ⌝ }
+    requires { ⌜ OrderTable (now table) ⌝ }
     requires { ⌜ length (now trial) ≡ length (now image) ⌝ }
     requires { do ⌜ case .changes ≤ (← ⟦MOST_CHANGES⟧) ⌝ }
 {
     lay_out(trial, image);
-    let outcome = outcome_of(trial, shapes);
+    let outcome = outcome_of(trial, table);
     match outcome {
         Outcome::Number(n) => {
             let made = take_back(trial, image, changes, case.changes);
@@ -94,33 +94,33 @@ fn order_answer(
 
 // The answer to one word of the span, put where the case says.
 fn word_answer(
-    shapes: &[u16; HIGH_BYTES],
+    table: &[u16; HIGH_BYTES],
     trial: &mut [u16],
     image: &mut [u16],
     changes: &[u16; CHANGE_WORDS],
     case: Case,
     word: u16,
 ) -> Answer
-    requires { ⌜ Shapes (now shapes) ⌝ }
+    requires { ⌜ OrderTable (now table) ⌝ }
     requires { ⌜ length (now trial) ≡ length (now image) ⌝ }
     requires { do ⌜ case .changes ≤ (← ⟦MOST_CHANGES⟧) ⌝ }
     requires { ⌜ case .place < length (now image) ⌝ }
 {
     let place = case.place;
     image[place] = word;
-    order_answer(shapes, trial, image, changes, case)
+    order_answer(table, trial, image, changes, case)
 }
 
 // The tally with an order for each word of the span. The image is left as it was.
 fn span_tally(
-    shapes: &[u16; HIGH_BYTES],
+    table: &[u16; HIGH_BYTES],
     trial: &mut [u16],
     image: &mut [u16],
     changes: &[u16; CHANGE_WORDS],
     case: Case,
     mut tally: Tally,
 ) -> Tally
-    requires { ⌜ Shapes (now shapes) ⌝ }
+    requires { ⌜ OrderTable (now table) ⌝ }
     requires { ⌜ length (now trial) ≡ length (now image) ⌝ }
     requires { do ⌜ case .changes ≤ (← ⟦MOST_CHANGES⟧) ⌝ }
     requires { ⌜ case .place < length (now image) ⌝ }
@@ -130,7 +130,7 @@ fn span_tally(
     let stood = image[place];
     for i in 0..case.span {
         let word = (case.first as usize + i) as u16;
-        let answer = word_answer(shapes, trial, image, changes, case, word);
+        let answer = word_answer(table, trial, image, changes, case, word);
         tally = answered(tally, case.number, answer);
     }
     image[place] = stood;
@@ -146,14 +146,14 @@ fn is_right(changes: &[u16; CHANGE_WORDS], case: Case, words: usize) -> bool
 
 // The tally with a case whose changes are read, unless the record is bad.
 fn checked_tally(
-    shapes: &[u16; HIGH_BYTES],
+    table: &[u16; HIGH_BYTES],
     trial: &mut [u16],
     image: &mut [u16],
     changes: &[u16; CHANGE_WORDS],
     case: Case,
     tally: Tally,
 ) -> Tally
-    requires { ⌜ Shapes (now shapes) ⌝ }
+    requires { ⌜ OrderTable (now table) ⌝ }
     requires { ⌜ length (now trial) ≡ length (now image) ⌝ }
     requires { do ⌜ case .changes ≤ (← ⟦MOST_CHANGES⟧) ⌝ }
 {
@@ -166,19 +166,19 @@ fn checked_tally(
     if case.span > WORD_END - case.first as usize {
         return spoiled(tally);
     }
-    span_tally(shapes, trial, image, changes, case, tally)
+    span_tally(table, trial, image, changes, case, tally)
 }
 
 // The tally with a case, its changes read from the file.
 fn case_tally(
     fd: i32,
-    shapes: &[u16; HIGH_BYTES],
+    table: &[u16; HIGH_BYTES],
     trial: &mut [u16],
     image: &mut [u16],
     case: Case,
     tally: Tally,
 ) -> Tally
-    requires { ⌜ Shapes (now shapes) ⌝ }
+    requires { ⌜ OrderTable (now table) ⌝ }
     requires { ⌜ length (now trial) ≡ length (now image) ⌝ }
 {
     if case.changes > MOST_CHANGES {
@@ -189,24 +189,24 @@ fn case_tally(
     let Found::All = found else {
         return spoiled(tally);
     };
-    checked_tally(shapes, trial, image, &changes, case, tally)
+    checked_tally(table, trial, image, &changes, case, tally)
 }
 
 // The tally with a record of orders on an image.
 pub fn orders_tally(
     fd: i32,
-    shapes: &[u16; HIGH_BYTES],
+    table: &[u16; HIGH_BYTES],
     trial: &mut [u16],
     image: &mut [u16],
     head: Head,
     tally: Tally,
 ) -> Tally
-    requires { ⌜ Shapes (now shapes) ⌝ }
+    requires { ⌜ OrderTable (now table) ⌝ }
     requires { ⌜ length (now trial) ≡ length (now image) ⌝ }
 {
     let asked = read_case(fd, head);
     match asked {
-        Asked::Replay(case) => case_tally(fd, shapes, trial, image, case, tally),
+        Asked::Replay(case) => case_tally(fd, table, trial, image, case, tally),
         Asked::Bad => spoiled(tally),
     }
 }

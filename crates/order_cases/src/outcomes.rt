@@ -1,7 +1,7 @@
 // The outcome of one order of an image's first ready task: a tick of it, with time on the clock and nothing else to do.
 ghost use Prim.Native.Nat.{_<_};
 ghost use lib.ListN.{length};
-ghost use Rattle.shapes.specs.Entries.{Shapes};
+ghost use Rattle.order_table.specs.Entries.{OrderTable};
 use happening::step;
 use inspect::inspect;
 use paper::Answer;
@@ -97,8 +97,8 @@ fn put_back(im: &mut [u16], at: usize, clock: u16, flags: u16)
 }
 
 // The outcome of a tick of an image, whose first ready task's flags stand at a place.
-fn ticked(im: &mut [u16], shapes: &[u16; HIGH_BYTES], at: usize) -> Outcome
-    requires { ⌜ Shapes (now shapes) ⌝ }
+fn ticked(im: &mut [u16], table: &[u16; HIGH_BYTES], at: usize) -> Outcome
+    requires { ⌜ OrderTable (now table) ⌝ }
     requires { ⌜ at < length (now im) ⌝ }
 {
     let found = inspect(im);
@@ -106,13 +106,13 @@ fn ticked(im: &mut [u16], shapes: &[u16; HIGH_BYTES], at: usize) -> Outcome
     let Verdict::Fine = verdict else {
         return Outcome::Bad;
     };
-    let reply = step(found.shape, im, shapes, TICK, 0, 0);
+    let reply = step(found.shape, im, table, TICK, 0, 0);
     Outcome::Number(number_of(reply, im[at]))
 }
 
 // Carries out one order of the first ready task of an image, and answers its outcome. No order looks at what is put aside.
-pub fn outcome_of(im: &mut [u16], shapes: &[u16; HIGH_BYTES]) -> Outcome
-    requires { ⌜ Shapes (now shapes) ⌝ }
+pub fn outcome_of(im: &mut [u16], table: &[u16; HIGH_BYTES]) -> Outcome
+    requires { ⌜ OrderTable (now table) ⌝ }
 {
     let at = flags_place(im);
     if at <= CLOCK_AT {
@@ -124,7 +124,7 @@ pub fn outcome_of(im: &mut [u16], shapes: &[u16; HIGH_BYTES]) -> Outcome
     let clock = im[CLOCK_AT];
     let flags = im[at];
     put_aside(im, at);
-    let outcome = ticked(im, shapes, at);
+    let outcome = ticked(im, table, at);
     put_back(im, at, clock, flags);
     outcome
 }

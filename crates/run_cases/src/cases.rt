@@ -3,7 +3,7 @@ ghost use mathlib.Core.Path.{_≡_};
 ghost use mathlib.Core.Bool.{true};
 ghost use Prim.Native.Nat.{_≤_};
 ghost use lib.ListN.{length};
-use kernel_c::Ran;
+use kernel_c::RunNumbers;
 use kernel_c::kernel_run;
 use vectors::changes::changed_answer;
 use vectors::images::lay_out;
@@ -38,7 +38,7 @@ const CHANGES_HIGH_AT: usize = 3;
 // What a record of a run says before its list: the words of the list, how the run ends, and how many changes follow the list.
 struct Case {
     words: usize,
-    ended: Ran,
+    ended: RunNumbers,
     changes: usize,
 }
 
@@ -55,7 +55,7 @@ fn read_case(fd: i32, head: Head) -> Asked {
     let Found::All = found else {
         return Asked::Bad;
     };
-    let ended = Ran {
+    let ended = RunNumbers {
         taken: wide(words[TAKEN_LOW_AT], words[TAKEN_HIGH_AT]) as u64,
         number: head.number,
     };
@@ -67,7 +67,7 @@ fn read_case(fd: i32, head: Head) -> Asked {
 }
 
 // Whether two runs end in the same way: a yes means that they take as many events and have the same number.
-fn are_same(a: Ran, b: Ran) -> bool
+fn are_same(a: RunNumbers, b: RunNumbers) -> bool
     ensures { λ r. ⌜ (r ≡ true → (a .taken ≡ b .taken) × (a .number ≡ b .number)) ⌝ }
 {
     if a.taken != b.taken {

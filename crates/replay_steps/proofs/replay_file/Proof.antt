@@ -7,10 +7,10 @@ use Rattle.replay_steps.proofs.replay_file.Statement.{statement}
 use Rattle.replay_steps.proofs.replay_file.Tie as tie
 
 abbrev Inv-loop : tie.InvT-loop
-Inv-loop fd shapes trial₀ image₀ done₀ turns₀ trial image done turns = (length trial ≡ length trial₀) × (length image ≡ length image₀) × (done .held ≤ length image)
+Inv-loop fd table trial₀ image₀ done₀ turns₀ trial image done turns = (length trial ≡ length trial₀) × (length image ≡ length image₀) × (done .held ≤ length image)
 
 abbrev μ-loop : tie.MeasureT-loop
-μ-loop fd shapes trial₀ image₀ done₀ turns₀ trial image done turns = turns
+μ-loop fd table trial₀ image₀ done₀ turns₀ trial image done turns = turns
 
 replay-one-requires : tie.Need-replay-one-requires Inv-loop μ-loop
 replay-one-requires c κs = (search needs, (search needs, search needs))

@@ -7,10 +7,10 @@ use Rattle.order_cases.proofs.cases.span_tally.Statement.{statement}
 use Rattle.order_cases.proofs.cases.span_tally.Tie as tie
 
 abbrev Inv-loop : tie.InvT-loop
-Inv-loop shapes trial₀ image₀ changes case tally₀ place stood i₀ i-end trial image tally i = (i ≤ i-end) × (length trial ≡ length trial₀) × (length image ≡ length image₀)
+Inv-loop table trial₀ image₀ changes case tally₀ place stood i₀ i-end trial image tally i = (i ≤ i-end) × (length trial ≡ length trial₀) × (length image ≡ length image₀)
 
 abbrev μ-loop : tie.MeasureT-loop
-μ-loop shapes trial₀ image₀ changes case tally₀ place stood i₀ i-end trial image tally i = i-end - i
+μ-loop table trial₀ image₀ changes case tally₀ place stood i₀ i-end trial image tally i = i-end - i
 
 word-answer-requires : tie.Need-word-answer-requires Inv-loop μ-loop
 word-answer-requires c κs = (search needs, (search needs, (search needs, search needs)))

@@ -5,7 +5,7 @@ use Prim.Native.Nat.{_≤_, _+_, _-_}
 use native.Mathlib.Omega.{arith}
 use lib.ListN.{length, take, drop, length-drop}
 use lib.Seq.{getD-drop}
-use Rattle.vectors.specs.Words.{same-more, same-first}
+use Rattle.vectors.proofs.Words.{same-more, same-first}
 use borrow.Author.Needs.{needs}
 use Rattle.replay_texts.proofs.translating.is_part.Statement.{statement}
 use Rattle.replay_texts.proofs.translating.is_part.Tie as tie

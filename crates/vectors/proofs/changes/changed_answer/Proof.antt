@@ -1,7 +1,7 @@
 -- The same is answered only where what was said and all the words are.
 use borrow.Author.Needs.{needs}
 use borrow.Author.Tests.{not-false}
-use Rattle.vectors.specs.Answers.{differs-apart, bad-apart}
+use Rattle.vectors.proofs.Answers.{differs-apart, bad-apart}
 use Rattle.vectors.proofs.changes.changed_answer.Statement.{statement}
 use Rattle.vectors.proofs.changes.changed_answer.Tie as tie
 

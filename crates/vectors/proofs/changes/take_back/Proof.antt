@@ -4,7 +4,8 @@ use mathlib.Core.Bool.{true≢false}
 use Prim.Native.Nat.{ℕ, _≤_, _-_}
 use native.Mathlib.Omega.{arith}
 use lib.ListN.{length}
-use Rattle.vectors.specs.Words.{with-changes, no-changes, taken-back}
+use Rattle.vectors.specs.Words.{with-changes}
+use Rattle.vectors.proofs.Words.{no-changes, taken-back}
 use borrow.Author.Needs.{needs}
 use Rattle.vectors.proofs.changes.take_back.Statement.{statement}
 use Rattle.vectors.proofs.changes.take_back.Tie as tie

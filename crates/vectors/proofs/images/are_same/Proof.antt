@@ -4,7 +4,7 @@ use mathlib.Core.Bool.{true≢false}
 use Prim.Native.Nat.{_≤_, _-_}
 use native.Mathlib.Omega.{arith}
 use lib.ListN.{take}
-use Rattle.vectors.specs.Words.{same-more, same-all}
+use Rattle.vectors.proofs.Words.{same-more, same-all}
 use borrow.Author.Needs.{needs}
 use Rattle.vectors.proofs.images.are_same.Statement.{statement}
 use Rattle.vectors.proofs.images.are_same.Tie as tie

@@ -3,7 +3,7 @@ use mathlib.Core.Path.{_≡_}
 use Prim.Native.Nat.{_≤_, _-_}
 use native.Mathlib.Omega.{arith}
 use lib.ListN.{length, take}
-use Rattle.vectors.specs.Words.{laid-more, same-all}
+use Rattle.vectors.proofs.Words.{laid-more, same-all}
 use borrow.Author.Needs.{needs}
 use Rattle.vectors.proofs.images.lay_out.Statement.{statement}
 use Rattle.vectors.proofs.images.lay_out.Tie as tie

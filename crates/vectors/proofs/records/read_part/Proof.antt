@@ -3,7 +3,7 @@ use mathlib.Core.Path.{sym}
 use Prim.Native.Nat.{_+_, _*_}
 use native.Mathlib.Omega.{arith}
 use lib.Seq.{length-take-le}
-use Rattle.vectors.specs.Words.{part-room}
+use Rattle.vectors.proofs.Words.{part-room}
 use borrow.Author.Needs.{needs}
 use Rattle.vectors.proofs.records.read_part.Statement.{statement}
 use Rattle.vectors.proofs.records.read_part.Tie as tie

@@ -1,5 +1,5 @@
 -- What differs is not answered as the same.
-use Rattle.vectors.specs.Answers.{differs-apart}
+use Rattle.vectors.proofs.Answers.{differs-apart}
 use borrow.Author.Needs.{needs}
 use Rattle.vectors.proofs.tally.compared.Statement.{statement}
 use Rattle.vectors.proofs.tally.compared.Tie as tie

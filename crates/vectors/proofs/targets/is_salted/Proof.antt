@@ -3,7 +3,8 @@ use mathlib.Core.Path.{sym, _∙_}
 use mathlib.Core.Bool.{true≢false}
 use Prim.Native.Nat.{_≤_, _-_}
 use native.Mathlib.Omega.{arith}
-use Rattle.vectors.specs.Words.{SaltedTo, salted-more}
+use Rattle.vectors.specs.Words.{SaltedTo}
+use Rattle.vectors.proofs.Words.{salted-more}
 use borrow.Author.Needs.{needs}
 use Rattle.vectors.proofs.targets.is_salted.Statement.{statement}
 use Rattle.vectors.proofs.targets.is_salted.Tie as tie

@@ -3,7 +3,8 @@ use mathlib.Core.Path.{_≡_}
 use Prim.Native.Nat.{_≤_, _-_}
 use native.Mathlib.Omega.{arith}
 use lib.ListN.{length}
-use Rattle.vectors.specs.Words.{SaltedTo, salt-more}
+use Rattle.vectors.specs.Words.{SaltedTo}
+use Rattle.vectors.proofs.Words.{salt-more}
 use borrow.Author.Needs.{needs}
 use Rattle.vectors.proofs.targets.salt_words.Statement.{statement}
 use Rattle.vectors.proofs.targets.salt_words.Tie as tie
