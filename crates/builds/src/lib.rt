@@ -7,7 +7,7 @@ ghost use Rattle.paper.specs.Promises.{Builds};
 ghost use Rattle.paper.specs.declared.Part.the-variants.{Header, ReadyQueue, StatusTable, Ports};
 ghost use Rattle.plans.specs.Sizes.{Packed};
 ghost use Rattle.fresh_parts.specs.Accepted.{Plan};
-ghost use Rattle.fresh_parts.specs.Writing.{Room, Wrote};
+ghost use Rattle.fresh_parts.specs.Writing.{RoomFor, Wrote};
 ghost use Rattle.builds.specs.Stages.{BuiltUpto};
 use fresh_parts::put_header;
 use fresh_parts::put_lead;
@@ -33,7 +33,7 @@ use writes::put_zeros;
 // The ready queue: all tasks in order.
 fn put_ready(s: Shape, plan: &[u16], out: &mut [u16], at: Place) -> Place
     requires { ⌜ Plan s (now plan) ⌝ }
-    requires { ⌜ Room (now out) at (fresh-part s (now plan) ReadyQueue) ⌝ }
+    requires { ⌜ RoomFor (now out) at (fresh-part s (now plan) ReadyQueue) ⌝ }
     ensures { λ r. ⌜ Wrote (now (out .entry)) at (fresh-part s (now (plan .entry)) ReadyQueue) (now (out .exit)) r ⌝ }
 {
     let n = s.n as u16;

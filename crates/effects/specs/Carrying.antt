@@ -17,7 +17,7 @@ use Rattle.paper.specs.Orders.{with-register, with-word, moved-past, sets, comp
 use Rattle.paper.specs.declared.Address.{Address}
 use Rattle.paper.specs.declared.Change.{Change}
 use Rattle.paper.specs.declared.Effect.{Effect}
-use Rattle.own.specs.Machines.{Apart, Fits, machine-fits, put-machine, register-fits, word-fits, put-with-register, put-with-flags, put-with-word}
+use Rattle.own.specs.Machines.{RowBeforeSegment, Fits, machine-fits, put-machine, register-fits, word-fits, put-with-register, put-with-flags, put-with-word}
 use Rattle.effects.specs.Parts.{Lent, lies-of, address-of, stood-at, machine-of, part-ordered}
 use Rattle.effects.specs.Worked.{InHand, Carried, Fell, Done, Worked}
 use Rattle.effects.specs.Holding.{flags-held, is-lent, is-quiet, is-from}
@@ -27,7 +27,7 @@ use Rattle.effects.specs.declared.Went.{Went}
 
 -- the part after each change
 module _ (g : Segment) (p : List ℕ) (at : Aim) (lent : Lent g p) where
-  apart : Apart (lies-of g) (stood-at g p at)
+  apart : RowBeforeSegment (lies-of g) (stood-at g p at)
   unfolding Lent
   apart = (omega (arith, lent), omega (arith, lent, length-set p 0 (address-of g at)))
 

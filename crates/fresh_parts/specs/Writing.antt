@@ -7,8 +7,8 @@ use Rattle.paper.specs.declared.Place.{Place}
 use Rattle.writes.specs.Written.{written}
 
 -- there is room for these words from a place on
-abbrev pub Room : List ℕ → Place → List ℕ → Type 0
-Room out at vs = at .0 + length vs ≤ length out
+abbrev pub RoomFor : List ℕ → Place → List ℕ → Type 0
+RoomFor out at vs = at .0 + length vs ≤ length out
 
 -- they are written from there on, and where the next word goes is answered
 abbrev pub Wrote : List ℕ → Place → List ℕ → List ℕ → Place → Type 0

@@ -11,7 +11,7 @@ ghost use Rattle.plans.specs.Sizes.{Packed};
 ghost use Rattle.writes.specs.Written.{written};
 ghost use Rattle.writes.specs.Zeroed.{Zeroed};
 ghost use Rattle.fresh_parts.specs.Accepted.{Plan};
-ghost use Rattle.fresh_parts.specs.Writing.{Room, Wrote, fresh-task};
+ghost use Rattle.fresh_parts.specs.Writing.{RoomFor, Wrote, fresh-task};
 use paper::CAPACITY;
 use paper::EDITION;
 use paper::ENTRY_WORDS;
@@ -84,7 +84,7 @@ pub fn put_header(s: Shape, out: &mut [u16]) -> Place
 
 // A task where the words are 0: R1 = L.
 fn put_task(out: &mut [u16], at: Place, length: u16) -> Place
-    requires { ⌜ Room (now out) at (fresh-task length) ⌝ }
+    requires { ⌜ RoomFor (now out) at (fresh-task length) ⌝ }
     requires { ⌜ Zeroed (now out) (at .0) (list-length (fresh-task length)) ⌝ }
     ensures { λ r. ⌜ Wrote (now (out .entry)) at (fresh-task length) (now (out .exit)) r ⌝ }
 {
@@ -94,7 +94,7 @@ fn put_task(out: &mut [u16], at: Place, length: u16) -> Place
 
 // The leading words of a queue that starts at slot 0.
 pub fn put_lead(out: &mut [u16], at: Place, count: u16, capacity: u16) -> Place
-    requires { ⌜ Room (now out) at (0 ∷ 0 ∷ count ∷ capacity ∷ []) ⌝ }
+    requires { ⌜ RoomFor (now out) at (0 ∷ 0 ∷ count ∷ capacity ∷ []) ⌝ }
     ensures { λ r. ⌜ Wrote (now (out .entry)) at (0 ∷ 0 ∷ count ∷ capacity ∷ []) (now (out .exit)) r ⌝ }
 {
     let words = [FIRST_SLOT, FIRST_SLOT, count, capacity];
@@ -104,7 +104,7 @@ pub fn put_lead(out: &mut [u16], at: Place, count: u16, capacity: u16) -> Place
 // An empty queue where the words are 0.
 fn put_queue(out: &mut [u16], at: Place, capacity: usize) -> Place
     requires { ⌜ capacity ≤ most-capacity ⌝ }
-    requires { ⌜ Room (now out) at (fresh-queue capacity) ⌝ }
+    requires { ⌜ RoomFor (now out) at (fresh-queue capacity) ⌝ }
     requires { ⌜ Zeroed (now out) (at .0) (list-length (fresh-queue capacity)) ⌝ }
     ensures { λ r. ⌜ Wrote (now (out .entry)) at (fresh-queue capacity) (now (out .exit)) r ⌝ }
 {
@@ -114,7 +114,7 @@ fn put_queue(out: &mut [u16], at: Place, capacity: usize) -> Place
 
 // A segment's entry in the segment table.
 fn put_entry(out: &mut [u16], at: Place, base: u16, length: u16) -> Place
-    requires { ⌜ Room (now out) at (base ∷ length ∷ []) ⌝ }
+    requires { ⌜ RoomFor (now out) at (base ∷ length ∷ []) ⌝ }
     ensures { λ r. ⌜ Wrote (now (out .entry)) at (base ∷ length ∷ []) (now (out .exit)) r ⌝ }
 {
     let words = [base, length];
@@ -149,7 +149,7 @@ fn put_segment(
 // The numbers 0..n-1.
 pub fn put_numbers(out: &mut [u16], at: Place, n: usize) -> Place
     requires { ⌜ n ≤ most-tasks ⌝ }
-    requires { ⌜ Room (now out) at (joined n (λ k. k ∷ [])) ⌝ }
+    requires { ⌜ RoomFor (now out) at (joined n (λ k. k ∷ [])) ⌝ }
     ensures { λ r. ⌜ Wrote (now (out .entry)) at (joined n (λ k. k ∷ [])) (now (out .exit)) r ⌝ }
 {
     let mut next = at;
@@ -164,7 +164,7 @@ pub fn put_numbers(out: &mut [u16], at: Place, n: usize) -> Place
 // Rows of empty queues where the words are 0.
 pub fn put_queues(out: &mut [u16], at: Place, rows: usize, capacity: usize) -> Place
     requires { ⌜ capacity ≤ most-capacity ⌝ }
-    requires { ⌜ Room (now out) at (joined rows (λ i. fresh-queue capacity)) ⌝ }
+    requires { ⌜ RoomFor (now out) at (joined rows (λ i. fresh-queue capacity)) ⌝ }
     requires { ⌜ Zeroed (now out) (at .0) (list-length (joined rows (λ i. fresh-queue capacity))) ⌝ }
     ensures { λ r. ⌜ Wrote (now (out .entry)) at (joined rows (λ i. fresh-queue capacity)) (now (out .exit)) r ⌝ }
 {
@@ -180,7 +180,7 @@ pub fn put_queues(out: &mut [u16], at: Place, rows: usize, capacity: usize) -> P
 // The task table where the words are 0.
 pub fn put_tasks(s: Shape, plan: &[u16], out: &mut [u16], at: Place) -> Place
     requires { ⌜ Plan s (now plan) ⌝ }
-    requires { ⌜ Room (now out) at (fresh-part s (now plan) TaskTable) ⌝ }
+    requires { ⌜ RoomFor (now out) at (fresh-part s (now plan) TaskTable) ⌝ }
     requires { ⌜ Zeroed (now out) (at .0) (list-length (fresh-part s (now plan) TaskTable)) ⌝ }
     ensures { λ r. ⌜ Wrote (now (out .entry)) at (fresh-part s (now (plan .entry)) TaskTable) (now (out .exit)) r ⌝ }
 {
@@ -196,7 +196,7 @@ pub fn put_tasks(s: Shape, plan: &[u16], out: &mut [u16], at: Place) -> Place
 // The segment table.
 pub fn put_table(s: Shape, plan: &[u16], out: &mut [u16], at: Place) -> Place
     requires { ⌜ Plan s (now plan) ⌝ }
-    requires { ⌜ Room (now out) at (fresh-part s (now plan) SegmentTable) ⌝ }
+    requires { ⌜ RoomFor (now out) at (fresh-part s (now plan) SegmentTable) ⌝ }
     ensures { λ r. ⌜ Wrote (now (out .entry)) at (fresh-part s (now (plan .entry)) SegmentTable) (now (out .exit)) r ⌝ }
 {
     let starts = s.starts;
@@ -215,7 +215,7 @@ pub fn put_table(s: Shape, plan: &[u16], out: &mut [u16], at: Place) -> Place
 // The segments where it is known whether their words are 0.
 fn put_programs(s: Shape, plan: &[u16], out: &mut [u16], at: Place, zeroed: bool)
     requires { ⌜ Plan s (now plan) ⌝ }
-    requires { ⌜ Room (now out) at (fresh-part s (now plan) Segments) ⌝ }
+    requires { ⌜ RoomFor (now out) at (fresh-part s (now plan) Segments) ⌝ }
     requires { ⌜ (zeroed ≡ true → Zeroed (now out) (at .0) (list-length (fresh-part s (now plan) Segments))) ⌝ }
     ensures { λ _. ⌜ now (out .exit) ≡ written (now (out .entry)) (at .0) (fresh-part s (now (plan .entry)) Segments) ⌝ }
 {
@@ -235,7 +235,7 @@ fn put_programs(s: Shape, plan: &[u16], out: &mut [u16], at: Place, zeroed: bool
 // The segments, the last part.
 pub fn put_segments(s: Shape, plan: &[u16], out: &mut [u16], at: Place)
     requires { ⌜ Plan s (now plan) ⌝ }
-    requires { ⌜ Room (now out) at (fresh-part s (now plan) Segments) ⌝ }
+    requires { ⌜ RoomFor (now out) at (fresh-part s (now plan) Segments) ⌝ }
     ensures { λ _. ⌜ now (out .exit) ≡ written (now (out .entry)) (at .0) (fresh-part s (now (plan .entry)) Segments) ⌝ }
 {
     if plan.len() <= SHORT_PLAN * s.n {

@@ -18,7 +18,7 @@ use Rattle.paper.specs.declared.Shape.{Shape}
 use Rattle.paper.specs.declared.Cell.{Cell}
 use Rattle.paper.specs.declared.Part.{Part}
 use Rattle.paper.specs.declared.Effect.{Effect}
-use Rattle.own.specs.Machines.{Apart, Fits, OwnPlace, machine-fits, machine-flags, length-put-back, after-fits, machine-put, put-elsewhere}
+use Rattle.own.specs.Machines.{RowBeforeSegment, Fits, OwnPlace, machine-fits, machine-flags, length-put-back, after-fits, machine-put, put-elsewhere}
 use Rattle.laws.specs.Places.{one-cell}
 use Rattle.laws.specs.Cells.{at-other}
 use Rattle.laws.specs.Layout.{shape-is}
@@ -40,7 +40,7 @@ module _ (s : Shape) (im : List ℕ) (i : Task) where
   module _ (hi : i .0 < s .n) where
     module _ (laid : Laid s im) where
       -- a task's row lies before its segment, and that within the image
-      pub lies-apart : Apart (lies s im i) im
+      pub lies-apart : RowBeforeSegment (lies s im i) im
       unfolding place
       lies-apart = (omega (arith, segment-from s im laid i hi), omega (arith, segment-upto s im laid i hi, laid .words))
 

@@ -16,8 +16,8 @@ use Rattle.paper.specs.declared.Effect.{Effect}
 use Rattle.own.specs.Spans.{length-words, length-over, getD-words, Spanned, over-elsewhere, over-before, over-within, set-elsewhere, set-before, over-set, over-words, words-same, words-over, words-last, words-front, words-after, over-after}
 
 -- the row lies before the segment, and the segment within the words
-abbrev pub Apart : Lies → List ℕ → Type 0
-Apart g l = (g .row + 9 ≤ g .base) × (g .base + g .length ≤ length l)
+abbrev pub RowBeforeSegment : Lies → List ℕ → Type 0
+RowBeforeSegment g l = (g .row + 9 ≤ g .base) × (g .base + g .length ≤ length l)
 
 -- a machine of eight registers and a segment of that length
 abbrev pub Fits : Lies → Machine → Type 0
@@ -121,13 +121,13 @@ module _ (g : Lies) (l : List ℕ) (m : Machine) (fits : Fits g m) where
       ap (λ (x : List ℕ). over x (g .base) (m .segment)) (over-set l (g .row) ws j v (omega arith)) ∙
       set-before (over l (g .row) ws) (g .base) (m .segment) (g .row + j) v (omega arith)
 
-  pub put-with-register : Apart g l → (r w : ℕ) → r < 8 → put-back g l (with-register m r w) ≡ set (put-back g l m) (g .row + r) w
+  pub put-with-register : RowBeforeSegment g l → (r w : ℕ) → r < 8 → put-back g l (with-register m r w) ≡ set (put-back g l m) (g .row + r) w
   unfolding with-register put-back
   put-with-register apart r w h =
       ap (λ (ws : List ℕ). over (over l (g .row) ws) (g .base) (m .segment)) (sym (set-append-left (m .registers) (m .flags ∷ []) r w (omega (arith, fits .0)))) ∙
       row-set r w (apart .0) (omega arith)
 
-  pub put-with-flags : Apart g l → (f : ℕ) → put-back g l (with-flags m f) ≡ set (put-back g l m) (g .row + 8) f
+  pub put-with-flags : RowBeforeSegment g l → (f : ℕ) → put-back g l (with-flags m f) ≡ set (put-back g l m) (g .row + 8) f
   unfolding with-flags put-back
   put-with-flags apart f =
       ap (λ (ws : List ℕ). over (over l (g .row) ws) (g .base) (m .segment)) (sym (set-at (m .registers) (m .flags) [] f 8 (fits .0))) ∙
@@ -139,7 +139,7 @@ module _ (g : Lies) (l : List ℕ) (m : Machine) (fits : Fits g m) where
       over-set (over l (g .row) (row-words m)) (g .base) (m .segment) (a .0) w (omega (arith, fits .1))
 
   -- a machine put back is read again
-  pub machine-put : Apart g l → machine g (put-back g l m) ≡ m
+  pub machine-put : RowBeforeSegment g l → machine g (put-back g l m) ≡ m
   unfolding machine put-back
   machine-put apart =
       let ws = row-words m in

@@ -24,13 +24,13 @@ unfoldable pub Seated : Shape → List ℕ → Seat → Type 0
 Seated s im x = Sits s im x
 
 -- it is the seat of the first task
-pub record Leads (s : Shape) (im : List ℕ) (x : Seat) : Type 0 where
+pub record HoldsFirst (s : Shape) (im : List ℕ) (x : Seat) : Type 0 where
   pub seated : Seated s im x
   pub some : empty s im Queue.Ready ≡ false
   pub named : first s im Queue.Ready ≡ x .row .task .0
 
 unfoldable pub First : Shape → List ℕ → Seat → Type 0
-First s im x = Leads s im x
+First s im x = HoldsFirst s im x
 
 -- where a test says so
 unfoldable pub FirstIf : Bool → Shape → List ℕ → Seat → Type 0
