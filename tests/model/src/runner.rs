@@ -83,7 +83,7 @@ mod tests {
     #[test]
     fn the_papers_eleven_lines() {
         let events = [TICK, TICK, TICK, LETTER, TICK, TICK, TICK, TICK, TICK, DONE, DONE];
-        let printed = "1 6 0\n2 4 0\n3 0 0\n4 8 0\n5 3 0\n6 6 0\n7 3 0\n8 7 0\n9 1 0\n10 9 0\n\
+        let printed = "1 6 0\n2 4 0\n3 0 0\n4 8 0\n5 3 0\n6 6 0\n7 2 0\n8 3 0\n9 7 0\n10 9 0\n\
                        11 refused 9\n";
         assert_eq!(on_papers(&bytes(&events.concat())), printed);
     }

@@ -161,6 +161,25 @@ mod tests {
         assert_eq!(refusal(&received.kernel(), TICK), 10);
     }
 
+    /// A refused tick takes nothing from the clock and moves no word, also
+    /// where the clock is 1.
+    #[test]
+    fn a_service_that_is_refused_leaves_every_word() {
+        let full = [0, 0, 2, 2, 1, 0];
+        let sends = Scene::of(2).waits_to_receive(0, 1).ready(&full).asks(1, 1, 0, 7);
+        let receives = Scene::of(2).waits_to_send(0, 1).ready(&full).asks(1, 2, 0, 7);
+        let receives = receives.message(0, 1, &[0, 0, 2, 2, 5, 6]);
+        for scene in [sends, receives] {
+            for clock in 1..=5 {
+                let before = scene.clone().clock(clock).kernel();
+                let mut after = before.clone();
+                assert_eq!(happen(&mut after, TICK), Err(10));
+                assert_eq!(after.encode(), before.encode());
+                assert_eq!(after.clock, clock);
+            }
+        }
+    }
+
     #[test]
     fn the_papers_run() {
         let mut kernel = plan::accept(&[1, 2, 1, 1, 1, 4, 2, 4656, 4672]).expect("a good plan");
@@ -171,9 +190,9 @@ mod tests {
             ([1, 0, 65], 8),
             (TICK, 3),
             (TICK, 6),
+            (TICK, 2),
             (TICK, 3),
             (TICK, 7),
-            (TICK, 1),
             ([2, 0, 0], 9),
         ];
         for (words, kind) in rows {

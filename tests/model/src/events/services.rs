@@ -132,12 +132,14 @@ mod tests {
     const FULL: [u16; 6] = [0, 0, 2, 2, 5, 6];
 
     /// Asserts that the pending service of task 0 faults with an error, which
-    /// takes the place of pending, and that nothing else changes.
+    /// takes the place of pending, that the clock of 5 falls by 1, and that
+    /// nothing else changes.
     fn assert_fault(scene: Scene, error: u16) {
         let mut before = scene.kernel();
         before.tasks[0].flags.cc = 2;
         let mut expected = before.clone();
         expected.tasks[0].flags = Flags { cc: 2, error, pending: 0 };
+        expected.clock = 4;
         assert_eq!(after(&before, TICK, 5, 0), expected);
     }
 
@@ -159,6 +161,7 @@ mod tests {
         let mut expected = before.clone();
         expected.tasks[0].flags.pending = 0;
         expected.messages[0][1] = queue(&[0, 1, 1, 2, 65535, 0]);
+        expected.clock = 4;
         assert_eq!(after(&before, TICK, 3, 0), expected);
     }
 
@@ -170,6 +173,7 @@ mod tests {
         expected.tasks[0].flags.pending = 0;
         expected.tasks[0].registers[3] = 0;
         expected.messages[1][0] = queue(&[0, 1, 1, 2, 300, 0]);
+        expected.clock = 4;
         assert_eq!(after(&before, TICK, 3, 0), expected);
     }
 
@@ -180,6 +184,7 @@ mod tests {
         expected.tasks[0].flags.pending = 0;
         expected.tasks[0].registers[3] = 65;
         expected.tasks[0].input = queue(&[1, 1, 0, 2, 65, 777]);
+        expected.clock = 4;
         assert_eq!(after(&before, TICK, 3, 0), expected);
     }
 
@@ -190,6 +195,7 @@ mod tests {
         expected.tasks[0].flags.pending = 0;
         expected.tasks[0].output = queue(&[1, 1, 0, 2, 255, 0]);
         expected.tasks[0].port = Port { busy: 1, character: 255 };
+        expected.clock = 4;
         assert_eq!(after(&before, TICK, 3, 0), expected);
     }
 
@@ -200,6 +206,7 @@ mod tests {
         let mut expected = before.clone();
         expected.tasks[0].flags.pending = 0;
         expected.tasks[0].output = queue(&[1, 1, 2, 2, 66, 65]);
+        expected.clock = 4;
         assert_eq!(after(&before, TICK, 3, 0), expected);
     }
 
@@ -243,6 +250,7 @@ mod tests {
         expected.tasks[0].status = 0;
         expected.tasks[0].peer = 0;
         expected.ready = queue(&[0, 0, 3, 3, 1, 2, 0]);
+        expected.clock = 1;
         assert_eq!(after(&before, TICK, 3, 1), expected);
     }
 
@@ -257,6 +265,7 @@ mod tests {
         expected.tasks[0].status = 0;
         expected.tasks[0].peer = 0;
         expected.ready = queue(&[0, 0, 3, 3, 1, 2, 0]);
+        expected.clock = 1;
         assert_eq!(after(&before, TICK, 3, 1), expected);
     }
 
@@ -271,6 +280,7 @@ mod tests {
             let mut expected = before.clone();
             expected.tasks[0].flags.pending = 0;
             expected.messages[0][2] = queue(&[0, 1, 1, 2, 7, 0]);
+            expected.clock = 4;
             assert_eq!(after(&before, TICK, 3, 0), expected);
         }
     }
@@ -286,6 +296,7 @@ mod tests {
             expected.tasks[0].flags.pending = 0;
             expected.tasks[0].registers[3] = 7;
             expected.messages[2][0] = queue(&[1, 1, 0, 2, 7, 777]);
+            expected.clock = 4;
             assert_eq!(after(&before, TICK, 3, 0), expected);
         }
     }

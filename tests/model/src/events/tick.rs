@@ -25,6 +25,7 @@ fn run(kernel: &mut Kernel, me: usize) -> Result<u16, u16> {
         pass_turn(kernel);
         Ok(answer::TURN_PASSED)
     } else if flags.pending != 0 {
+        kernel.clock -= 1;
         serve(kernel, me)
     } else {
         kernel.clock -= 1;
@@ -35,6 +36,7 @@ fn run(kernel: &mut Kernel, me: usize) -> Result<u16, u16> {
 
 #[cfg(test)]
 mod tests {
+    use crate::events::happen;
     use crate::events::tests::{after, TICK};
     use crate::happening::scene::{queue, Scene};
 
@@ -79,11 +81,77 @@ mod tests {
     }
 
     #[test]
-    fn a_service_leaves_the_clock() {
-        let before = Scene::of(2).asks(0, 1, 1, 7).clock(1).kernel();
-        assert_eq!(after(&before, TICK, 3, 0).clock, 1);
-        let before = Scene::of(2).asks(0, 1, 2, 7).clock(1).kernel();
-        assert_eq!(after(&before, TICK, 5, 0).clock, 1);
+    fn a_service_done_or_faulting_uses_the_clock() {
+        for clock in 1..=5 {
+            let done = Scene::of(2).asks(0, 1, 1, 7).clock(clock).kernel();
+            assert_eq!(after(&done, TICK, 3, 0).clock, clock - 1);
+            let no_task = Scene::of(2).asks(0, 1, 2, 7).clock(clock).kernel();
+            assert_eq!(after(&no_task, TICK, 5, 0).clock, clock - 1);
+            let no_character = Scene::of(2).asks(0, 4, 0, 256).clock(clock).kernel();
+            assert_eq!(after(&no_character, TICK, 5, 0).clock, clock - 1);
+        }
+    }
+
+    #[test]
+    fn a_service_that_waits_leaves_what_dispatch_sets() {
+        for clock in 1..=5 {
+            let others = Scene::of(2).asks(0, 3, 0, 7).clock(clock).kernel();
+            assert_eq!(after(&others, TICK, 4, 0).clock, 5);
+            let alone = Scene::of(1).asks(0, 3, 0, 7).clock(clock).kernel();
+            assert_eq!(after(&alone, TICK, 4, 0).clock, 0);
+        }
+    }
+
+    #[test]
+    fn a_service_that_wakes_uses_the_clock_and_does_not_dispatch() {
+        let before = Scene::of(2).waits_to_receive(1, 0).asks(0, 1, 1, 7).clock(1).kernel();
+        let sent = after(&before, TICK, 3, 0);
+        assert_eq!((sent.clock, sent.tasks[1].status), (0, 0));
+        let turned = after(&sent, TICK, 2, 0);
+        assert_eq!(turned.clock, 5);
+        assert_eq!(after(&turned, TICK, 3, 1).clock, 4);
+    }
+
+    #[test]
+    fn a_fault_at_the_end_of_the_slice_stops_before_the_turn_passes() {
+        let before = Scene::of(2).asks(0, 2, 2, 7).clock(1).kernel();
+        let faulted = after(&before, TICK, 5, 0);
+        assert_eq!(faulted.clock, 0);
+        let stopped = after(&faulted, TICK, 1, 0);
+        assert_eq!((stopped.clock, stopped.tasks[0].status), (5, 5));
+    }
+
+    /// Orders and services have the slice together: with S 5 three orders and
+    /// two services, and the last order's service comes in the next turn.
+    #[test]
+    fn a_turn_has_as_many_ticks_as_the_slice() {
+        let mut kernel = Scene::running(1, &[0x1210; 6]).kernel();
+        for (kind, clock) in [(6, 4), (3, 3), (6, 2), (3, 1), (6, 0), (2, 5), (4, 0)] {
+            kernel = after(&kernel, TICK, kind, 0);
+            assert_eq!(kernel.clock, clock);
+        }
+    }
+
+    /// A task with k others ahead, S and c on the clock is first after
+    /// (c + 1) + (k - 1)(S + 1) ticks where all use what they have.
+    #[test]
+    fn the_bound_on_turns_is_reached() {
+        for slice in 1..=4 {
+            for clock in 0..=slice {
+                for k in 1..16 {
+                    let pending = |scene: Scene, task| scene.asks(task, 1, 0, 7);
+                    let asking = (0..k).fold(Scene::running(k + 1, &[0x0E00, 0]), pending);
+                    let mut kernel = asking.slice(slice).clock(clock).kernel();
+                    let mut ticks = 0;
+                    while kernel.ready.held[0] != k as u16 {
+                        happen(&mut kernel, TICK).expect("an accepted tick");
+                        ticks += 1;
+                    }
+                    let (c, s) = (usize::from(clock), usize::from(slice));
+                    assert_eq!(ticks, (c + 1) + (k - 1) * (s + 1));
+                }
+            }
+        }
     }
 
     #[test]

@@ -22,7 +22,7 @@ fn on_papers(name: &str, events: Vec<u8>, lines: &[&str]) -> Case {
 fn papers_run() -> Case {
     let events = [TICK, TICK, TICK, LETTER, TICK, TICK, TICK, TICK, TICK, DONE, DONE];
     let lines =
-        ["1 6 0", "2 4 0", "3 0 0", "4 8 0", "5 3 0", "6 6 0", "7 3 0", "8 7 0", "9 1 0", "10 9 0", "11 refused 9"];
+        ["1 6 0", "2 4 0", "3 0 0", "4 8 0", "5 3 0", "6 6 0", "7 2 0", "8 3 0", "9 7 0", "10 9 0", "11 refused 9"];
     on_papers("paper", bytes(&events.concat()), &lines)
 }
 

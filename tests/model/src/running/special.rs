@@ -43,8 +43,8 @@ fn papers() -> Scene {
 /// The paper's eleven events in one list, and once more from where they led.
 fn papers_run() -> Course {
     let list = [TICK, TICK, TICK, LETTER, TICK, TICK, TICK, TICK, TICK, DONE, DONE].concat();
-    let changes = vec![(17, 0), (18, 2), (21, 65), (26, 8), (29, 0), (32, 5), (38, 65), (43, 65)];
-    let again = vec![(36, 1)];
+    let changes = vec![(17, 0), (18, 2), (21, 65), (26, 8), (38, 65), (43, 65)];
+    let again = vec![(29, 0), (32, 5), (36, 1)];
     course(
         papers(),
         vec![
@@ -66,10 +66,11 @@ fn one_by_one() -> Course {
             (vec![], 0, 0, Some(vec![])),
             ([TICK, TICK].concat(), 2, 0, Some(vec![(17, 0), (29, 0), (32, 3)])),
             (LETTER.to_vec(), 1, 0, Some(vec![(17, 2), (29, 1), (32, 0), (36, 1), (38, 65)])),
-            ([TICK, TICK, TICK].concat(), 3, 0, None),
-            ([TICK, TICK].concat(), 2, 0, Some(vec![(17, 0), (26, 8), (29, 0), (32, 5)])),
+            ([TICK, TICK, TICK].concat(), 3, 0, Some(vec![(18, 2), (21, 65), (26, 128), (36, 0)])),
+            ([TICK, TICK].concat(), 2, 0, Some(vec![(17, 0), (26, 8), (43, 65), (49, 1), (50, 65)])),
             ([DONE, DONE].concat(), 1, 9, Some(vec![(49, 0), (50, 0)])),
             (DONE.to_vec(), 0, 9, Some(vec![])),
+            ([TICK, TICK].concat(), 2, 0, Some(vec![(29, 0), (32, 5)])),
         ],
     )
 }
@@ -84,8 +85,8 @@ fn refusals() -> Course {
             ([DONE, MALFORMED, TICK].concat(), 0, 9, Some(vec![])),
             ([LETTER, LETTER, MALFORMED].concat(), 1, 8, Some(vec![(36, 1), (38, 65)])),
             ([TICK, LETTER, DONE].concat(), 1, 8, Some(vec![(17, 1), (18, 1), (26, 96)])),
-            ([TICK, DONE, LETTER].concat(), 1, 9, Some(vec![(21, 65), (26, 0), (36, 0)])),
-            ([TICK, MALFORMED, DONE].concat(), 1, 7, Some(vec![(17, 0), (18, 2), (26, 128)])),
+            ([TICK, DONE, LETTER].concat(), 1, 9, Some(vec![(17, 0), (21, 65), (26, 0), (36, 0)])),
+            ([TICK, TICK, MALFORMED, DONE].concat(), 2, 7, Some(vec![(17, 1), (18, 2), (26, 128)])),
         ],
     )
 }

@@ -53,25 +53,24 @@ fn all_wait_to_send() -> Special {
 
 /// All others wait to send to the last task, which receives from one after
 /// another until all are ready; then from itself, which wakes nobody, and
-/// then from task 16, which there is not.
+/// then from task 16, which there is not. Between two receives are three
+/// orders, so the clock falls by four from one to the next.
 fn all_are_woken() -> Special {
     let waiting = (0..LAST).fold(full_messages(), |scene, task| scene.waits_to_send(task, word(LAST)));
     let ready = [&[15, 0, 1, 16][..], &[777; 15], &[15]].concat();
     let first = waiting.asks(LAST, RECEIVE, 0, 9).register(LAST, 0, 2).register(LAST, 4, 1);
     let mut special = Special::on(first.ready(&ready).clock(100));
     for source in 0..=LAST {
-        let taken = [(Flags(LAST), 0), (Message(source, LAST, LENGTH), 0)];
+        let taken = [(Clock, word(99 - 4 * source)), (Flags(LAST), 0), (Message(source, LAST, LENGTH), 0)];
         let r3 = (source == 0).then_some((R(LAST, 3), 65));
         let woken = woken_source(source);
         let changes: Vec<(Cell, u16)> = taken.into_iter().chain(r3).chain(woken).collect();
         special = special.tick(SERVICE_DONE, word(LAST), &changes);
         special = next_source(special);
     }
-    special.tick(SERVICE_FAULTED, word(LAST), &[(Flags(LAST), 4 * 5)]).answers(ERROR_STOP, word(LAST)).tick(
-        SERVICE_DONE,
-        0,
-        &[(Flags(0), 0), (Message(0, LAST, LENGTH), 1), (Message(0, LAST, SLOT), 0)],
-    )
+    let faulted = [(Clock, 35), (Flags(LAST), 4 * 5)];
+    let sent = [(Clock, 65534), (Flags(0), 0), (Message(0, LAST, LENGTH), 1), (Message(0, LAST, SLOT), 0)];
+    special.tick(SERVICE_FAULTED, word(LAST), &faulted).answers(ERROR_STOP, word(LAST)).tick(SERVICE_DONE, 0, &sent)
 }
 
 /// What a receive of the last task changes by waking its source, which goes
@@ -96,11 +95,12 @@ fn next_source(special: Special) -> Special {
 
 /// Task 15 is a peer, and 16 is none.
 fn peers() -> Vec<Special> {
-    let sent = [(Flags(0), 0), (Message(0, LAST, LENGTH), 1), (Message(0, LAST, SLOT), 7)];
+    let sent = [(Clock, 65534), (Flags(0), 0), (Message(0, LAST, LENGTH), 1), (Message(0, LAST, SLOT), 7)];
+    let faulted = [(Clock, 65534), (Flags(0), 4 * 5)];
     vec![
         Special::on(crowd().asks(0, SEND, 15, 7)).tick(SERVICE_DONE, 0, &sent),
-        Special::on(crowd().asks(0, SEND, 16, 7)).tick(SERVICE_FAULTED, 0, &[(Flags(0), 4 * 5)]),
-        Special::on(crowd().asks(0, RECEIVE, 16, 7)).tick(SERVICE_FAULTED, 0, &[(Flags(0), 4 * 5)]),
+        Special::on(crowd().asks(0, SEND, 16, 7)).tick(SERVICE_FAULTED, 0, &faulted),
+        Special::on(crowd().asks(0, RECEIVE, 16, 7)).tick(SERVICE_FAULTED, 0, &faulted),
     ]
 }
 

@@ -30,7 +30,8 @@ fn input_services() -> Vec<Special> {
     let mut list = Vec::new();
     for (buffer, head, character) in [(SINGLE, 1, 65), ([1, 0, 1, 2, 65, 0], 0, 0), ([1, 0, 1, 2, 65, 255], 0, 255)] {
         let scene = Scene::of(2).asks(0, INPUT, 65535, 9).input(0, &buffer);
-        let changes = [(Flags(0), 0), (R(0, 3), character), (Input(0, HEAD), head), (Input(0, LENGTH), 0)];
+        let taken = [(R(0, 3), character), (Input(0, HEAD), head), (Input(0, LENGTH), 0)];
+        let changes = [&taken[..], &[(Clock, 4), (Flags(0), 0)]].concat();
         list.push(Special::on(scene).tick(SERVICE_DONE, 0, &changes));
     }
     let empty = Scene::of(2).asks(0, INPUT, 65535, 9).input(0, &EMPTY).clock(2);
@@ -83,7 +84,7 @@ fn inputs_that_wake() -> Vec<Special> {
         (Input(1, LENGTH), 1),
         (Input(1, SLOT), 66),
     ];
-    let served = [(Flags(0), 0), (R(0, 3), 65), (Input(0, HEAD), 1), (Input(0, LENGTH), 0)];
+    let served = [(Clock, 4), (Flags(0), 0), (R(0, 3), 65), (Input(0, HEAD), 1), (Input(0, LENGTH), 0)];
     let one_by_one = Special::on(all_wait).input(0, 65, &[&stored[..], &first].concat()).input(1, 66, &second).tick(
         SERVICE_DONE,
         0,
@@ -108,9 +109,9 @@ fn inputs_that_do_not_wake() -> Vec<Special> {
 }
 
 /// A pending output of task 0 that is done, and what it changes beside its
-/// flags. R2 is not looked at.
+/// flags and the clock. R2 is not looked at.
 fn printed(scene: Scene, character: u16, changes: &[(Cell, u16)]) -> Special {
-    let changes = [changes, &[(Flags(0), 0)]].concat();
+    let changes = [changes, &[(Clock, 4), (Flags(0), 0)]].concat();
     Special::on(scene.asks(0, OUTPUT, 65535, character)).tick(SERVICE_DONE, 0, &changes)
 }
 
@@ -151,7 +152,7 @@ fn outputs_that_wait_or_fault() -> Vec<Special> {
     for character in [256, 257, 32768, 65535] {
         let asks = Scene::of(2).asks(0, OUTPUT, 0, character).flags(0, 1, 0, OUTPUT).clock(2);
         let scenes = [asks.clone(), asks.clone().output(0, 64, &EMPTY), asks.output(0, 64, &FULL)];
-        let faulted = [(Flags(0), 1 + 4 * 6)];
+        let faulted = [(Clock, 1), (Flags(0), 1 + 4 * 6)];
         list.extend(scenes.map(|scene| Special::on(scene).tick(SERVICE_FAULTED, 0, &faulted)));
     }
     list
@@ -187,7 +188,7 @@ fn outputs_done_that_wake() -> Vec<Special> {
     let behind = [(Ready(TAIL), 0), (Ready(LENGTH), 3), (Ready(SLOT + 2), 0)];
     let of_three = Special::on(waits(3).clock(2)).output_done(0, &[&moved[..], &behind].concat());
     let first = [(Clock, 5), (Ready(LENGTH), 1), (Ready(SLOT), 0)];
-    let printed = [(Flags(0), 0), (Output(0, TAIL), 1), (Output(0, LENGTH), 2), (Output(0, SLOT), 67)];
+    let printed = [(Clock, 4), (Flags(0), 0), (Output(0, TAIL), 1), (Output(0, LENGTH), 2), (Output(0, SLOT), 67)];
     let alone = Special::on(waits(1)).output_done(0, &[&moved[..], &first].concat()).tick(SERVICE_DONE, 0, &printed);
     vec![of_three, alone]
 }

@@ -3,7 +3,7 @@
 use super::cell::Cell::{Clock, Flags, Message, Peer, Ready, Status, R};
 use super::cell::{Cell, HEAD, LENGTH, SLOT, TAIL};
 use super::{Special, EMPTY, FULL, SINGLE};
-use crate::events::answer::{ERROR_STOP, IDLE, ORDER_DONE, SERVICE_DONE, SERVICE_FAULTED, SERVICE_WAITS};
+use crate::events::answer::{ERROR_STOP, IDLE, ORDER_DONE, SERVICE_DONE, SERVICE_FAULTED, SERVICE_WAITS, TURN_PASSED};
 use crate::happening::scene::Scene;
 use crate::image::service::{RECEIVE, SEND};
 use crate::layout::Frame;
@@ -18,7 +18,7 @@ pub fn all() -> Vec<Special> {
 fn sent(buffer: &[u16], word: u16, changes: &[(usize, u16)]) -> Special {
     let scene = Scene::of(2).asks(0, SEND, 1, word).message(0, 1, buffer);
     let in_buffer = changes.iter().map(|&(k, new)| (Message(0, 1, k), new));
-    let changes: Vec<(Cell, u16)> = in_buffer.chain([(Flags(0), 0)]).collect();
+    let changes: Vec<(Cell, u16)> = in_buffer.chain([(Clock, 4), (Flags(0), 0)]).collect();
     Special::on(scene).tick(SERVICE_DONE, 0, &changes)
 }
 
@@ -33,10 +33,11 @@ fn sends() -> Vec<Special> {
         list.push(sent(&EMPTY, word, &[(TAIL, 1), (LENGTH, 1), (SLOT, word)]));
     }
     let scene = Scene::narrow(2).asks(0, SEND, 1, 7);
-    let changes = [(Flags(0), 0), (Message(0, 1, LENGTH), 1), (Message(0, 1, SLOT), 7)];
+    let changes = [(Clock, 4), (Flags(0), 0), (Message(0, 1, LENGTH), 1), (Message(0, 1, SLOT), 7)];
     list.push(Special::on(scene).tick(SERVICE_DONE, 0, &changes));
     let stopped = Scene::of(2).stopped(1, 4).asks(0, SEND, 1, 7);
-    let changes = [(Flags(0), 0), (Message(0, 1, TAIL), 1), (Message(0, 1, LENGTH), 1), (Message(0, 1, SLOT), 7)];
+    let stored = [(Message(0, 1, TAIL), 1), (Message(0, 1, LENGTH), 1), (Message(0, 1, SLOT), 7)];
+    let changes = [&stored[..], &[(Clock, 4), (Flags(0), 0)]].concat();
     list.push(Special::on(stopped).tick(SERVICE_DONE, 0, &changes));
     list
 }
@@ -47,7 +48,7 @@ fn sends() -> Vec<Special> {
 fn received(buffer: &[u16], changes: &[(usize, u16)], word: u16) -> Special {
     let scene = Scene::of(2).asks(0, RECEIVE, 1, 9).message(0, 1, &FULL).message(1, 0, buffer);
     let in_buffer = changes.iter().map(|&(k, new)| (Message(1, 0, k), new));
-    let changes: Vec<(Cell, u16)> = in_buffer.chain([(Flags(0), 0), (R(0, 3), word)]).collect();
+    let changes: Vec<(Cell, u16)> = in_buffer.chain([(Clock, 4), (Flags(0), 0), (R(0, 3), word)]).collect();
     Special::on(scene).tick(SERVICE_DONE, 0, &changes)
 }
 
@@ -63,7 +64,7 @@ fn receives() -> Vec<Special> {
         list.push(received(&[0, 1, 1, 2, word, 777], &[(HEAD, 1), (LENGTH, 0)], word));
     }
     let scene = Scene::narrow(2).asks(0, RECEIVE, 1, 9);
-    let changes = [(Flags(0), 0), (R(0, 3), 0), (Message(1, 0, LENGTH), 0)];
+    let changes = [(Clock, 4), (Flags(0), 0), (R(0, 3), 0), (Message(1, 0, LENGTH), 0)];
     list.push(Special::on(scene.message(1, 0, &[0, 0, 1, 1, 0])).tick(SERVICE_DONE, 0, &changes));
     list
 }
@@ -101,13 +102,13 @@ fn faults() -> Vec<Special> {
     for service in [SEND, RECEIVE] {
         for (tasks, number) in [(1, 1), (1, 2), (2, 2), (3, 3), (2, 16), (2, 256), (2, 65535)] {
             let scene = Scene::of(tasks).asks(0, service, number, 7).clock(2);
-            list.push(Special::on(scene).tick(SERVICE_FAULTED, 0, &[(Flags(0), 4 * 5)]));
+            list.push(Special::on(scene).tick(SERVICE_FAULTED, 0, &[(Clock, 1), (Flags(0), 4 * 5)]));
         }
         let alone = Scene::of(1).asks(0, service, 65535, 7).flags(0, 2, 0, service).clock(2);
         let stop = [(Clock, 0), (Ready(LENGTH), 0), (Status(0), 5)];
         list.push(
             Special::on(alone.message(0, 0, &FULL))
-                .tick(SERVICE_FAULTED, 0, &[(Flags(0), 2 + 4 * 5)])
+                .tick(SERVICE_FAULTED, 0, &[(Clock, 1), (Flags(0), 2 + 4 * 5)])
                 .tick(ERROR_STOP, 0, &stop),
         );
     }
@@ -123,11 +124,18 @@ fn to_itself() -> Vec<Special> {
         .tick(
             SERVICE_DONE,
             0,
-            &[(Flags(0), 0), (Message(0, 0, TAIL), 1), (Message(0, 0, LENGTH), 1), (Message(0, 0, SLOT), 65535)],
+            &[
+                (Clock, 3),
+                (Flags(0), 0),
+                (Message(0, 0, TAIL), 1),
+                (Message(0, 0, LENGTH), 1),
+                (Message(0, 0, SLOT), 65535),
+            ],
         )
-        .tick(ORDER_DONE, 0, &[(Clock, 3), (R(0, 0), 2), (Flags(0), 64)])
-        .tick(SERVICE_DONE, 0, &[(Flags(0), 0), (Message(0, 0, HEAD), 1), (Message(0, 0, LENGTH), 0)])
-        .tick(ORDER_DONE, 0, &[(Clock, 2), (R(0, 0), 3), (Flags(0), 64)])
+        .tick(ORDER_DONE, 0, &[(Clock, 2), (R(0, 0), 2), (Flags(0), 64)])
+        .tick(SERVICE_DONE, 0, &[(Clock, 1), (Flags(0), 0), (Message(0, 0, HEAD), 1), (Message(0, 0, LENGTH), 0)])
+        .tick(ORDER_DONE, 0, &[(Clock, 0), (R(0, 0), 3), (Flags(0), 64)])
+        .tick(TURN_PASSED, 0, &[(Clock, 5)])
         .tick(SERVICE_WAITS, 0, &[(Clock, 0), (Ready(LENGTH), 0), (Status(0), 2)])
         .tick(IDLE, 0, &[]);
     let full = Scene::of(2).asks(1, SEND, 1, 7).message(1, 1, &FULL);
@@ -147,6 +155,10 @@ fn passed_on() -> Vec<Special> {
     let receives = [0x1220, 0x1220, 0x1220, 0, 0];
     let pairs = [5, 5, 5, 5];
     let plan = [&frame.words()[..], &pairs, &sends, &receives].concat();
+    let taken = |clock, word, (head, length)| {
+        let buffer = [(Message(0, 1, HEAD), head), (Message(0, 1, LENGTH), length)];
+        [&buffer[..], &[(Clock, clock), (Flags(1), 0), (R(1, 3), word)]].concat()
+    };
     let script = Special::on(Scene::planned(&plan).register(0, 2, 1).register(1, 3, 77))
         .answers(ORDER_DONE, 0)
         .answers(SERVICE_DONE, 0)
@@ -156,9 +168,9 @@ fn passed_on() -> Vec<Special> {
         .answers(ORDER_DONE, 0)
         .answers(SERVICE_WAITS, 0)
         .answers(ORDER_DONE, 1)
-        .tick(SERVICE_DONE, 1, &[(Flags(1), 0), (R(1, 3), 0), (Message(0, 1, HEAD), 1), (Message(0, 1, LENGTH), 1)])
+        .tick(SERVICE_DONE, 1, &taken(65533, 0, (1, 1)))
         .answers(ORDER_DONE, 1)
-        .tick(SERVICE_DONE, 1, &[(Flags(1), 0), (R(1, 3), 9), (Message(0, 1, HEAD), 0), (Message(0, 1, LENGTH), 0)])
+        .tick(SERVICE_DONE, 1, &taken(65531, 9, (0, 0)))
         .answers(ORDER_DONE, 1)
         .tick(SERVICE_WAITS, 1, &[(Clock, 0), (Ready(HEAD), 0), (Ready(LENGTH), 0), (Status(1), 2)])
         .tick(IDLE, 0, &[]);

@@ -35,9 +35,9 @@ fn papers_run() -> Special {
         ([1, 0, 65], Ok((8, 0))),
         (TICK, Ok((3, 0))),
         (TICK, Ok((6, 0))),
+        (TICK, Ok((2, 0))),
         (TICK, Ok((3, 0))),
         (TICK, Ok((7, 0))),
-        (TICK, Ok((1, 0))),
         ([2, 0, 0], Ok((9, 0))),
         ([2, 0, 0], Err(9)),
     ];
@@ -61,8 +61,8 @@ fn emptied_and_filled_again() -> Special {
         .tick(SERVICE_WAITS, 0, &gone)
         .tick(IDLE, 0, &[])
         .input(0, 65, &[&back[..], &came].concat())
-        .tick(SERVICE_DONE, 0, &[(Flags(0), 0), (R(0, 3), 65), (Input(0, HEAD), 1), (Input(0, LENGTH), 0)])
-        .tick(ORDER_DONE, 0, &[(Clock, 4), (R(0, 0), 2), (Flags(0), 96)])
+        .tick(SERVICE_DONE, 0, &[(Clock, 4), (Flags(0), 0), (R(0, 3), 65), (Input(0, HEAD), 1), (Input(0, LENGTH), 0)])
+        .tick(ORDER_DONE, 0, &[(Clock, 3), (R(0, 0), 2), (Flags(0), 96)])
         .tick(SERVICE_WAITS, 0, &gone)
         .tick(IDLE, 0, &[])
 }

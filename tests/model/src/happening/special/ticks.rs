@@ -1,11 +1,13 @@
 //! Ticks by the rule that applies, and what they make of the clock.
 
 use super::cell::Cell::{Clock, Flags, Input, Message, Ready, Status, R};
-use super::cell::{HEAD, LENGTH, SLOT, TAIL};
+use super::cell::{Cell, HEAD, LENGTH, SLOT, TAIL};
 use super::Special;
-use crate::events::answer::{ERROR_STOP, IDLE, ORDER_DONE, ORDER_FAULTED, SERVICE_DONE, TURN_PASSED};
+use crate::events::answer::{
+    ERROR_STOP, IDLE, ORDER_DONE, ORDER_FAULTED, SERVICE_DONE, SERVICE_FAULTED, SERVICE_WAITS, TURN_PASSED,
+};
 use crate::happening::scene::Scene;
-use crate::image::service::{INPUT, OUTPUT, SEND};
+use crate::image::service::{INPUT, OUTPUT, RECEIVE, SEND};
 
 /// Ticks by their rules.
 pub fn all() -> Vec<Special> {
@@ -85,7 +87,7 @@ fn turns_before_services() -> Vec<Special> {
         }
     }
     let alone = Scene::of(1).asks(0, INPUT, 0, 9).input(0, &[0, 1, 1, 2, 65, 0]).clock(0);
-    let served = [(Input(0, HEAD), 1), (Input(0, LENGTH), 0), (Flags(0), 0), (R(0, 3), 65)];
+    let served = [(Clock, 4), (Input(0, HEAD), 1), (Input(0, LENGTH), 0), (Flags(0), 0), (R(0, 3), 65)];
     list.push(Special::on(alone).tick(TURN_PASSED, 0, &[(Clock, 5)]).tick(SERVICE_DONE, 0, &served));
     list
 }
@@ -113,18 +115,77 @@ fn orders() -> Vec<Special> {
     [vec![loads, asks], faults.map(fault).to_vec()].concat()
 }
 
-/// A service leaves the clock, an order uses it, and at 0 the turn passes:
-/// from S 1 and clock 1 that is the third tick, and so it is from larger S.
+/// Services use the clock as orders do, and at 0 the turn passes.
 fn clocks() -> Vec<Special> {
-    let sent = [(Flags(0), 0), (Message(0, 1, TAIL), 1), (Message(0, 1, LENGTH), 1), (Message(0, 1, SLOT), 7)];
-    let turned = |slice| [(Clock, slice), (Ready(HEAD), 1), (Ready(TAIL), 1)];
+    [ends_of_slices(), whole_slices(), faults_at_clock_1(), waits_at_any_clock()].concat()
+}
+
+/// From clock 1 with a send pending the turn passes with the second tick,
+/// whatever S is.
+fn ends_of_slices() -> Vec<Special> {
     let of_slice = |slice: u16| {
         let scene = Scene::of(2).slice(slice).asks(0, SEND, 1, 7).clock(1);
         Special::on(scene)
-            .tick(SERVICE_DONE, 0, &sent)
-            .tick(ORDER_DONE, 0, &[(Clock, 0), (R(0, 0), 1)])
-            .tick(TURN_PASSED, 0, &turned(slice))
+            .tick(SERVICE_DONE, 0, &[&sent(7)[..], &[(Clock, 0)]].concat())
+            .tick(TURN_PASSED, 0, &[(Clock, slice), (Ready(HEAD), 1), (Ready(TAIL), 1)])
             .tick(ORDER_DONE, 1, &[(Clock, slice - 1), (R(1, 0), 1)])
     };
     [1, 2, 32768, 65535].map(of_slice).to_vec()
+}
+
+/// The words, but for the clock, that a first send of task 0 to task 1
+/// changes.
+fn sent(word: u16) -> [(Cell, u16); 4] {
+    [(Flags(0), 0), (Message(0, 1, TAIL), 1), (Message(0, 1, LENGTH), 1), (Message(0, 1, SLOT), word)]
+}
+
+/// A slice of 2 and of 3 used up by orders and sends, with the send that is
+/// asked for by the last order left for the next turn.
+fn whole_slices() -> Vec<Special> {
+    let asks = |clock, r0| [(Clock, clock), (R(0, 0), r0), (Flags(0), 32)];
+    let turned = |slice| [(Clock, slice), (Ready(HEAD), 1), (Ready(TAIL), 1)];
+    let scene = |slice| Scene::running(2, &[0x1210, 0x1210]).slice(slice).register(0, 2, 1).register(0, 3, 7);
+    let two = Special::on(scene(2))
+        .tick(ORDER_DONE, 0, &asks(1, 1))
+        .tick(SERVICE_DONE, 0, &[&sent(7)[..], &[(Clock, 0)]].concat())
+        .tick(TURN_PASSED, 0, &turned(2))
+        .answers(ORDER_DONE, 1);
+    let three = Special::on(scene(3))
+        .tick(ORDER_DONE, 0, &asks(2, 1))
+        .tick(SERVICE_DONE, 0, &[&sent(7)[..], &[(Clock, 1)]].concat())
+        .tick(ORDER_DONE, 0, &asks(0, 2))
+        .tick(TURN_PASSED, 0, &turned(3))
+        .answers(ORDER_DONE, 1);
+    vec![two, three]
+}
+
+/// A service that faults uses the clock too; the stop comes before the turn
+/// would pass, and sets the clock.
+fn faults_at_clock_1() -> Vec<Special> {
+    let rows = [(SEND, 2, 7, 5), (RECEIVE, 2, 7, 5), (OUTPUT, 0, 256, 6)];
+    let fault = |(service, peer, word, error): (u16, u16, u16, u16)| {
+        Special::on(Scene::of(2).asks(0, service, peer, word).clock(1))
+            .tick(SERVICE_FAULTED, 0, &[(Clock, 0), (Flags(0), 4 * error)])
+            .tick(ERROR_STOP, 0, &[(Clock, 5), (Ready(HEAD), 1), (Ready(LENGTH), 1), (Status(0), 5)])
+            .tick(ORDER_DONE, 1, &[(Clock, 4), (R(1, 0), 1)])
+    };
+    rows.map(fault).to_vec()
+}
+
+/// Whatever is left on the clock, a service that waits leaves S to the next
+/// task, and 0 where there is none.
+fn waits_at_any_clock() -> Vec<Special> {
+    let mut list = Vec::new();
+    for clock in 1..=5 {
+        let left = [(Ready(HEAD), 1), (Ready(LENGTH), 1), (Status(0), 3)];
+        let risen = (clock < 5).then_some((Clock, 5));
+        let changes: Vec<(Cell, u16)> = left.into_iter().chain(risen).collect();
+        let others = Scene::of(2).asks(0, INPUT, 0, 9).clock(clock);
+        let next = [(Clock, 4), (R(1, 0), 1)];
+        list.push(Special::on(others).tick(SERVICE_WAITS, 0, &changes).tick(ORDER_DONE, 1, &next));
+        let alone = Scene::of(1).asks(0, INPUT, 0, 9).clock(clock);
+        let gone = [(Clock, 0), (Ready(LENGTH), 0), (Status(0), 3)];
+        list.push(Special::on(alone).tick(SERVICE_WAITS, 0, &gone).tick(IDLE, 0, &[]));
+    }
+    list
 }

@@ -22,6 +22,7 @@ fn receiver_behind_another() -> Special {
             SERVICE_DONE,
             1,
             &[
+                (Clock, 0),
                 (Flags(1), 0),
                 (Ready(TAIL), 0),
                 (Ready(LENGTH), 3),
@@ -33,7 +34,6 @@ fn receiver_behind_another() -> Special {
                 (Message(1, 0, SLOT), 7),
             ],
         )
-        .tick(ORDER_DONE, 1, &[(Clock, 0), (R(1, 0), 1)])
         .tick(TURN_PASSED, 1, &[(Clock, 5), (Ready(HEAD), 1), (Ready(TAIL), 1)])
         .tick(ORDER_DONE, 2, &[(Clock, 4), (R(2, 0), 1)])
 }
@@ -46,6 +46,7 @@ fn receiver_with_its_zero() -> Special {
             SERVICE_DONE,
             0,
             &[
+                (Clock, 0),
                 (Flags(0), 0),
                 (Ready(TAIL), 0),
                 (Ready(LENGTH), 2),
@@ -56,9 +57,12 @@ fn receiver_with_its_zero() -> Special {
                 (Message(0, 1, SLOT + 1), 0),
             ],
         )
-        .tick(ORDER_DONE, 0, &[(Clock, 0), (R(0, 0), 1)])
         .tick(TURN_PASSED, 0, &[(Clock, 5), (Ready(HEAD), 1), (Ready(TAIL), 1)])
-        .tick(SERVICE_DONE, 1, &[(Flags(1), 0), (R(1, 3), 0), (Message(0, 1, HEAD), 0), (Message(0, 1, LENGTH), 0)])
+        .tick(
+            SERVICE_DONE,
+            1,
+            &[(Clock, 4), (Flags(1), 0), (R(1, 3), 0), (Message(0, 1, HEAD), 0), (Message(0, 1, LENGTH), 0)],
+        )
 }
 
 /// A receiver that waits for another sender, or not to receive, stays where
@@ -74,7 +78,8 @@ fn receivers_not_woken() -> Vec<Special> {
         Scene::of(3).stopped(2, 1),
         Scene::of(3).waits_to_receive(1, 0),
     ];
-    let changes = [(Flags(0), 0), (Message(0, 2, TAIL), 1), (Message(0, 2, LENGTH), 1), (Message(0, 2, SLOT), 7)];
+    let stored = [(Message(0, 2, TAIL), 1), (Message(0, 2, LENGTH), 1), (Message(0, 2, SLOT), 7)];
+    let changes = [&stored[..], &[(Clock, 4), (Flags(0), 0)]].concat();
     let row = |scene: Scene| Special::on(scene.asks(0, SEND, 2, 7)).tick(SERVICE_DONE, 0, &changes);
     scenes.map(row).to_vec()
 }
@@ -88,6 +93,7 @@ fn sender_with_room() -> Special {
             SERVICE_DONE,
             1,
             &[
+                (Clock, 0),
                 (Flags(1), 0),
                 (R(1, 3), 65),
                 (Ready(TAIL), 0),
@@ -99,12 +105,17 @@ fn sender_with_room() -> Special {
                 (Message(0, 1, LENGTH), 1),
             ],
         )
-        .tick(ORDER_DONE, 1, &[(Clock, 0), (R(1, 0), 1)])
         .tick(TURN_PASSED, 1, &[(Clock, 5), (Ready(HEAD), 1), (Ready(TAIL), 1)])
         .tick(
             SERVICE_DONE,
             0,
-            &[(Flags(0), 0), (Message(0, 1, TAIL), 1), (Message(0, 1, LENGTH), 2), (Message(0, 1, SLOT), 33)],
+            &[
+                (Clock, 4),
+                (Flags(0), 0),
+                (Message(0, 1, TAIL), 1),
+                (Message(0, 1, LENGTH), 2),
+                (Message(0, 1, SLOT), 33),
+            ],
         )
 }
 
@@ -121,7 +132,7 @@ fn senders_not_woken() -> Vec<Special> {
         Scene::of(3).stopped(2, 1),
         Scene::of(3).waits_to_send(1, 0).message(1, 0, &FULL),
     ];
-    let changes = [(Flags(0), 0), (R(0, 3), 65), (Message(2, 0, HEAD), 1), (Message(2, 0, LENGTH), 0)];
+    let changes = [(Clock, 4), (Flags(0), 0), (R(0, 3), 65), (Message(2, 0, HEAD), 1), (Message(2, 0, LENGTH), 0)];
     let row = |scene: Scene| {
         let scene = scene.asks(0, RECEIVE, 2, 9).message(2, 0, &SINGLE);
         Special::on(scene).tick(SERVICE_DONE, 0, &changes)
