@@ -434,8 +434,9 @@ static inline void pass_turn(const struct layout *l, word *im, uint32_t first) {
     im[CLOCK] = (word)l->slice;
 }
 
-/* A service that is done or faults leaves cc and an error, 0 where it is done. */
-static inline struct told finished(word *row, uint32_t task, uint32_t error) {
+/* A service that is done or faults leaves cc and an error, 0 where it is done, and uses the clock. */
+static inline struct told finished(word *im, word *row, uint32_t task, uint32_t error) {
+    im[CLOCK]--;
     row[FLAGS] = (word)(row[FLAGS] % ERROR_UNIT + ERROR_UNIT * error);
     return answered(error == 0 ? SERVICE_DONE : SERVICE_FAULTED, task);
 }
@@ -454,7 +455,7 @@ static inline bool waits_for(const struct layout *l, const word *im, uint32_t ta
 static inline struct told do_send(const struct layout *l, word *im, word *row, uint32_t me) {
     uint32_t peer = row[PEER];
     if (unlikely(peer >= l->tasks))
-        return finished(row, me, TASK_ERROR);
+        return finished(im, row, me, TASK_ERROR);
     word *q = im + message_at(l, me, peer);
     if (q[LENGTH] == l->message_capacity)
         return waits(l, im, me, WAITS_TO_SEND, (word)peer);
@@ -464,13 +465,13 @@ static inline struct told do_send(const struct layout *l, word *im, word *row, u
     append(q, l->message_capacity, row[WORD]);
     if (wakes)
         wake(l, im, peer);
-    return finished(row, me, 0);
+    return finished(im, row, me, 0);
 }
 
 static inline struct told do_receive(const struct layout *l, word *im, word *row, uint32_t me) {
     uint32_t source = row[PEER];
     if (unlikely(source >= l->tasks))
-        return finished(row, me, TASK_ERROR);
+        return finished(im, row, me, TASK_ERROR);
     word *q = im + message_at(l, source, me);
     if (q[LENGTH] == 0)
         return waits(l, im, me, WAITS_TO_RECEIVE, (word)source);
@@ -480,7 +481,7 @@ static inline struct told do_receive(const struct layout *l, word *im, word *row
     row[WORD] = take(q, l->message_capacity);
     if (wakes)
         wake(l, im, source);
-    return finished(row, me, 0);
+    return finished(im, row, me, 0);
 }
 
 static inline struct told do_input(const struct layout *l, word *im, word *row, uint32_t me) {
@@ -488,13 +489,13 @@ static inline struct told do_input(const struct layout *l, word *im, word *row, 
     if (q[LENGTH] == 0)
         return waits(l, im, me, WAITS_FOR_INPUT, 0);
     row[WORD] = take(q, l->input_capacity);
-    return finished(row, me, 0);
+    return finished(im, row, me, 0);
 }
 
 static inline struct told do_output(const struct layout *l, word *im, word *row, uint32_t me) {
     word *q = im + output_at(l, me), *port = im + l->ports + 2 * me;
     if (unlikely(row[WORD] > LARGEST_CHARACTER))
-        return finished(row, me, CHARACTER_ERROR);
+        return finished(im, row, me, CHARACTER_ERROR);
     if (q[LENGTH] == l->output_capacity)
         return waits(l, im, me, WAITS_FOR_OUTPUT, 0);
     append(q, l->output_capacity, row[WORD]);
@@ -502,7 +503,7 @@ static inline struct told do_output(const struct layout *l, word *im, word *row,
         port[0] = 1;
         port[1] = take(q, l->output_capacity);
     }
-    return finished(row, me, 0);
+    return finished(im, row, me, 0);
 }
 
 static inline struct told serve(const struct layout *l, word *im, word *row, uint32_t me) {

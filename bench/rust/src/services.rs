@@ -23,22 +23,25 @@ impl Kernel<'_> {
         }
     }
 
-    /// A service that is done leaves cc.
+    /// A service that is done leaves cc, and uses the clock.
     #[inline(always)]
     fn done(&mut self, me: usize) -> Told {
+        *self.turns.clock -= 1;
         self.rows[me][FLAGS] %= ERROR_UNIT;
         answered(answer::SERVICE_DONE, me)
     }
 
-    /// A service that faults leaves cc and the error.
+    /// A service that faults leaves cc and the error, and uses the clock.
     #[inline(always)]
     fn faulted(&mut self, me: usize, error: u16) -> Told {
         cold_path();
+        *self.turns.clock -= 1;
         let flags = &mut self.rows[me][FLAGS];
         *flags = *flags % ERROR_UNIT + ERROR_UNIT * error;
         answered(answer::SERVICE_FAULTED, me)
     }
 
+    /// A service that waits leaves the clock that dispatch sets.
     #[inline(always)]
     fn waits(&mut self, me: usize, status: u16, peer: usize) -> Told {
         self.turns.leave(me, status, peer as u16);
