@@ -1,4 +1,4 @@
-//! An independent model of the kernel, written from the paper alone.
+//! An independent model of the kernel, written from the paper and the requests alone.
 //!
 //! It decodes an image's words into structs, acts on the structs and encodes
 //! them back. Its answers are stored as vectors that the kernel is compared

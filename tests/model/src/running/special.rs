@@ -3,6 +3,7 @@
 use super::Course;
 use crate::changes::Change;
 use crate::happening::scene::Scene;
+use crate::image::service::{INPUT, OUTPUT};
 
 const TICK: [u16; 3] = [0, 0, 0];
 const LETTER: [u16; 3] = [1, 0, 65];
@@ -18,7 +19,8 @@ type Row = (Vec<u16>, usize, u16, Option<Vec<Change>>);
 
 /// Every run chosen by hand, the paper's first.
 pub fn all() -> Vec<Course> {
-    vec![papers_run(), one_by_one(), refusals(), lengths(), nobody_ready(), many_events()]
+    let chosen = vec![papers_run(), one_by_one(), refusals(), lengths(), nobody_ready(), many_events()];
+    chosen.into_iter().chain(last_services()).collect()
 }
 
 /// Runs on a scene's image, whose outcomes the model must give.
@@ -109,6 +111,24 @@ fn nobody_ready() -> Course {
     let idle = [TICK; 200].concat();
     let then_refused = [idle.clone(), DONE.to_vec(), idle.clone()].concat();
     course(scene, vec![(idle, 200, 0, Some(vec![])), (then_refused, 200, 9, Some(vec![]))])
+}
+
+/// Runs whose last event is a service show the clock that it leaves: one less
+/// where it is done or faults, and what dispatch sets where it waits. Of two
+/// tasks the ready queue is at 36, the status table at 42, the output buffers
+/// at 58 and the ports at 94.
+fn last_services() -> Vec<Course> {
+    let asks = |service, word| Scene::of(2).asks(0, service, 0, word).clock(2);
+    let tick = |changes| (TICK.to_vec(), 1, 0, Some(changes));
+    let done = vec![(17, 1), (26, 0), (58, 1), (59, 1), (62, 65), (94, 1), (95, 65)];
+    let faulted = vec![(17, 1), (26, 24)];
+    let stopped = vec![(17, 5), (36, 1), (38, 1), (42, 5)];
+    let waits = vec![(17, 5), (36, 1), (38, 1), (42, 3)];
+    vec![
+        course(asks(OUTPUT, 65), vec![tick(done)]),
+        course(asks(OUTPUT, 256), vec![tick(faulted), tick(stopped)]),
+        course(asks(INPUT, 0), vec![tick(waits)]),
+    ]
 }
 
 /// More events than a word can count. S is 5, so there are five orders and
