@@ -29,11 +29,11 @@ const SLICE: u16 = 2;
 // The clock of the image from which ticks are counted.
 const CLOCK: usize = 1;
 
-// The ticks of a task's first turn, after which its next send is pending: an order and a service twice.
-const FIRST_TURN: usize = 4;
+// The ticks of a turn, in which a task uses its whole slice: an order, the service that it asks for, and the turn is passed.
+const TURN: usize = 3;
 
-// Two ticks more, a service and an order, and the clock of the first task has fallen to 1 with its send pending.
-const SERVICE_AND_ORDER: usize = 2;
+// One tick more, an order, and the clock of the first task has fallen to 1 with its send pending.
+const ORDER: usize = 1;
 
 // The words of a program, which fill its segment.
 const PROGRAM: usize = 16;
@@ -98,7 +98,7 @@ fn ticks_on(plan: &[u16], im: &mut [u16], k: usize) -> usize
     requires { do ⌜ k ≤ (← ⟦MOST_AHEAD⟧) ⌝ }
 {
     build(plan, im);
-    tick(im, FIRST_TURN * (k + 1) + SERVICE_AND_ORDER);
+    tick(im, TURN * (k + 1) + ORDER);
     waited(im, k)
 }
 
@@ -141,7 +141,7 @@ fn main() {
     for i in 0..MOST_AHEAD {
         let k = i + 1;
         print(b"k ", k);
-        print(b": bound ", 2 * CLOCK + 1 + i * (2 * slice + 1));
+        print(b": bound ", CLOCK + 1 + i * (slice + 1));
         print(b", first after ", ticks_of(k));
         io::write_all(STDOUT_FILENO, b" ticks\n");
     }
