@@ -38,7 +38,13 @@ fn run(kernel: &mut Kernel, me: usize) -> Result<u16, u16> {
 mod tests {
     use crate::events::happen;
     use crate::events::tests::{after, TICK};
+    use crate::good;
+    use crate::happening::event;
     use crate::happening::scene::{queue, Scene};
+    use crate::image::Kernel;
+    use crate::layout::{word, Frame};
+    use crate::lively;
+    use crate::rng::Rng;
 
     #[test]
     fn with_nobody_ready_nothing_changes() {
@@ -152,6 +158,40 @@ mod tests {
                 }
             }
         }
+    }
+
+    /// The last ready task of random images, with random events: it is first
+    /// in time, some on the last tick, and nothing of its own changes before.
+    #[test]
+    fn no_turn_comes_later_than_the_bound() {
+        let mut rng = Rng::new(2);
+        let (mut watched, mut late) = (0, 0);
+        while watched < 3000 {
+            let frame = Frame { slice: word(rng.between(1, 6)), ..good::frame(&mut rng) };
+            let mut kernel = lively::kernel(&mut rng, frame);
+            let ready = kernel.ready.held.len();
+            if ready < 2 {
+                continue;
+            }
+            let (c, s, k) = (usize::from(kernel.clock), usize::from(kernel.slice), ready - 1);
+            let bound = (c + 1) + (k - 1) * (s + 1);
+            let last = kernel.ready.held[k];
+            let own = |kernel: &Kernel| {
+                let task = &kernel.tasks[usize::from(last)];
+                (task.registers, task.flags, task.segment.clone())
+            };
+            let before = own(&kernel);
+            let mut ticks = 0;
+            while kernel.ready.held[0] != last {
+                let words = event(&mut rng, &kernel);
+                ticks += usize::from(happen(&mut kernel, words).is_ok() && words == TICK);
+                assert!(ticks <= bound);
+                assert_eq!(own(&kernel), before);
+            }
+            watched += 1;
+            late += usize::from(ticks == bound);
+        }
+        assert!(late >= 100, "{late} of {watched}");
     }
 
     #[test]
