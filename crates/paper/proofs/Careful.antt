@@ -3,7 +3,7 @@
 use mathlib.Core.Path.{_≡_, refl}
 use mathlib.Core.List.{List, [], _∷_}
 use Prim.Native.Nat.{ℕ, _-_}
-use lib.ListN.{take, drop}
+use lib.ListN.{getD, take, drop}
 use Rattle.paper.specs.Image.{total, shape-of, place, at, put}
 use Rattle.paper.specs.Queues.{step, appended, first, taken, held, empty, full}
 use Rattle.paper.specs.Waking.{dispatched, with-status, readied, woken, left, with-woken, unless-full}
@@ -51,6 +51,8 @@ pub record Careful : Type 0 where
   -- send to and receive from no task: error 5, and nothing is pending
   pub send-to-nobody : last-tick (nobody-plan 4624) 3 ≡ shows (5 ∷ 0 ∷ []) (3 ∷ 3 ∷ 9 ∷ 0 ∷ 0 ∷ 0 ∷ 0 ∷ 0 ∷ 20 ∷ [])
   pub receive-from-nobody : last-tick (nobody-plan 4640) 3 ≡ shows (5 ∷ 0 ∷ []) (3 ∷ 3 ∷ 9 ∷ 0 ∷ 0 ∷ 0 ∷ 0 ∷ 0 ∷ 20 ∷ [])
+  -- such a service has used the clock too: 3, and after two orders and the service nothing is left
+  pub fault-uses-the-clock : getD (event-after (nobody-plan 4624) (ticks 3) 2 .image) 17 1 ≡ 0
   -- output of 256 on a full buffer: error 6, and nothing is pending
   pub output-before-buffer : last-tick output-plan 7 ≡ shows (5 ∷ 0 ∷ []) (5 ∷ 5 ∷ 0 ∷ 256 ∷ 0 ∷ 0 ∷ 0 ∷ 0 ∷ 24 ∷ [])
   -- a receiver that waits for another sender goes on waiting
@@ -66,6 +68,7 @@ careful =
       field-before-service = refl;
       send-to-nobody = refl;
       receive-from-nobody = refl;
+      fault-uses-the-clock = refl;
       output-before-buffer = refl;
       other-sender = refl;
       woken-last = refl;

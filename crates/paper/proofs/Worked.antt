@@ -93,9 +93,9 @@ full-text =
     (52 ∷ 32 ∷ 56 ∷ 32 ∷ 48 ∷ 10 ∷ []) ++
     (53 ∷ 32 ∷ 51 ∷ 32 ∷ 48 ∷ 10 ∷ []) ++
     (54 ∷ 32 ∷ 54 ∷ 32 ∷ 48 ∷ 10 ∷ []) ++
-    (55 ∷ 32 ∷ 51 ∷ 32 ∷ 48 ∷ 10 ∷ []) ++
-    (56 ∷ 32 ∷ 55 ∷ 32 ∷ 48 ∷ 10 ∷ []) ++
-    (57 ∷ 32 ∷ 49 ∷ 32 ∷ 48 ∷ 10 ∷ []) ++
+    (55 ∷ 32 ∷ 50 ∷ 32 ∷ 48 ∷ 10 ∷ []) ++
+    (56 ∷ 32 ∷ 51 ∷ 32 ∷ 48 ∷ 10 ∷ []) ++
+    (57 ∷ 32 ∷ 55 ∷ 32 ∷ 48 ∷ 10 ∷ []) ++
     (49 ∷ 48 ∷ 32 ∷ 57 ∷ 32 ∷ 48 ∷ 10 ∷ []) ++
     (49 ∷ 49 ∷ 32 ∷ 114 ∷ 101 ∷ 102 ∷ 117 ∷ 115 ∷ 101 ∷ 100 ∷ 32 ∷ 57 ∷ 10 ∷ [])
 
@@ -117,7 +117,7 @@ quotient-plan = 1 ∷ 1 ∷ 1 ∷ 1 ∷ 1 ∷ 1 ∷ 1 ∷ 2083 ∷ []
 
 -- send (a 0 to itself); load R3 with 7; receive (from itself)
 abbrev zero-plan : List ℕ
-zero-plan = 1 ∷ 4 ∷ 1 ∷ 1 ∷ 1 ∷ 4 ∷ 4 ∷ 4624 ∷ 304 ∷ 7 ∷ 4640 ∷ []
+zero-plan = 1 ∷ 5 ∷ 1 ∷ 1 ∷ 1 ∷ 4 ∷ 4 ∷ 4624 ∷ 304 ∷ 7 ∷ 4640 ∷ []
 
 -- two tasks of slice 1: task 0 sends to itself and then jumps on the spot, task 1 jumps on the spot;
 -- after four ticks task 0 is first again with c = 1 and its send pending, and task 1 has one ahead
@@ -125,10 +125,10 @@ abbrev bound-plan : List ℕ
 bound-plan = 2 ∷ 1 ∷ 1 ∷ 1 ∷ 1 ∷ 3 ∷ 3 ∷ 2 ∷ 2 ∷ 4624 ∷ 3584 ∷ 1 ∷ 3584 ∷ 0 ∷ []
 
 abbrev bound-image : ℕ → List ℕ
-bound-image k = after bound-plan (ticks 7) (4 + k)
+bound-image k = after bound-plan (ticks 6) (4 + k)
 
 abbrev bound-line : ℕ → List ℕ
-bound-line k = event-after bound-plan (ticks 7) (3 + k) .line
+bound-line k = event-after bound-plan (ticks 6) (3 + k) .line
 
 abbrev bound-ready : ℕ → List ℕ
 bound-ready k = held (shape-of (bound-image k)) (bound-image k) Queue.Ready
@@ -142,13 +142,13 @@ pub record Worked : Type 0 where
       (full-image 2 (1 ∷ 4 ∷ 0 ∷ 0 ∷ 0 ∷ 0 ∷ 0 ∷ 0 ∷ 96 ∷ []) (full-queue 0) (0 ∷ 0 ∷ []) (full-queue 65) (empty-queue 0) (0 ∷ 0 ∷ []))
   pub event-5 :
       full-event 5 ≡ shows (3 ∷ 0 ∷ [])
-      (full-image 2 (1 ∷ 4 ∷ 0 ∷ 65 ∷ 0 ∷ 0 ∷ 0 ∷ 0 ∷ 0 ∷ []) (full-queue 0) (0 ∷ 0 ∷ []) (empty-queue 65) (empty-queue 0) (0 ∷ 0 ∷ []))
+      (full-image 1 (1 ∷ 4 ∷ 0 ∷ 65 ∷ 0 ∷ 0 ∷ 0 ∷ 0 ∷ 0 ∷ []) (full-queue 0) (0 ∷ 0 ∷ []) (empty-queue 65) (empty-queue 0) (0 ∷ 0 ∷ []))
   pub event-8 :
-      full-event 8 ≡ shows (7 ∷ 0 ∷ [])
-      (full-image 0 (2 ∷ 4 ∷ 0 ∷ 65 ∷ 0 ∷ 0 ∷ 0 ∷ 0 ∷ 8 ∷ []) (full-queue 0) (0 ∷ 0 ∷ []) (empty-queue 65) (empty-queue 65) (1 ∷ 65 ∷ []))
+      full-event 8 ≡ shows (3 ∷ 0 ∷ [])
+      (full-image 1 (2 ∷ 4 ∷ 0 ∷ 65 ∷ 0 ∷ 0 ∷ 0 ∷ 0 ∷ 0 ∷ []) (full-queue 0) (0 ∷ 0 ∷ []) (empty-queue 65) (empty-queue 65) (1 ∷ 65 ∷ []))
   pub event-9 :
-      full-event 9 ≡ shows (1 ∷ 0 ∷ [])
-      (full-image 0 (2 ∷ 4 ∷ 0 ∷ 65 ∷ 0 ∷ 0 ∷ 0 ∷ 0 ∷ 8 ∷ []) (empty-queue 0) (5 ∷ 0 ∷ []) (empty-queue 65) (empty-queue 65) (1 ∷ 65 ∷ []))
+      full-event 9 ≡ shows (7 ∷ 0 ∷ [])
+      (full-image 0 (2 ∷ 4 ∷ 0 ∷ 65 ∷ 0 ∷ 0 ∷ 0 ∷ 0 ∷ 8 ∷ []) (full-queue 0) (0 ∷ 0 ∷ []) (empty-queue 65) (empty-queue 65) (1 ∷ 65 ∷ []))
   pub full-run : runner (bytes-of full-plan) (bytes-of full-events) ≡ full-text
   pub smallest-length : length (built small-plan (replicate 54 9)) ≡ 54
   pub smallest-built : verdict-number (check-build small-plan (replicate 54 9)) ≡ 0
@@ -156,6 +156,12 @@ pub record Worked : Type 0 where
   pub smallest-cut : verdict-number (check (take 53 (fresh small-plan))) ≡ 5
   pub call-with-no-stack : last-tick call-plan 2 ≡ shows (7 ∷ 0 ∷ []) (2 ∷ 0 ∷ 0 ∷ 0 ∷ 0 ∷ 0 ∷ 0 ∷ 0 ∷ 4 ∷ [])
   pub service-0 : last-tick (service-plan 0) 1 ≡ shows (7 ∷ 0 ∷ []) (0 ∷ 1 ∷ 0 ∷ 0 ∷ 0 ∷ 0 ∷ 0 ∷ 0 ∷ 12 ∷ [])
+  -- and the tick after it, an error stop
+  pub error-stop :
+      event-after (service-plan 0) (ticks 2) 1 ≡ shows (1 ∷ 0 ∷ [])
+      ((19284 ∷ 1 ∷ 1 ∷ 1 ∷ 1 ∷ 1 ∷ 1 ∷ 18 ∷ 27 ∷ 32 ∷ 34 ∷ 39 ∷ 44 ∷ 49 ∷ 51 ∷ 53 ∷ 54 ∷ []) ++
+      (0 ∷ 0 ∷ 1 ∷ 0 ∷ 0 ∷ 0 ∷ 0 ∷ 0 ∷ 0 ∷ 12 ∷ []) ++ empty-queue 0 ++ (5 ∷ 0 ∷ []) ++
+      empty-queue 0 ++ empty-queue 0 ++ empty-queue 0 ++ (0 ∷ 0 ∷ 53 ∷ 1 ∷ 4608 ∷ []))
   pub service-4 : last-tick (service-plan 4) 1 ≡ shows (6 ∷ 0 ∷ []) (1 ∷ 1 ∷ 0 ∷ 0 ∷ 0 ∷ 0 ∷ 0 ∷ 0 ∷ 128 ∷ [])
   pub quotient-by-0 : last-tick quotient-plan 1 ≡ shows (7 ∷ 0 ∷ []) (0 ∷ 1 ∷ 0 ∷ 0 ∷ 0 ∷ 0 ∷ 0 ∷ 0 ∷ 16 ∷ [])
   pub before-zero : last-tick zero-plan 4 ≡ shows (6 ∷ 0 ∷ []) (4 ∷ 4 ∷ 0 ∷ 7 ∷ 0 ∷ 0 ∷ 0 ∷ 0 ∷ 64 ∷ [])
@@ -165,10 +171,9 @@ pub record Worked : Type 0 where
   pub bound-pending : pending (shape-of (bound-image 0)) (bound-image 0) (task 0) ≡ 1
   pub bound-one-ahead : bound-ready 0 ≡ 0 ∷ 1 ∷ []
   pub bound-service : bound-line 1 ≡ 3 ∷ 0 ∷ []
-  pub bound-order : bound-line 2 ≡ 6 ∷ 0 ∷ []
-  pub bound-not-yet : bound-ready 2 ≡ 0 ∷ 1 ∷ []
-  pub bound-turn : bound-line 3 ≡ 2 ∷ 0 ∷ []
-  pub bound-reached : bound-ready 3 ≡ 1 ∷ 0 ∷ []
+  pub bound-not-yet : bound-ready 1 ≡ 0 ∷ 1 ∷ []
+  pub bound-turn : bound-line 2 ≡ 2 ∷ 0 ∷ []
+  pub bound-reached : bound-ready 2 ≡ 1 ∷ 0 ∷ []
 
 pub worked : Worked
 unfolding total shape-of place at put step appended first taken held empty full dispatched with-status readied woken left with-woken unless-full service-faulted waiting delivered printing printing-if-idle served waits-for finished service machine put-back with-register with-flags with-word operand found effect-of checked decided changed faulted ordered event-of stopped turned spent turn-of tick input port-next output-done happening plan-shape fresh every queued buffers-hold characters readied-once readied-tasks clock-holds port-holds flags-hold status-holds task-holds rules-hold out-of-range not-packed segment-right wrong-segments check plan-broken check-plan check-build built event run words-of check-file decimal line printed-from runner
@@ -186,6 +191,7 @@ worked =
       smallest-cut = refl;
       call-with-no-stack = refl;
       service-0 = refl;
+      error-stop = refl;
       service-4 = refl;
       quotient-by-0 = refl;
       before-zero = refl;
@@ -195,7 +201,6 @@ worked =
       bound-pending = refl;
       bound-one-ahead = refl;
       bound-service = refl;
-      bound-order = refl;
       bound-not-yet = refl;
       bound-turn = refl;
       bound-reached = refl;

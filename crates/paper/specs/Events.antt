@@ -50,14 +50,15 @@ stopped s im i = left s (put s im (status i) is-stopped)
 unfoldable pub turned : Shape → List ℕ → Task → List ℕ
 turned s im i = put s (appended s (taken s im Queue.Ready) Queue.Ready (i .0)) clock (s .slice)
 
--- rule 4: do the service; the clock stays unless dispatch sets it
-abbrev pub serving : Shape → List ℕ → Task → Service → Outcome
-serving s im i v = service s im i v
-
--- rule 5: one order; the clock falls by 1, also when the order faults
+-- the clock falls by 1
 unfoldable pub spent : Shape → List ℕ → List ℕ
 spent s im = put s im clock (at s im clock - 1)
 
+-- rule 4: the clock falls by 1, then the service is done, waits or faults
+abbrev pub serving : Shape → List ℕ → Task → Service → Outcome
+serving s im i v = service s im (spent s im) i v
+
+-- rule 5: one order; the clock falls by 1, also when the order faults
 unfoldable pub ordered : Shape → List ℕ → Task → Effect → Outcome
 ordered s im i e = accepted (order-answer i e) (spent s (after-order s im i e))
 

@@ -134,13 +134,13 @@ wakes s im i Service.Receive = one-if (waits-for s im (other s im i) Service.Sen
 wakes s im i Service.Input = Woken.Nobody
 wakes s im i Service.Output = Woken.Nobody
 
--- a word that may move does, unless a wake finds the ready queue full
-unfoldable pub finished : Shape → List ℕ → Task → Service → Outcome
-finished s im i v =
-    unless-full s im (wakes s im i v) (accepted (Answer.ServiceDone i) (with-woken s (served s im i v) (wakes s im i v)))
+-- a word that may move does, unless a wake finds the ready queue full: that leaves the image from before the tick
+unfoldable pub finished : Shape → List ℕ → List ℕ → Task → Service → Outcome
+finished s before im i v =
+    unless-full s before (wakes s im i v) (accepted (Answer.ServiceDone i) (with-woken s (served s im i v) (wakes s im i v)))
 
 -- a service: the wrong number first, then the buffer, then the word moves
-unfoldable pub service : Shape → List ℕ → Task → Service → Outcome
-service s im i v =
+unfoldable pub service : Shape → List ℕ → List ℕ → Task → Service → Outcome
+service s before im i v =
     unless-wrong (fault-of s im i v) s im i
-    (cond (blocked s im i v) (accepted (Answer.ServiceWaits i) (waiting s im i v)) (finished s im i v))
+    (cond (blocked s im i v) (accepted (Answer.ServiceWaits i) (waiting s im i v)) (finished s before im i v))
