@@ -133,8 +133,8 @@ module _ (s : Shape) (im : List ℕ) (g : Good s im) where
       record {
         idle = λ _ z. absurd (true≢false (sym z));
         stops = λ _ _ z. absurd (true≢false (sym z));
-        turns = λ _ z. absurd (true≢false (sym z));
-        serves = λ some _ v _. service-stays some v;
+        turns = λ _ _ _ z. absurd (true≢false (sym z));
+        serves = λ some _ _ v _. service-stays some v;
         orders = λ _ _ _ _ _ _. record { does = λ _ _ _ z. absurd (true≢false (sym z)); faults = λ _ _ z. absurd (true≢false (sym z)) };
       }
 

@@ -68,7 +68,7 @@ module _ {s : Shape} {im : List ℕ} {i : Task} (l : Leads s im i) where
   service-good : (before : List ℕ) → Good s before → (v : Service) → pending s im i ≡ waits v → ServiceCases s before im i v (λ o. Good s (o .image))
   service-good before g v asks =
       record {
-        faults = λ e f. faulted-good l e (small-error s im i v e f);
+        faults = λ e f. faulted-good l e (small-error s im i v e f .1);
         stuck = waiting-good l v asks;
         alone = λ right clear none. nearly-good (rw none at (served-nearly l v right clear));
         woke = λ k right clear one room.
@@ -124,8 +124,8 @@ module _ (s : Shape) (im : List ℕ) (g : Good s im) where
       record {
         idle = λ _. g;
         stops = λ some. stopped-good (first-leads some);
-        turns = λ some. turned-good (first-leads some);
-        serves = λ some runs v asks m b. service-good (begins-leads (first-leads some) b) im g v (begins-pending (first-leads some) b ∙ asks);
+        turns = λ some _ _. turned-good (first-leads some);
+        serves = λ some _ _ v asks m b. service-good (begins-leads (first-leads some) b) im g v (begins-pending (first-leads some) b ∙ asks);
         orders = λ some calm runs none m b.
             let still = ordered-good (first-leads some) b calm (asked-nothing _ (g .flags (running s im) (first-task some) .pending-range) none) in
             record { does = λ _ _ _. still; faults = λ _ _. still };

@@ -65,8 +65,8 @@ module _ (s : Shape) (im : List ℕ) (g : Good s im) where
             let l = first-leads s im g some in
             rw (stopped-is l)
             (frame-left (frame-status frame-none (running s im) (leads-in l) _ _ (λ r. inl refl)) (status-sound s im (running s im) (leads-in l) (leads-sound l) _ _) (λ r. inl refl) (inl refl));
-        turns = λ some. turned-frame (first-leads s im g some) (λ r. inl refl) (inl refl);
-        serves = λ some runs v asks m b. service-frame (begins-leads (first-leads s im g some) b) b v;
+        turns = λ some _ _. turned-frame (first-leads s im g some) (λ r. inl refl) (inl refl);
+        serves = λ some _ _ v _ m b. service-frame (begins-leads (first-leads s im g some) b) b v;
         orders = λ some _ _ _ m b.
             let k : Frame s (TickCell s im (running s im)) im m = order-frame (first-leads s im g some) b (λ c own. inr own) (inl refl) in
             record { does = λ _ _ _. k; faults = λ _ _. k };

@@ -316,10 +316,14 @@ module _ {s : Shape} {im : List ℕ} {i : Task} (l : Leads s im i) where
       let t = times-append x (held s (taken s im Queue.Ready) Queue.Ready) (i .0 ∷ []) in
       rw (turned-list, leads-list l) (omega (arith, t))
 
+  pub turned-clock : at s (turned s im i) clock ≡ s .slice
+  unfolding turned
+  turned-clock = at-same s _ clock (s .slice) (omega arith, omega arith) (sound joined-again .laid .words)
+
   turned-clocked : Clocked s (turned s im i)
   unfolding turned
   turned-clocked =
-      let c : at s (turned s im i) clock ≡ s .slice = at-same s _ clock (s .slice) (omega arith, omega arith) (sound joined-again .laid .words) in
+      let c = turned-clock in
       let n : at s (turned s im i) (count s Queue.Ready) ≡ at s (appended s (taken s im Queue.Ready) Queue.Ready (i .0)) (count s Queue.Ready) =
       kept-count header-part (clock-apart (clock-put s _ (s .slice))) Queue.Ready tt refl .0 in
       let k = appended-count s _ Queue.Ready tt (sound passed .laid .words) (sound passed .queues Queue.Ready tt) (i .0) in

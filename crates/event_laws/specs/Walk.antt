@@ -1,5 +1,5 @@
 -- Every outcome of an event, told apart once: what holds of each holds of the event. Assumes nothing.
-use mathlib.Core.Path.{_≡_, refl}
+use mathlib.Core.Path.{_≡_, refl, _∙_}
 use mathlib.Core.List.{List, [], _∷_}
 use mathlib.Core.Bool.{Bool, true, false, not, cond}
 use mathlib.Core.Logic.{_≢_}
@@ -14,7 +14,7 @@ use Rattle.paper.specs.Flags.{error, pending, waits}
 use Rattle.paper.specs.Waking.{Outcome, accepted, refused, woken, one-if, with-woken, unless-full}
 use Rattle.paper.specs.Services.{services, numbered, asked, fault-of, unless-wrong, service-faulted, blocked, waiting, served, wakes, finished, service}
 use Rattle.paper.specs.Orders.{order, after-order, order-answer}
-use Rattle.paper.specs.Events.{running, stopped, turned, serving, spent, ordered, acting, turn-of, tick, input, port-next, output-done, happening}
+use Rattle.paper.specs.Events.{running, stopped, turned, spent, serving, ordered, acting, turn-of, tick, input, port-next, output-done, happening}
 use Rattle.paper.specs.declared.Task.{Task}
 use Rattle.paper.specs.declared.Shape.{Shape}
 use Rattle.paper.specs.declared.Queue.{Queue}
@@ -31,7 +31,8 @@ use Rattle.paper.specs.declared.Reply.{Reply}
 use Rattle.laws.specs.Cases.{when}
 use Rattle.laws.specs.Cells.{at-same}
 use Rattle.laws.specs.Sound.{Sound, sound}
-use Rattle.laws.specs.Frame.{Frame, frame-none, frame-put}
+use Rattle.laws.specs.Frame.{Frame, frame-none, frame-put, kept-full}
+use Rattle.event_laws.specs.Own.{header-part, clock-apart}
 
 -- what pending asks for
 asked-for : (p : ℕ) (v : Service) → asked p ≡ Asked.For v → p ≡ waits v
@@ -82,29 +83,37 @@ pub record ServiceCases (s : Shape) (im m : List ℕ) (i : Task) (v : Service) (
       → P (accepted (Answer.ServiceDone i) (woken s (served s m i v) k))
   pub no-room : fault-of s m i v ≡ Fault.Nothing → blocked s m i v ≡ false → full s im Queue.Ready ≡ true → P (refused Refusal.ReadyFull im)
 
-service-any : {s : Shape} {m : List ℕ} {i : Task} {v : Service} (P : Outcome → Type 0) → ServiceCases s m m i v P → P (service s m i v)
+service-any : {s : Shape} {im m : List ℕ} {i : Task} {v : Service} (P : Outcome → Type 0) → full s m Queue.Ready ≡ full s im Queue.Ready
+    → ServiceCases s im m i v P → P (service s im m i v)
 unfolding service finished
-service-any {s} {m} {i} {v} P c = go (fault-of s m i v) refl
+service-any {s} {im} {m} {i} {v} P same c = go (fault-of s m i v) refl
   where
     go : (x : Fault) → fault-of s m i v ≡ x
-        → P (unless-wrong x s m i (cond (blocked s m i v) (accepted (Answer.ServiceWaits i) (waiting s m i v)) (finished s m i v)))
+        → P (unless-wrong x s m i (cond (blocked s m i v) (accepted (Answer.ServiceWaits i) (waiting s m i v)) (finished s im m i v)))
     go (Fault.Error e) f = c .faults e f
     go Fault.Nothing f =
         when P (blocked s m i v) (c .stuck f) (λ e.
-        wakes-any s m (served s m i v) P (Answer.ServiceDone i) (c .no-room f e) (wakes s m i v) (c .alone f e) (λ k. c .woke k f e))
+        wakes-any s im (served s m i v) P (Answer.ServiceDone i) (c .no-room f e) (wakes s m i v) (c .alone f e) (λ k one room. c .woke k f e one (same ∙ room)))
 
 -- an image that differs from im in the clock alone, which is v
 pub record ButClock (s : Shape) (im : List ℕ) (v : ℕ) (m : List ℕ) : Type 0 where
   pub but-clock : Frame s (λ c. c ≡ clock) im m
   pub clock-is : Sound s im → at s m clock ≡ v
 
--- rule 4 does its service from such an image: at present it takes nothing from the clock
+spends : (s : Shape) (m : List ℕ) → ButClock s m (at s m clock - 1) (spent s m)
+unfolding spent
+spends s m =
+    record { but-clock = frame-put frame-none clock _ (omega arith, omega arith) refl; clock-is = λ h. at-same s m clock _ (omega arith, omega arith) (sound h .laid .words) }
+
+-- rule 4 does its service from such an image, the clock fallen by 1
 abbrev pub Begins : Shape → List ℕ → List ℕ → Type 0
-Begins s im m = ButClock s im (at s im clock) m
+Begins s im m = ButClock s im (at s im clock - 1) m
 
 serving-any : {s : Shape} {im : List ℕ} {i : Task} {v : Service} (P : Outcome → Type 0) → ((m : List ℕ) → Begins s im m → ServiceCases s im m i v P)
     → P (serving s im i v)
-serving-any {s} {im} P c = service-any P (c im record { but-clock = frame-none; clock-is = λ _. refl })
+serving-any {s} {im} P c =
+    let b = spends s im in
+    service-any P (kept-full header-part (clock-apart (b .but-clock)) Queue.Ready tt refl) (c (spent s im) b)
 
 -- rule 5 leaves the image after the task's order but for the clock, which has fallen by 1
 abbrev pub Spends : Shape → List ℕ → Task → List ℕ → Type 0
@@ -119,11 +128,6 @@ order-any : {s : Shape} {im m : List ℕ} {i : Task} (P : Outcome → Type 0) �
 order-any P c (Effect.Does next f) e = c .does next f e
 order-any P c (Effect.Faults f) e = c .faults f e
 
-spends : (s : Shape) (m : List ℕ) → ButClock s m (at s m clock - 1) (spent s m)
-unfolding spent
-spends s m =
-    record { but-clock = frame-put frame-none clock _ (omega arith, omega arith) refl; clock-is = λ h. at-same s m clock _ (omega arith, omega arith) (sound h .laid .words) }
-
 pub ordered-any : {s : Shape} {im : List ℕ} {i : Task} (P : Outcome → Type 0) → ((m : List ℕ) → Spends s im i m → OrderCases s im m i P)
     → P (ordered s im i (order s im i))
 unfolding ordered
@@ -135,8 +139,8 @@ ordered-any {s} {im} {i} P c =
 pub record TickCases (s : Shape) (im : List ℕ) (P : Outcome → Type 0) : Type 0 where
   pub idle : empty s im Queue.Ready ≡ true → P (accepted Answer.Idle im)
   pub stops : empty s im Queue.Ready ≡ false → error s im (running s im) ≢ 0 → P (accepted (Answer.ErrorStop (running s im)) (stopped s im (running s im)))
-  pub turns : empty s im Queue.Ready ≡ false → P (accepted (Answer.TurnPassed (running s im)) (turned s im (running s im)))
-  pub serves : empty s im Queue.Ready ≡ false → at s im clock ≢ 0 → (v : Service) → pending s im (running s im) ≡ waits v
+  pub turns : empty s im Queue.Ready ≡ false → error s im (running s im) ≡ 0 → at s im clock ≡ 0 → P (accepted (Answer.TurnPassed (running s im)) (turned s im (running s im)))
+  pub serves : empty s im Queue.Ready ≡ false → error s im (running s im) ≡ 0 → at s im clock ≢ 0 → (v : Service) → pending s im (running s im) ≡ waits v
       → (m : List ℕ) → Begins s im m → ServiceCases s im m (running s im) v P
   pub orders : empty s im Queue.Ready ≡ false → error s im (running s im) ≡ 0 → at s im clock ≢ 0 → asked (pending s im (running s im)) ≡ Asked.Nothing
       → (m : List ℕ) → Spends s im (running s im) m → OrderCases s im m (running s im) P
@@ -146,10 +150,10 @@ unfolding tick turn-of
 tick-any {s} {im} P c =
     when P (empty s im Queue.Ready) (c .idle) (λ some.
     when P (not (eqb (error s im (running s im)) 0)) (λ e. c .stops some (eqb-false _ 0 (not-true _ e))) (λ e.
-    when P (eqb (at s im clock) 0) (λ _. c .turns some) (λ z. acts some (eqb-true _ 0 (not-false _ e)) (eqb-false _ 0 z) (asked (pending s im (running s im))) refl)))
+    when P (eqb (at s im clock) 0) (λ z. c .turns some (eqb-true _ 0 (not-false _ e)) (eqb-true _ 0 z)) (λ z. acts some (eqb-true _ 0 (not-false _ e)) (eqb-false _ 0 z) (asked (pending s im (running s im))) refl)))
   where
     acts : empty s im Queue.Ready ≡ false → error s im (running s im) ≡ 0 → at s im clock ≢ 0 → (x : Asked) → asked (pending s im (running s im)) ≡ x → P (acting s im (running s im) x)
-    acts some calm runs (Asked.For v) e = serving-any P (c .serves some runs v (asked-for _ v e))
+    acts some calm runs (Asked.For v) e = serving-any P (c .serves some calm runs v (asked-for _ v e))
     acts some calm runs Asked.Nothing e = ordered-any P (c .orders some calm runs e)
 
 -- where a service is pending, with no error and time left, a tick is by rule 4
@@ -197,8 +201,8 @@ module _ (s : Shape) (im : List ℕ) (P : Outcome → Type 0) (taken : (a : Answ
       record {
         idle = λ _. taken _ _;
         stops = λ _ _. taken _ _;
-        turns = λ _. taken _ _;
-        serves = λ _ _ _ _ _ _.
+        turns = λ _ _ _. taken _ _;
+        serves = λ _ _ _ _ _ _ _.
             record { faults = λ _ _. taken _ _; stuck = λ _ _. taken _ _; alone = λ _ _ _. taken _ _; woke = λ _ _ _ _ _. taken _ _; no-room = λ _ _ _. kept _ };
         orders = λ _ _ _ _ _ _. record { does = λ _ _ _. taken _ _; faults = λ _ _. taken _ _ };
       })

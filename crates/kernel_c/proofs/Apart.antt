@@ -54,8 +54,8 @@ happens s im some g =
     record {
       idle = λ _. some;
       stops = λ r _. first-task s im g r;
-      turns = λ r. first-task s im g r;
-      serves = λ r _ _ _ _ _.
+      turns = λ r _ _. first-task s im g r;
+      serves = λ r _ _ _ _ _ _.
           let hi = first-task s im g r in
           record { faults = λ _ _. hi; stuck = λ _ _. hi; alone = λ _ _ _. hi; woke = λ _ _ _ _ _. hi; no-room = λ _ _ _. some };
       orders = λ r _ _ _ _ _. record { does = λ _ _ _. first-task s im g r; faults = λ _ _. first-task s im g r };

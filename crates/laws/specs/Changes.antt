@@ -68,19 +68,19 @@ error-none true e f = absurd (let z : _≡_ {A = ℕ} 0 1 = cc in omega arith)
 error-none false e f = refl
 
 module _ (s : Shape) (im : List ℕ) (i : Task) where
-  -- the errors of services are small
-  pub small-error : (v : Service) (e : ℕ) → fault-of s im i v ≡ Fault.Error e → e ≤ 6
+  -- the errors of services are errors, and small
+  pub small-error : (v : Service) (e : ℕ) → fault-of s im i v ≡ Fault.Error e → (1 ≤ e) × (e ≤ 6)
   small-error v e f = go v f
     where
-      pick : (b : Bool) (x : ℕ) → x ≤ 6 → error-if b x ≡ Fault.Error e → e ≤ 6
-      pick true x l z = let y : x ≡ e = cc in omega arith
+      pick : (b : Bool) (x : ℕ) → (1 ≤ x) × (x ≤ 6) → error-if b x ≡ Fault.Error e → (1 ≤ e) × (e ≤ 6)
+      pick true x l z = let y : x ≡ e = cc in rw (← y) l
       pick false x l z = absurd (let y : _≡_ {A = ℕ} 0 1 = cc in omega arith)
 
-      go : (v : Service) → fault-of s im i v ≡ Fault.Error e → e ≤ 6
-      go Service.Send f = pick (leb (s .n) (at s im (reg i 2))) 5 (omega arith) f
-      go Service.Receive f = pick (leb (s .n) (at s im (reg i 2))) 5 (omega arith) f
+      go : (v : Service) → fault-of s im i v ≡ Fault.Error e → (1 ≤ e) × (e ≤ 6)
+      go Service.Send f = pick (leb (s .n) (at s im (reg i 2))) 5 (omega arith, omega arith) f
+      go Service.Receive f = pick (leb (s .n) (at s im (reg i 2))) 5 (omega arith, omega arith) f
       go Service.Input f = absurd (let y : _≡_ {A = ℕ} 0 1 = cc in omega arith)
-      go Service.Output f = pick (ltb most-character (at s im (reg i 3))) 6 (omega arith) f
+      go Service.Output f = pick (ltb most-character (at s im (reg i 3))) 6 (omega arith, omega arith) f
 
   -- a service that is not wrong has a buffer of this image
   pub buffer-has : i .0 < s .n → (v : Service) → fault-of s im i v ≡ Fault.Nothing → Has s (buffer s im i v)
