@@ -38,18 +38,18 @@ start = run-from shape (fresh plan) (some-ticks 6) .image
 abbrev later : ℕ → List ℕ
 later n = run-from shape start (some-ticks n) .image
 
--- the paper's own case, one ahead, is reached at tick 3: the record of the worked examples has it
-pub one-ahead : bound 1 1 1 ≡ 3
+-- the case that the paper works out, one ahead, is reached at tick 2: the record of the worked examples has it
+pub one-ahead : bound 1 1 1 ≡ 2
 one-ahead = refl
 
--- task 2 stands there with two ahead of it; the bound is 6 ticks, and it is not first after any fewer
+-- task 2 stands there with two ahead of it; the bound is 4 ticks, and it is not first after any fewer
 pub record Reached : Type 0 where
   pub in-line : InLine shape start (task 2) 2
-  pub bound-is : most-ticks shape start 2 ≡ 6
-  pub counted : ticks (some-ticks 6) ≡ most-ticks shape start 2
-  pub fine : run-from shape start (some-ticks 6) .stop ≡ Verdict.Fine
-  -- who is first after 0, 1, .. 6 ticks
-  pub firsts : map (λ n. first shape (later n) Queue.Ready) (0 ∷ 1 ∷ 2 ∷ 3 ∷ 4 ∷ 5 ∷ 6 ∷ []) ≡ 0 ∷ 0 ∷ 0 ∷ 1 ∷ 1 ∷ 1 ∷ 2 ∷ []
+  pub bound-is : most-ticks shape start 2 ≡ 4
+  pub counted : ticks (some-ticks 4) ≡ most-ticks shape start 2
+  pub fine : run-from shape start (some-ticks 4) .stop ≡ Verdict.Fine
+  -- who is first after 0, 1, .. 4 ticks
+  pub firsts : map (λ n. first shape (later n) Queue.Ready) (0 ∷ 1 ∷ 2 ∷ 3 ∷ 4 ∷ []) ≡ 0 ∷ 0 ∷ 1 ∷ 1 ∷ 2 ∷ []
 
 pub reached : Reached
 unfolding total shape-of place at put step appended first taken held empty full dispatched with-status readied woken left with-woken unless-full service-faulted waiting delivered printing printing-if-idle served waits-for finished service machine put-back with-register with-flags with-word operand found effect-of checked decided changed faulted ordered event-of stopped turned spent turn-of tick input port-next output-done happening plan-shape fresh every queued buffers-hold characters readied-once readied-tasks clock-holds port-holds flags-hold status-holds task-holds rules-hold out-of-range not-packed segment-right wrong-segments check

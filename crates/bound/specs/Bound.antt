@@ -19,9 +19,9 @@ use Rattle.paper.specs.declared.Verdict.{Verdict}
 abbrev pub Behind : Shape → List ℕ → Task → ℕ → Type 0
 Behind s im i k = (k < length (held s im Queue.Ready)) × (getD (held s im Queue.Ready) k 0 ≡ i .0)
 
--- how many ticks it waits at most, where S is the slice, c the clock, and k is 1 or more: (2c + 1) + (k - 1)(2S + 1)
+-- how many ticks it waits at most, where S is the slice, c the clock, and k is 1 or more: (c + 1) + (k - 1)(S + 1)
 abbrev pub bound : ℕ → ℕ → ℕ → ℕ
-bound S c k = (2 * c + 1) + (k - 1) * (2 * S + 1)
+bound S c k = (c + 1) + (k - 1) * (S + 1)
 
 -- an image of shape s passes the check, and task i stands in its ready queue with k others ahead of it, one at least
 pub record InLine (s : Shape) (im : List ℕ) (i : Task) (k : ℕ) : Type 0 where

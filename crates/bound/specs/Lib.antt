@@ -1,6 +1,5 @@
 pub mod Bound
 pub mod Measure
-pub mod Pace
 pub mod Line
 pub mod Ticks
 pub mod Falls
