@@ -10,7 +10,7 @@ use Rattle.paper.specs.Queues.{empty, full}
 use Rattle.paper.specs.Flags.{error, pending}
 use Rattle.paper.specs.Waking.{accepted, refused, unless-full}
 use Rattle.paper.specs.Services.{asked, fault-of, unless-wrong, blocked, waiting, wakes, finished, service}
-use Rattle.paper.specs.Events.{event-of, running, stopped, turned, acting, turn-of, tick, input, output-done, happening}
+use Rattle.paper.specs.Events.{event-of, running, stopped, turned, spent, acting, turn-of, tick, input, output-done, happening}
 use Rattle.paper.specs.Plans.{plan-shape}
 use Rattle.paper.specs.Tests.{rules-hold}
 use Rattle.paper.specs.Numbers.{number, verdict-number, reply-number, refused-if, and-then, too-short, not-marked, out-of-range, not-packed, wrong-segments, check, plan-short, plan-broken, check-plan, check-build}
@@ -109,19 +109,20 @@ module _ (s : Shape) (im : List ℕ) where
   then-wake true r w a m = refl
   then-wake false r w a m = wake-due w a m
 
-  service-due : (i : Task) (v : Service) → reply-number (service s im i v .reply) ≡ due ((10, finds-full s im (service-wakes (fault-of s im i v) (blocked s im i v) (wakes s im i v))) ∷ [])
+  service-due : (m : List ℕ) (i : Task) (v : Service)
+      → reply-number (service s im m i v .reply) ≡ due ((10, finds-full s im (service-wakes (fault-of s m i v) (blocked s m i v) (wakes s m i v))) ∷ [])
   unfolding service finished
-  service-due i v = go (fault-of s im i v) (blocked s im i v)
+  service-due m i v = go (fault-of s m i v) (blocked s m i v)
     where
       go : (x : Fault) (b : Bool)
-          → reply-number (unless-wrong x s im i (cond b (accepted (Answer.ServiceWaits i) (waiting s im i v)) (finished s im i v)) .reply)
-          ≡ due ((10, finds-full s im (service-wakes x b (wakes s im i v))) ∷ [])
+          → reply-number (unless-wrong x s m i (cond b (accepted (Answer.ServiceWaits i) (waiting s m i v)) (finished s im m i v)) .reply)
+          ≡ due ((10, finds-full s im (service-wakes x b (wakes s m i v))) ∷ [])
       go (Fault.Error e) b = refl
       go Fault.Nothing true = refl
-      go Fault.Nothing false = wake-due (wakes s im i v) _ _
+      go Fault.Nothing false = wake-due (wakes s m i v) _ _
 
   acting-due : (i : Task) (x : Asked) → reply-number (acting s im i x .reply) ≡ due ((10, finds-full s im (asked-wakes s im i x)) ∷ [])
-  acting-due i (Asked.For v) = service-due i v
+  acting-due i (Asked.For v) = service-due (spent s im) i v
   acting-due i Asked.Nothing = ordered-any (λ o. reply-number (o .reply) ≡ 0) (λ _ _. record { does = λ _ _ _. refl; faults = λ _ _. refl })
 
   tick-due : reply-number (tick s im .reply) ≡ due ((10, wake-finds-full s im Event.Tick) ∷ [])

@@ -26,6 +26,7 @@ use Rattle.demands.specs.Demands.{due, run-tests, Demand1, Asks, Demand2
 use Rattle.demands.proofs.Numbers.{image-due, plan-due, build-due, run-due, event-due, call-due}
 use Rattle.demands.proofs.AsCalls.{is-calls, took-whole, stopped-at as stops}
 use Rattle.demands.proofs.Turns.{turn}
+use Rattle.demands.proofs.Slices.{request2}
 
 -- a refused build leaves the target, a refused event the image, a refused run the image
 build-unchanged : (plan target : List ℕ) → verdict-number (check-build plan target) ≢ 0 → built plan target ≡ target
@@ -180,4 +181,4 @@ demand3 =
     }
 
 pub demands : Demands
-demands = record { first = demand1; second = demand2; third = demand3 }
+demands = record { first = demand1; second = demand2; third = demand3; request-2 = request2 }

@@ -6,59 +6,35 @@ use mathlib.Core.Logic.{_⊎_, inl, inr, ⊎-elim}
 use Prim.Native.Nat.{ℕ, zero, suc, _+_, _<_, _≤_}
 use native.Mathlib.Decide.{ℕ-discrete}
 use native.Mathlib.Omega.{arith}
-use Rattle.paper.specs.Image.{shape-of, at, clock}
+use Rattle.paper.specs.Image.{shape-of}
 use Rattle.paper.specs.Queues.{first, empty}
-use Rattle.paper.specs.Flags.{pending}
-use Rattle.paper.specs.Waking.{Outcome}
-use Rattle.paper.specs.Events.{event-of, running, happening}
 use Rattle.paper.specs.Rules.{Good}
 use Rattle.paper.specs.Promises.{Happens}
 use Rattle.paper.specs.declared.Task.{Task}
 use Rattle.paper.specs.declared.Shape.{Shape}
 use Rattle.paper.specs.declared.Queue.{Queue}
-use Rattle.paper.specs.declared.Refusal.{Refusal}
 use Rattle.paper.specs.declared.Reply.{Reply}
 use Rattle.laws.specs.Checked.{check-zero}
 use Rattle.event_laws.specs.Stays.{words-good}
-use Rattle.user_laws.specs.Replies.{Accepted, RefusedFor, replies}
 use Rattle.user_laws.specs.Folded.{event-is}
-use Rattle.bound.specs.Bound.{Behind, IsFirst, Untouched, tick-count, if-accepted}
+use Rattle.bound.specs.Bound.{Behind, most-ticks, IsFirst, Untouched, tick-count, if-accepted}
 use Rattle.bound.specs.Measure.{measure, Nears}
-use Rattle.bound.specs.Pace.{pace-some}
 use Rattle.bound.specs.Line.{behind-first}
-use Rattle.bound.specs.Falls.{within-bound, event-nears, event-untouched}
+use Rattle.bound.specs.Falls.{event-nears, event-untouched}
 use Rattle.demands.specs.Demands.{Calls, ReadyBehind, ticks-in, FirstAfter, NotBefore, latest, TurnComes}
 
 -- what a call on a good image does to a task with others ahead of it
-record Steps (s : Shape) (im m : List ℕ) (i : Task) (k spent : ℕ) : Type 0 where
+record Nearer (s : Shape) (im m : List ℕ) (i : Task) (k spent : ℕ) : Type 0 where
   good : Good s m
   nears : Nears s im m i k spent
   untouched : Untouched s im m i
 
-module _ (s : Shape) (im : List ℕ) (g : Good s im) (x y z : ℕ) (i : Task) (k : ℕ) (b : Behind s im i (suc k)) where
-  abbrev o : Outcome
-  o = happening s im (event-of s x y z)
-
-  -- accepted or refused
-  steps : Steps s im (o .image) i (suc k) (if-accepted (o .reply) (tick-count x y z))
-  steps = ⊎-elim taken-up refused (replies s im (event-of s x y z))
-    where
-      taken-up : Accepted o → Steps s im (o .image) i (suc k) (if-accepted (o .reply) (tick-count x y z))
-      taken-up h =
-          record {
-            good = words-good s im g x y z;
-            nears = rw (h .told) (event-nears s im g i k b x y z (h .answer) (h .told));
-            untouched = event-untouched s im g i k b x y z;
-          }
-
-      refused : (r : Refusal) × RefusedFor im o r → Steps s im (o .image) i (suc k) (if-accepted (o .reply) (tick-count x y z))
-      refused h =
-          rw (h .1 .told, h .1 .unchanged)
-          record { good = g; nears = record { ahead = suc k; stands = b; falls = omega arith }; untouched = record { lies-kept = refl; own-kept = refl } }
-
-  -- so of whoever keeps the promise
-  call-steps : (a : Reply) (m : List ℕ) → Happens im x y z a m → Steps s im m i (suc k) (if-accepted a (tick-count x y z))
-  call-steps a m h = rw (h .answered, h .left, event-is s im g x y z) steps
+-- whoever makes it, and keeps the promise
+nearer : (s : Shape) (im : List ℕ) (g : Good s im) (x y z : ℕ) (i : Task) (k : ℕ) (b : Behind s im i (suc k)) (a : Reply) (m : List ℕ) → Happens im x y z a m
+    → Nearer s im m i (suc k) (if-accepted a (tick-count x y z))
+nearer s im g x y z i k b a m h =
+    rw (h .answered, h .left, event-is s im g x y z)
+    record { good = words-good s im g x y z; nears = event-nears s im g i k b x y z; untouched = event-untouched s im g i k b x y z }
 
 -- a task is first, or it is not
 first-or-not : (s : Shape) (im : List ℕ) (i : Task) → Dec (IsFirst s im i)
@@ -69,10 +45,15 @@ first-or-not s im i = go (empty s im Queue.Ready) refl (ℕ-discrete (first s im
     go false e (yes f) = yes record { some = e; named = f }
     go false e (no n) = no (λ h. n (h .named))
 
+-- what can be waited is within the bound
+measure-most : (s : Shape) (im : List ℕ) (k : ℕ) → measure s im k ≤ most-ticks s im k
+measure-most s im zero = omega arith
+measure-most s im (suc k) = omega arith
+
 -- none is ahead where no tick is left to wait
 ahead-none : (s : Shape) (im : List ℕ) (k : ℕ) → measure s im k ≤ 0 → k ≡ 0
 ahead-none s im zero h = refl
-ahead-none s im (suc k) h = absurd (omega (arith, pace-some (at s im clock) (pending s im (running s im)), h))
+ahead-none s im (suc k) h = absurd (omega (arith, h))
 
 module _ (events : List ℕ) (count : ℕ) (c : Calls events count) (i : Task) (k : ℕ) (w : ReadyBehind (c .image 0) i k) where
   abbrev s : Shape
@@ -101,7 +82,7 @@ module _ (events : List ℕ) (count : ℕ) (c : Calls events count) (i : Task) (
       go : (a : ℕ) → Behind s (c .image n) i a → ticks-in c n + measure s (c .image n) a ≤ measure s (c .image 0) k → Standing (suc n)
       go zero b h = absurd (not (behind-first s (c .image n) (t .good) i b))
       go (suc a) b h =
-          let x = call-steps s (c .image n) (t .good) _ _ _ i a b (c .reply n) (c .image (suc n)) (c .kept n l) in
+          let x = nearer s (c .image n) (t .good) _ _ _ i a b (c .reply n) (c .image (suc n)) (c .kept n l) in
           record {
             good = x .good;
             ahead = x .nears .ahead;
@@ -142,7 +123,7 @@ module _ (events : List ℕ) (count : ℕ) (c : Calls events count) (i : Task) (
 
   pub turn : TurnComes c i k
   turn =
-      let most = within-bound s (c .image 0) k (w .others) in
+      let most = measure-most s (c .image 0) k in
       record {
         first = λ enough. ⊎-elim
             (λ h. (h .0, h .1, omega (arith, after (h .0) (h .1) (h .3) .spent, most), h .2, h .3))

@@ -1,10 +1,10 @@
--- The three demands, in the user's order and words, of whatever any program may do that keeps the promises of the public calls:
+-- The three demands, with request 2, in the user's order and words, of whatever any program may do that keeps the promises of the public calls:
 -- the records Checks, Measures, Builds, Happens and Runs (crates/paper/specs/Promises.antt), which the contracts of crates/kernel name.
 -- What stands in quotes is the user's or the paper's. All of it is proved, in proofs/Proved.antt, and nothing is assumed.
 use mathlib.Core.Path.{_≡_}
 use mathlib.Core.List.{List, [], _∷_, _++_}
 use mathlib.Core.Bool.{Bool, true, false, not, cond}
-use mathlib.Core.Logic.{_≢_, _↔_}
+use mathlib.Core.Logic.{_≢_, _↔_, _⊎_}
 use Prim.Native.Nat.{ℕ, zero, suc, _+_, _-_, _*_, _%_, _<_, _≤_}
 use lib.Dec.{eqb}
 use lib.ListN.{length, getD}
@@ -16,7 +16,7 @@ use Rattle.paper.specs.Events.{event-of, running, happening}
 use Rattle.paper.specs.Plans.{plan-shape, fresh}
 use Rattle.paper.specs.Rules.{Empty, Good}
 use Rattle.paper.specs.Tests.{rules-hold}
-use Rattle.paper.specs.Numbers.{verdict-number, reply-number, too-short, not-marked, out-of-range, not-packed, wrong-segments, plan-short, plan-broken}
+use Rattle.paper.specs.Numbers.{verdict-number, reply-number, reply-values, too-short, not-marked, out-of-range, not-packed, wrong-segments, plan-short, plan-broken}
 use Rattle.paper.specs.Calls.{size-number}
 use Rattle.paper.specs.Promises.{Checks, Measures, Builds, Happens, Runs}
 use Rattle.paper.specs.declared.Task.{Task}
@@ -164,9 +164,9 @@ pub record Demand2 : Type 0 where
       → held s im (outgoing s im) ≡ [] → held s later (outgoing s im) ≡ held s after (outgoing s im)
       → Tells b 3 × (at s end (reg (running s later) 3) ≡ at s im (reg (running s im) 3))
 
--- DEMAND 3
+-- DEMAND 3, with the bound of request 2
 -- "From an image that passes the check, slice S, c left on the clock, a ready task with k >= 1 others ahead: whatever mix of events comes, it stands
--- first no later than accepted tick (2c + 1) + (k - 1)(2S + 1), and until then no word of its registers or segment has changed."
+-- first no later than accepted tick (c + 1) + (k - 1)(S + 1), and until then no word of its registers or segment has changed."
 
 -- a ready task with k others ahead, in an image that passes the check
 pub record ReadyBehind (im : List ℕ) (i : Task) (k : ℕ) : Type 0 where
@@ -200,15 +200,59 @@ module _ {events : List ℕ} {count : ℕ} (c : Calls events count) where
 
 pub record Demand3 : Type 0 where
   -- the bound
-  pub formula : (S c k : ℕ) → bound S c k ≡ (2 * c + 1) + (k - 1) * (2 * S + 1)
+  pub formula : (S c k : ℕ) → bound S c k ≡ (c + 1) + (k - 1) * (S + 1)
   -- of any calls of event, refused ones among them
   pub in-calls : (events : List ℕ) (count : ℕ) (c : Calls events count) (i : Task) (k : ℕ) → ReadyBehind (c .image 0) i k → TurnComes c i k
   -- and of a run
   pub in-run : (im events : List ℕ) (answer : Ended) (after : List ℕ) → Runs im events answer after → due (run-tests im events) ≡ 0
       → (i : Task) (k : ℕ) → ReadyBehind im i k → (r : IsCalls im events answer after) × TurnComes (r .calls) i k
 
+-- REQUEST 2
+-- "Services must use up the slice. Our chattiest script gets nearly twice the ticks of its neighbours because its services ride free."
+
+-- answered neither 1 "error stop" nor 2 "turn passed" nor 4 "service waits"
+abbrev pub Quiet : Reply → Type 0
+Quiet r = ¬ Tells r 1 × ¬ Tells r 2 × ¬ Tells r 4
+
+module _ {events : List ℕ} {count : ℕ} (c : Calls events count) where
+  -- so each call from m on, before n
+  abbrev pub Undisturbed : ℕ → ℕ → Type 0
+  Undisturbed m n = (j : ℕ) → m ≤ j → j < n → Quiet (c .reply j)
+
+  -- call j was an accepted tick
+  abbrev pub IsTick : ℕ → Type 0
+  IsTick j = if-accepted (c .reply j) (tick-count (word-of events j 0) (word-of events j 1) (word-of events j 2)) ≡ 1
+
+  -- call j was answered kind k of task i
+  abbrev pub Answered : ℕ → ℕ → Task → Type 0
+  Answered j k i = reply-values (c .reply j) ≡ k ∷ i .0 ∷ []
+
+  -- task i is first where the calls begin, with so much left on the clock
+  pub record UsesClock (i : Task) (left : ℕ) : Type 0 where
+    -- till a tick is answered 1, 2 or 4 each one is its own, answered 3 to 7, and there are no more than the clock has left, the wait counted
+    pub own : (n j : ℕ) → n ≤ count → Undisturbed 0 n → j < n → IsTick j → (k : ℕ) × (3 ≤ k) × (k ≤ 7) × Answered j k i
+    pub at-most : (n : ℕ) → n ≤ count → Undisturbed 0 n → ticks-in c n ≤ left
+    pub with-wait : (n : ℕ) → n < count → Undisturbed 0 n → Tells (c .reply n) 4 → (ticks-in c (suc n) ≤ left) × Answered n 4 i
+    -- and exactly as many where that one is a 2
+    pub exactly : (n : ℕ) → n < count → Undisturbed 0 n → Tells (c .reply n) 2 → (ticks-in c n ≡ left) × Answered n 2 i
+
+  -- between one passed turn, m, and the next, n, with no 1 or 4 between: S ticks, all of one task, answered 3 or 6
+  pub record UsesSlice (m n : ℕ) : Type 0 where
+    pub task : Task
+    pub passes : Answered n 2 task
+    pub exactly : ticks-in c n ≡ ticks-in c (suc m) + shape-of (c .image 0) .slice
+    pub own : (j : ℕ) → m < j → j < n → IsTick j → Answered j 3 task ⊎ Answered j 6 task
+
+-- of any calls of event, and so of a run, which is such calls (`IsCalls`)
+pub record Request2 : Type 0 where
+  pub clock-used : (events : List ℕ) (count : ℕ) (c : Calls events count) (i : Task) → Checks (c .image 0) 0
+      → IsFirst (shape-of (c .image 0)) (c .image 0) i → UsesClock c i (at (shape-of (c .image 0)) (c .image 0) clock)
+  pub slice-used : (events : List ℕ) (count : ℕ) (c : Calls events count) → Checks (c .image 0) 0
+      → (m n : ℕ) → m < n → n < count → Tells (c .reply m) 2 → Undisturbed c (suc m) n → Tells (c .reply n) 2 → UsesSlice c m n
+
 -- what the user signs
 pub record Demands : Type 0 where
   pub first : Demand1
   pub second : Demand2
   pub third : Demand3
+  pub request-2 : Request2

@@ -8,7 +8,7 @@ use Rattle.paper.specs.Queues.{empty, full}
 use Rattle.paper.specs.Flags.{error, pending, waits}
 use Rattle.paper.specs.Waking.{one-if}
 use Rattle.paper.specs.Services.{asked, fault-of, blocked, wakes}
-use Rattle.paper.specs.Events.{running}
+use Rattle.paper.specs.Events.{running, spent}
 use Rattle.paper.specs.declared.Task.{Task}
 use Rattle.paper.specs.declared.Shape.{Shape}
 use Rattle.paper.specs.declared.Queue.{Queue}
@@ -23,9 +23,10 @@ abbrev pub service-wakes : Fault → Bool → Woken → Woken
 service-wakes (Fault.Error e) stopped w = Woken.Nobody
 service-wakes Fault.Nothing stopped w = cond stopped Woken.Nobody w
 
+-- the one asked for, done with the clock fallen
 abbrev pub asked-wakes : Shape → List ℕ → Task → Asked → Woken
 asked-wakes s im i Asked.Nothing = Woken.Nobody
-asked-wakes s im i (Asked.For v) = service-wakes (fault-of s im i v) (blocked s im i v) (wakes s im i v)
+asked-wakes s im i (Asked.For v) = service-wakes (fault-of s (spent s im) i v) (blocked s (spent s im) i v) (wakes s (spent s im) i v)
 
 -- a tick wakes by rule 4 alone, where the rules before it do not apply
 abbrev pub tick-wakes : Shape → List ℕ → Task → Woken
