@@ -1,4 +1,3 @@
-pub mod Replies
 pub mod Folded
 pub mod Taken
 pub mod Once
