@@ -108,7 +108,7 @@ pub fn before_order(s: Shape, im: &mut [u16], x: Row, flags: u16, clock: u16) ->
         turn(s, im, t);
         return Reply::Accepted(Answer::TurnPassed(t));
     }
-    service(s, im, x, flags / PENDING)
+    service(s, im, x, clock, flags / PENDING)
 }
 
 // Whom an event wakes: a task, where its status is the one given.

@@ -12,7 +12,6 @@ use Rattle.paper.specs.Queues.{part-of, Has, count, appended, first, taken, emp
 use Rattle.paper.specs.Flags.{flags-of, cc-of, cc as cc-in, error, waits}
 use Rattle.paper.specs.Waking.{Outcome, outcome, accepted, refused, with-status, left, woken, one-if, with-woken, unless-full}
 use Rattle.paper.specs.Services.{asked, other, given, error-if, service-faulted, no-such-task, no-character, fault-of, buffer, blocks, blocked, awaited, waiting, delivered, printing, printing-if-idle, moves, moved, served, waits-for, wakes, finished, service}
-use Rattle.paper.specs.Events.{acting}
 use Rattle.paper.specs.declared.Task.{Task}
 use Rattle.paper.specs.declared.Shape.{Shape}
 use Rattle.paper.specs.declared.Queue.{Queue}
@@ -28,7 +27,7 @@ use Rattle.laws.specs.Sound.{Sound, appended-some}
 use Rattle.laws.specs.Frame.{Apart, frame-none, frame-put, frame-appended, kept-full}
 use Rattle.laws.specs.Changes.{device-parts, moved-parts, frame-delivered}
 use Rattle.waking.specs.Room.{Room, has-room}
-use Rattle.services.specs.Done.{done}
+use Rattle.services.specs.Done.{done, Serves}
 
 -- an outcome is its reply and its image
 pub outcomes : {r q : Reply} {m l : List ℕ} → r ≡ q → m ≡ l → outcome r m ≡ outcome q l
@@ -93,22 +92,22 @@ module _ (s : Shape) (im m : List ℕ) (i : Task) (w : ℕ) (h : Sound s im) (hi
 -- what a service comes to whose number is not wrong: the buffer first
 module _ (s : Shape) (im : List ℕ) (i : Task) (v : Service) (right : fault-of s im i v ≡ Fault.Nothing) (b : Bool) (eb : b ≡ blocked s im i v) where
   pub comes-to-wait : (o : Outcome) (p : ℕ) → b ≡ true → p ≡ awaited s im i v → o ≡ accepted (Answer.ServiceWaits i) (left s (with-status s im i (waits v) p))
-      → o ≡ service s im i v
+      → o ≡ service s im im i v
   unfolding service waiting
   comes-to-wait o p t ep eo = rw (right, ← eb, t, ← ep) eo
 
   -- then the word moves, and nobody is woken
-  pub comes-to-pass : (o : Outcome) → b ≡ false → wakes s im i v ≡ Woken.Nobody → o ≡ accepted (Answer.ServiceDone i) (done s im i (moved s im i v)) → o ≡ service s im i v
+  pub comes-to-pass : (o : Outcome) → b ≡ false → wakes s im i v ≡ Woken.Nobody → o ≡ accepted (Answer.ServiceDone i) (done s im i (moved s im i v)) → o ≡ service s im im i v
   unfolding service finished unless-full with-woken served done
   comes-to-pass o t nobody eo = rw (right, ← eb, t, nobody) eo
 
   -- or a task is, unless the ready queue is full
   module _ (t : b ≡ false) (j : Task) (one : wakes s im i v ≡ Woken.One j) where
-    pub comes-to-nothing : full s im Queue.Ready ≡ true → refused Refusal.ReadyFull im ≡ service s im i v
+    pub comes-to-nothing : full s im Queue.Ready ≡ true → refused Refusal.ReadyFull im ≡ service s im im i v
     unfolding service finished unless-full
     comes-to-nothing z = rw (right, ← eb, t, one, z)
 
-    pub comes-to-wake : (o : Outcome) → full s im Queue.Ready ≡ false → o ≡ accepted (Answer.ServiceDone i) (woken s (done s im i (moved s im i v)) j) → o ≡ service s im i v
+    pub comes-to-wake : (o : Outcome) → full s im Queue.Ready ≡ false → o ≡ accepted (Answer.ServiceDone i) (woken s (done s im i (moved s im i v)) j) → o ≡ service s im im i v
     unfolding service finished unless-full with-woken served done
     comes-to-wake o z eo = rw (right, ← eb, t, one, z) eo
 
@@ -138,7 +137,7 @@ module _ (s : Shape) (im : List ℕ) (i : Task) (k : ℕ) (ek : k ≡ at s im (r
   gets-from = rw (← ek)
 
   module _ (v : Service) (between : Between s im i v) where
-    pub unnamed : (o : Outcome) → s .n ≤ k → o ≡ accepted (Answer.ServiceFaulted i) (service-faulted s im i no-such-task) → o ≡ service s im i v
+    pub unnamed : (o : Outcome) → s .n ≤ k → o ≡ accepted (Answer.ServiceFaulted i) (service-faulted s im i no-such-task) → o ≡ service s im im i v
     unfolding service
     unnamed o h eo = rw (between .names, ← ek, le-leb (s .n) k h) eo
 
@@ -149,7 +148,7 @@ module _ (s : Shape) (im : List ℕ) (i : Task) (k : ℕ) (ek : k ≡ at s im (r
       buffered : b ≡ blocked s im i v
       buffered = rw (← eq) eb
 
-      pub other-waits : (o : Outcome) → b ≡ true → o ≡ accepted (Answer.ServiceWaits i) (left s (with-status s im i (waits v) k)) → o ≡ service s im i v
+      pub other-waits : (o : Outcome) → b ≡ true → o ≡ accepted (Answer.ServiceWaits i) (left s (with-status s im i (waits v) k)) → o ≡ service s im im i v
       other-waits o t eo = comes-to-wait s im i v right b buffered o k t (rw (between .awaits, ← ek)) eo
 
       module _ (t : b ≡ false) (a : Bool) (ea : a ≡ (eqb (at s im (status (task k))) (waits (counterpart v)) && eqb (at s im (peer (task k))) (i .0))) where
@@ -157,7 +156,7 @@ module _ (s : Shape) (im : List ℕ) (i : Task) (k : ℕ) (ek : k ≡ at s im (r
         unfolding waits-for
         test = rw (between .wakes-other, ← ek, ← ea)
 
-        pub moved-alone : (o : Outcome) → a ≡ false → o ≡ accepted (Answer.ServiceDone i) (done s im i (moves v s im i q)) → o ≡ service s im i v
+        pub moved-alone : (o : Outcome) → a ≡ false → o ≡ accepted (Answer.ServiceDone i) (done s im i (moves v s im i q)) → o ≡ service s im im i v
         moved-alone o ta eo =
             let nobody : wakes s im i v ≡ Woken.Nobody = test ∙ rw ta in
             comes-to-pass s im i v right b buffered o t nobody (rw (← eq) eo)
@@ -166,7 +165,7 @@ module _ (s : Shape) (im : List ℕ) (i : Task) (k : ℕ) (ek : k ≡ at s im (r
           one : wakes s im i v ≡ Woken.One (task k)
           one = test ∙ rw ta
 
-          pub no-room-left : (r : Reply) (out : List ℕ) → u ≡ true → r ≡ Reply.Refused Refusal.ReadyFull → out ≡ im → outcome r out ≡ service s im i v
+          pub no-room-left : (r : Reply) (out : List ℕ) → u ≡ true → r ≡ Reply.Refused Refusal.ReadyFull → out ≡ im → outcome r out ≡ service s im im i v
           no-room-left r out tu er eo = outcomes er eo ∙ comes-to-nothing s im i v right b buffered t (task k) one (sym eu ∙ tu)
 
           module _ (tu : u ≡ false) (r : Reply) (m : List ℕ) (em : outcome r m ≡ accepted (Answer.ServiceDone i) (done s im i (moves v s im i q))) where
@@ -174,7 +173,7 @@ module _ (s : Shape) (im : List ℕ) (i : Task) (k : ℕ) (ek : k ≡ at s im (r
             unfolding served done
             passed = rw (← eq) (ap (λ (o : Outcome). o .image) em)
 
-            pub moved-waking : (out : List ℕ) → out ≡ woken s m (task k) → outcome r out ≡ service s im i v
+            pub moved-waking : (out : List ℕ) → out ≡ woken s m (task k) → outcome r out ≡ service s im im i v
             unfolding served done
             moved-waking out eo =
                 comes-to-wake s im i v right b buffered t (task k) one (outcome r out) (sym eu ∙ tu)
@@ -200,7 +199,7 @@ module _ (s : Shape) (im m : List ℕ) (i : Task) (r : Reply) where
 
 -- output: R3 holds more than a character, or one
 module _ (s : Shape) (im : List ℕ) (i : Task) (w : ℕ) (ew : w ≡ given s im i) where
-  pub too-large : (o : Outcome) → most-character < w → o ≡ accepted (Answer.ServiceFaulted i) (service-faulted s im i no-character) → o ≡ service s im i Service.Output
+  pub too-large : (o : Outcome) → most-character < w → o ≡ accepted (Answer.ServiceFaulted i) (service-faulted s im i no-character) → o ≡ service s im im i Service.Output
   unfolding service
   too-large o h eo = rw (← ew, lt-ltb most-character w h) eo
 
@@ -214,9 +213,12 @@ module _ (s : Shape) (im : List ℕ) (i : Task) (w : ℕ) (ew : w ≡ given s im
   put-out m l out r f er ef em el eo = outcomes er (rw (← ew, ← em, ← el, ← ef) eo)
 
 -- the service of a number
-pub serves : (s : Shape) (im : List ℕ) (i : Task) (v : Service) (k p : ℕ) (o : Outcome) → p ≡ k → asked k ≡ Asked.For v → o ≡ service s im i v
-    → o ≡ acting s im i (asked p)
-serves s im i v k p o e a eo = rw (e, a) eo
+same-service : {v w : Service} → Asked.For v ≡ Asked.For w → v ≡ w
+same-service e = cc e
+
+pub serves : (s : Shape) (im : List ℕ) (i : Task) (v : Service) (k p : ℕ) (o : Outcome) → p ≡ k → asked k ≡ Asked.For v → o ≡ service s im im i v
+    → Serves s im i (asked p) o
+serves s im i v k p o e a eo w ew = eo ∙ ap (service s im im i) (same-service (sym a ∙ ap asked (sym e) ∙ ew))
 
 -- a number that is none of the first three is the last
 pub last-number : (p : ℕ) → (1 ≤ p) × (p ≤ 4) → ((Unit {0} × (p ≢ 1)) × (p ≢ 2)) × (p ≢ 3) → p ≡ 4

@@ -1,9 +1,9 @@
-// The services: what a pending one does for the first task, on a sound image. Each decides everything before it writes.
+// The services: what a pending one does for the first task, on a sound image. Each decides everything before it writes; the clock, which falls first, is put back where one is refused.
 ghost use mathlib.Core.Path.{_≡_};
 ghost use mathlib.Core.Bool.{false, _&&_};
 ghost use Prim.Native.Nat.{_<_, _≤_};
 ghost use lib.Dec.{eqb};
-ghost use Rattle.paper.specs.Image.{at, status as status-of, peer as peer-of};
+ghost use Rattle.paper.specs.Image.{at, clock as clock-cell, status as status-of, peer as peer-of};
 ghost use Rattle.paper.specs.Flags.{flags-of, cc, error};
 ghost use Rattle.paper.specs.Queues.{Has, appended, empty as empty-of, full as full-of};
 ghost use Rattle.paper.specs.Waking.{outcome, accepted, with-status as statused, left};
@@ -14,7 +14,7 @@ ghost use Rattle.paper.specs.declared.Queue.the-variants.{Ready, Output};
 ghost use Rattle.paper.specs.declared.Service.the-variants.{Send, Receive, Input, Output as Print};
 ghost use Rattle.laws.specs.Sound.{Sound};
 ghost use Rattle.words.specs.Spots.{Rowed};
-ghost use Rattle.services.specs.Done.{done};
+ghost use Rattle.services.specs.Done.{done, Serves};
 use connectives::both;
 use paper::ASK_INPUT;
 use paper::Answer;
@@ -169,7 +169,7 @@ fn send(s: Shape, im: &mut [u16], x: Row) -> Reply
     requires { ⌜ Sound s (now im) ⌝ }
     requires { ⌜ Rowed s x ⌝ }
     requires { ⌜ empty-of s (now im) Ready ≡ false ⌝ }
-    ensures { λ r. ⌜ outcome r (now (im .exit)) ≡ service-of s (now (im .entry)) (x .task) Send ⌝ }
+    ensures { λ r. ⌜ outcome r (now (im .exit)) ≡ service-of s (now (im .entry)) (now (im .entry)) (x .task) Send ⌝ }
     ensures { λ _. ⌜ Sound s (now (im .exit)) ⌝ }
 {
     let t = x.task;
@@ -196,7 +196,7 @@ fn receive(s: Shape, im: &mut [u16], x: Row) -> Reply
     requires { ⌜ Sound s (now im) ⌝ }
     requires { ⌜ Rowed s x ⌝ }
     requires { ⌜ empty-of s (now im) Ready ≡ false ⌝ }
-    ensures { λ r. ⌜ outcome r (now (im .exit)) ≡ service-of s (now (im .entry)) (x .task) Receive ⌝ }
+    ensures { λ r. ⌜ outcome r (now (im .exit)) ≡ service-of s (now (im .entry)) (now (im .entry)) (x .task) Receive ⌝ }
     ensures { λ _. ⌜ Sound s (now (im .exit)) ⌝ }
 {
     let t = x.task;
@@ -223,7 +223,7 @@ fn input(s: Shape, im: &mut [u16], x: Row) -> Reply
     requires { ⌜ Sound s (now im) ⌝ }
     requires { ⌜ Rowed s x ⌝ }
     requires { ⌜ empty-of s (now im) Ready ≡ false ⌝ }
-    ensures { λ r. ⌜ outcome r (now (im .exit)) ≡ service-of s (now (im .entry)) (x .task) Input ⌝ }
+    ensures { λ r. ⌜ outcome r (now (im .exit)) ≡ service-of s (now (im .entry)) (now (im .entry)) (x .task) Input ⌝ }
     ensures { λ _. ⌜ Sound s (now (im .exit)) ⌝ }
 {
     let t = x.task;
@@ -238,7 +238,7 @@ fn output(s: Shape, im: &mut [u16], x: Row) -> Reply
     requires { ⌜ Sound s (now im) ⌝ }
     requires { ⌜ Rowed s x ⌝ }
     requires { ⌜ empty-of s (now im) Ready ≡ false ⌝ }
-    ensures { λ r. ⌜ outcome r (now (im .exit)) ≡ service-of s (now (im .entry)) (x .task) Print ⌝ }
+    ensures { λ r. ⌜ outcome r (now (im .exit)) ≡ service-of s (now (im .entry)) (now (im .entry)) (x .task) Print ⌝ }
     ensures { λ _. ⌜ Sound s (now (im .exit)) ⌝ }
 {
     let t = x.task;
@@ -256,19 +256,39 @@ fn output(s: Shape, im: &mut [u16], x: Row) -> Reply
     Reply::Accepted(Answer::ServiceDone(t))
 }
 
-// The service that the first task has pending, by its number.
-pub fn service(s: Shape, im: &mut [u16], x: Row, pending: u16) -> Reply
+// The service of a number.
+fn serve(s: Shape, im: &mut [u16], x: Row, number: u16) -> Reply
     requires { ⌜ Sound s (now im) ⌝ }
     requires { ⌜ Rowed s x ⌝ }
     requires { ⌜ empty-of s (now im) Ready ≡ false ⌝ }
-    requires { ⌜ (1 ≤ pending) × (pending ≤ 4) ⌝ }
-    ensures { λ r. ⌜ outcome r (now (im .exit)) ≡ acting s (now (im .entry)) (x .task) (asked-by pending) ⌝ }
+    requires { ⌜ (1 ≤ number) × (number ≤ 4) ⌝ }
+    ensures { λ r. ⌜ Serves s (now (im .entry)) (x .task) (asked-by number) (outcome r (now (im .exit))) ⌝ }
     ensures { λ _. ⌜ Sound s (now (im .exit)) ⌝ }
 {
-    match pending {
+    match number {
         SEND => send(s, im, x),
         RECEIVE => receive(s, im, x),
         ASK_INPUT => input(s, im, x),
         _ => output(s, im, x),
     }
+}
+
+// Rule 4: the clock falls by 1, then the service that the first task has pending, by its number; a refused one leaves the clock as it was.
+pub fn service(s: Shape, im: &mut [u16], x: Row, clock: u16, pending: u16) -> Reply
+    requires { ⌜ Sound s (now im) ⌝ }
+    requires { ⌜ Rowed s x ⌝ }
+    requires { ⌜ empty-of s (now im) Ready ≡ false ⌝ }
+    requires { ⌜ clock ≡ at s (now im) clock-cell ⌝ }
+    requires { ⌜ 0 < clock ⌝ }
+    requires { ⌜ (1 ≤ pending) × (pending ≤ 4) ⌝ }
+    ensures { λ r. ⌜ outcome r (now (im .exit)) ≡ acting s (now (im .entry)) (x .task) (asked-by pending) ⌝ }
+    ensures { λ _. ⌜ Sound s (now (im .exit)) ⌝ }
+{
+    let left = clock - 1;
+    put(s, im, Spot::Clock, left);
+    let r = serve(s, im, x, pending);
+    if let Reply::Refused(_) = r {
+        put(s, im, Spot::Clock, clock);
+    }
+    r
 }
