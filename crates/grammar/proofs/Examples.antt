@@ -1,14 +1,17 @@
--- The page's example, and one small text for each kind of refusal, as one statement. Assumes nothing.
+-- The page's example, one small text for each kind of refusal, and small lists printed, as one statement. Assumes nothing.
 use mathlib.Core.Path.{_≡_, refl}
 use mathlib.Core.List.{List, [], _∷_}
 use Prim.Native.Nat.{ℕ}
 use Prim.Native.String.{String}
+use Rattle.paper.specs.Runner.{decimal as in-digits}
 use Rattle.grammar.specs.Tokens.{bytes, lines, first-line, tokens-on, tokens, same}
 use Rattle.grammar.specs.Kept.{kept-words, kept-in, kept-as}
 use Rattle.grammar.specs.Sums.{find, decimal, sum, product, term, sum-of}
 use Rattle.grammar.specs.Lines.{names-line, label-of, size-of, register, given}
 use Rattle.grammar.specs.Texts.{names-given, names-fault, labels-given, script-fault, script-words, last-line, program, judged, stored}
+use Rattle.grammar.specs.Printing.{named-in, named-as, printed, measured, printing, inscribed}
 use Rattle.grammar.specs.declared.Judged.{Judged}
+use Rattle.grammar.specs.declared.Printing.{Printing}
 use Rattle.grammar.specs.declared.Refusal.{Refusal}
 use Rattle.grammar.specs.declared.Text.{Text}
 
@@ -62,9 +65,26 @@ pub record Examples : Type 0 where
   -- a refusal alters no word of the target, and words past the answer stay
   pub unaltered : stored (comes "" "1\n(") (program [] (bytes "1\n(")) (7 ∷ 8 ∷ []) ≡ (7 ∷ 8 ∷ [])
   pub words-past : stored (comes "" "1") (program [] (bytes "1")) (7 ∷ 8 ∷ []) ≡ (1 ∷ 8 ∷ [])
+  -- the page's nine words, printed; an order of each kind of operands
+  pub page : printed (4656 ∷ 1076 ∷ 336 ∷ 19 ∷ 3381 ∷ 3856 ∷ 0 ∷ 4 ∷ 2 ∷ []) ≡ bytes "input\nstore r3 r4\nload r5 19\ncompare r3 r5\njumplt 0\n4\n2\n"
+  pub orders : printed (4096 ∷ 65535 ∷ 4352 ∷ 375 ∷ 368 ∷ 10 ∷ []) ≡ bytes "call 65535\nreturn\n375\nload r7 10\n"
+  -- numbers: a register 8, a field that is not used, condition 3, an unknown op, services 0 and 5
+  pub register-8 : printed (640 ∷ 520 ∷ []) ≡ bytes "640\n520\n"
+  pub unused : printed (257 ∷ 3585 ∷ 3600 ∷ 4353 ∷ 4625 ∷ []) ≡ bytes "257\n3585\n3600\n4353\n4625\n"
+  pub unknown : printed (3888 ∷ 0 ∷ 4864 ∷ 65535 ∷ 4608 ∷ 4688 ∷ []) ≡ bytes "3888\n0\n4864\n65535\n4608\n4688\n"
+  -- a lone first word; a second word that would be an order by itself; no words
+  pub lone : printed (4352 ∷ 3584 ∷ []) ≡ bytes "return\n3584\n"
+  pub second : printed (3584 ∷ 4352 ∷ []) ≡ bytes "jump 4352\n"
+  pub no-words : printed [] ≡ []
+  -- how many bytes it needs; a buffer that just fits, one that is a byte short, and the bytes past the text
+  pub needs : measured (4352 ∷ 7 ∷ []) ≡ Printing.Bytes 9
+  pub fits-buffer : printing (4352 ∷ 7 ∷ []) 9 ≡ Printing.Bytes 9
+  pub short : printing (4352 ∷ 7 ∷ []) 8 ≡ Printing.Refused Refusal.NoRoom
+  pub none-altered : inscribed (printing (7 ∷ []) 1) (printed (7 ∷ [])) (1 ∷ []) ≡ (1 ∷ [])
+  pub bytes-past : inscribed (printing (7 ∷ []) 3) (printed (7 ∷ [])) (1 ∷ 2 ∷ 3 ∷ []) ≡ (55 ∷ 10 ∷ 3 ∷ [])
 
 pub examples : Examples
-unfolding bytes lines first-line tokens-on tokens same kept-words kept-in kept-as find decimal sum product term sum-of names-line label-of size-of register given names-given names-fault labels-given script-fault script-words last-line program judged
+unfolding bytes lines first-line tokens-on tokens same kept-words kept-in kept-as find decimal sum product term sum-of names-line label-of size-of register given names-given names-fault labels-given script-fault script-words last-line program judged named-in named-as printed measured printing in-digits
 examples =
     record {
       words = refl;
@@ -91,4 +111,17 @@ examples =
       forward = refl;
       unaltered = refl;
       words-past = refl;
+      page = refl;
+      orders = refl;
+      register-8 = refl;
+      unused = refl;
+      unknown = refl;
+      lone = refl;
+      second = refl;
+      no-words = refl;
+      needs = refl;
+      fits-buffer = refl;
+      short = refl;
+      none-altered = refl;
+      bytes-past = refl;
     }

@@ -102,3 +102,9 @@ pub enum Translation {
     Words(usize),
     Refused(Refusal, Text),
 }
+
+// What printing a list of words answers: a count of bytes, or a refusal.
+pub enum Printing {
+    Bytes(usize),
+    Refused(Refusal),
+}
