@@ -16,3 +16,4 @@ pub mod Orders
 pub mod Agree
 pub mod Changes
 pub mod Events
+pub mod Decimal
