@@ -103,12 +103,12 @@ lower-nothing (Flaw.Is r) (Flaw.Is q) e = absurd (either (ltb (number q) (number
     either false z = let x : _≡_ {A = ℕ} 0 1 = cc in omega arith
 
 -- a word is the same as itself, and as no other
-same-self : (w : List ℕ) → same w w ≡ true
+pub same-self : (w : List ℕ) → same w w ≡ true
 unfolding same
 same-self [] = refl
 same-self (b ∷ w) = rw (eq-eqb b b refl, same-self w)
 
-same-is : (v w : List ℕ) → same v w ≡ true → v ≡ w
+pub same-is : (v w : List ℕ) → same v w ≡ true → v ≡ w
 unfolding same
 same-is [] [] e = refl
 same-is [] (b ∷ w) e = absurd (let z : _≡_ {A = ℕ} 0 1 = cc in omega arith)

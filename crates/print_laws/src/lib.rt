@@ -1,0 +1,1 @@
+// Laws of printing: definitions and theorems in specs/, and there is no code.
