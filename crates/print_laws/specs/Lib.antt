@@ -1,2 +1,3 @@
 pub mod Sweep
 pub mod Digits
+pub mod Spelt
