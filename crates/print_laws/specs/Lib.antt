@@ -4,3 +4,4 @@ pub mod Digits
 pub mod Spelt
 pub mod Back
 pub mod Proved
+pub mod Orders
