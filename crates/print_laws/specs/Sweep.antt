@@ -1,6 +1,6 @@
 -- A test of each word and the order that it is the first of, tried at the words that orders begin with. Assumes nothing.
 use mathlib.Core.Path.{_≡_, refl, ap, sym, _∙_}
-use mathlib.Core.Bool.{Bool, true, false, _&&_, So, and-eq-true-iff}
+use mathlib.Core.Bool.{Bool, true, false, _&&_, So, and-eq-true-iff, true≢false}
 use mathlib.Core.Logic.{dite}
 use mathlib.Core.List.{List, [], _∷_}
 use Prim.Native.Nat.{ℕ, _+_, _*_, _/_, _%_, _<_, _≤_}
@@ -107,8 +107,8 @@ same-named (Named.order l o) (Named.order m p) = same l m && eqb (operands-numbe
 
 pub named-same : (x y : Named) → same-named x y ≡ true → x ≡ y
 named-same Named.none Named.none e = refl
-named-same Named.none (Named.order m p) e = absurd (let z : _≡_ {A = ℕ} 0 1 = cc in omega arith)
-named-same (Named.order l o) Named.none e = absurd (let z : _≡_ {A = ℕ} 0 1 = cc in omega arith)
+named-same Named.none (Named.order m p) e = absurd (true≢false (sym e))
+named-same (Named.order l o) Named.none e = absurd (true≢false (sym e))
 named-same (Named.order l o) (Named.order m p) e =
     let both = and-eq-true-iff (same l m) (eqb (operands-number o) (operands-number p)) .0 e in
     let names : l ≡ m = same-is l m (both .0) in
