@@ -1,0 +1,2 @@
+mod Decimals
+mod Bytes
