@@ -22,6 +22,7 @@ pub mod numbers;
 pub mod ordering;
 pub mod orders;
 pub mod plan;
+pub mod printing;
 pub mod queue;
 pub mod rng;
 pub mod rules;

@@ -2,7 +2,7 @@
 
 mod code;
 
-pub use code::{Order, LAST_OP};
+pub use code::{Order, Reckoning, LAST_OP};
 
 use crate::image::Task;
 use std::cmp::Ordering;
