@@ -17,6 +17,7 @@ pub mod happening;
 pub mod image;
 pub mod junk;
 pub mod layout;
+pub mod lists;
 pub mod lively;
 pub mod numbers;
 pub mod ordering;

@@ -166,4 +166,13 @@ mod tests {
             returns(&[word, 272]);
         }
     }
+
+    #[test]
+    fn lists_translate_back() {
+        for case in crate::lists::collect(5, 30) {
+            if case.words.len() <= MOST_WORDS {
+                returns(&case.words);
+            }
+        }
+    }
 }
