@@ -5,14 +5,14 @@
 use model::events::Answer;
 use model::happening::many::{self, Sights};
 use model::rng::Rng;
-use model::{building, cases, happening, ordering, runner_files, running, texts, vectors, wrong};
+use model::{building, cases, happening, lists, ordering, runner_files, running, texts, vectors, wrong};
 use std::fs::{self, File};
 use std::io::{BufWriter, Write};
 use std::path::Path;
 use std::process::ExitCode;
 
 const USAGE: &str = "usage: model check-vectors|build-vectors|order-vectors|event-vectors|\
-                     run-vectors|text-vectors|many-events SEED COUNT FILE\n       model runner-cases FOLDER";
+                     run-vectors|text-vectors|print-vectors|many-events SEED COUNT FILE\n       model runner-cases FOLDER";
 
 /// The numbers that an event in a file can have. 10 is not among them: on a
 /// good image no wake finds the ready queue full.
@@ -21,13 +21,15 @@ const EVENT_NUMBERS: [u16; 4] = [0, 7, 8, 9];
 const RUN_NUMBERS: [u16; 10] = [0, 1, 2, 3, 4, 5, 6, 7, 8, 9];
 /// The numbers that a translation can have.
 const TEXT_NUMBERS: [u16; 5] = [0, 13, 14, 15, 16];
+/// The numbers that a print can have.
+const PRINT_NUMBERS: [u16; 2] = [0, 16];
 /// The kinds of answer.
 const ANSWER_KINDS: [u16; 10] = [0, 1, 2, 3, 4, 5, 6, 7, 8, 9];
 
 /// Of so many events each answer and each number must be often among them.
 const A_GREAT_MANY: usize = 1_000_000;
 const OFTEN: usize = 1000;
-/// So many translations of each number are in every file of them.
+/// So many translations, or prints, of each number are in every file of them.
 const SOME: usize = 20;
 
 /// Values, each with how many cases there are of it.
@@ -66,6 +68,7 @@ fn make_file(command: &str, seed: u64, count: usize, file: &str) -> Result<(), S
         "event-vectors" => event_vectors(seed, count, file),
         "run-vectors" => run_vectors(seed, count, file),
         "text-vectors" => text_vectors(seed, count, file),
+        "print-vectors" => print_vectors(seed, count, file),
         "many-events" => many_events(seed, count, file),
         _ => Err(USAGE.into()),
     }
@@ -130,6 +133,17 @@ fn text_vectors(seed: u64, count: usize, file: &str) -> Result<(), String> {
     let cases = texts::collect(seed, count);
     write(file, &cases, vectors::text_record, &wrong::translations())?;
     let numbers = tally(&TEXT_NUMBERS, cases.iter().map(|case| (case.translation.number, 1)));
+    report("number", &numbers);
+    total(cases.len());
+    require_each("number", &numbers, SOME)
+}
+
+/// Writes the vectors of prints and prints how many there are of each number;
+/// fails where there are too few of one.
+fn print_vectors(seed: u64, count: usize, file: &str) -> Result<(), String> {
+    let cases = lists::collect(seed, count);
+    write(file, &cases, vectors::print_record, &wrong::prints())?;
+    let numbers = tally(&PRINT_NUMBERS, cases.iter().map(|case| (case.number, 1)));
     report("number", &numbers);
     total(cases.len());
     require_each("number", &numbers, SOME)

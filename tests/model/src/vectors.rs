@@ -93,10 +93,30 @@
 //! | 16.. | the names' bytes, two to a word, low byte first, a last odd one with 0 |
 //! | then | the script's bytes in the same way |
 //! | then | the script's words, from the target's first place on |
+//!
+//! A record of kind 8, a list of words printed back, and the size of its text:
+//!
+//! | word of a record | holds |
+//! |---|---|
+//! | 0 | kind of the record, 8 |
+//! | 1 | expected number of the print: 0 or 16 |
+//! | 2, 3 | count of the list's words |
+//! | 4, 5 | how many of them are stored |
+//! | 6, 7 | count of the buffer's bytes |
+//! | 8 | salt: before the call, byte k of the buffer is (31k + salt) mod 256 |
+//! | 9 | expected number of the size call: 0 or 16 |
+//! | 10, 11 | the bytes that the size call gives, 0 where it refuses |
+//! | 12, 13 | count of the text's bytes, 0 where the print is refused |
+//! | 14, 15 | how many of them are stored |
+//! | 16.. | the stored words of the list |
+//! | then | the stored bytes of the text, two to a word, as in kind 7 |
+//!
+//! What is stored of a list or of a text is all of it, or a first part that
+//! gives all of it when it is repeated.
 
 use crate::changes::Change;
 use crate::layout::word;
-use crate::{building, cases, happening, numbers, ordering, running, texts};
+use crate::{building, cases, happening, lists, numbers, ordering, running, texts};
 
 /// The kind of record that holds a list of words and the check's number.
 pub const CHECK: u16 = 1;
@@ -112,6 +132,8 @@ pub const EVENT: u16 = 5;
 pub const RUN: u16 = 6;
 /// The kind of record that holds a script, its names and their translation.
 pub const TEXT: u16 = 7;
+/// The kind of record that holds a list and what it is printed to.
+pub const PRINT: u16 = 8;
 
 /// Added to the kind of a record that is wrong on purpose.
 const WRONG: u16 = 256;
@@ -122,6 +144,9 @@ pub const ANSWER_TASK_AT: usize = 8;
 
 /// The most changes of one order or one event.
 pub const MOST_CHANGES: usize = 16;
+
+/// The longest part that is repeated for a list or a text.
+const LONGEST_PART: usize = 32;
 
 /// What stands for both words of the answer that a refused event has not.
 const NO_ANSWER: u16 = 65535;
@@ -239,6 +264,26 @@ pub fn text_record(case: &texts::Case) -> Vec<u16> {
     words.extend(packed(&case.script));
     words.extend(&found.words);
     words
+}
+
+/// The words of a record of kind 8.
+pub fn print_record(case: &lists::Case) -> Vec<u16> {
+    let (list, text) = (repeated_part(&case.words), repeated_part(&case.text));
+    let mut words = vec![PRINT, case.number];
+    words.extend([case.words.len(), list.len(), case.room].map(count).concat());
+    words.extend([case.salt, case.size_number]);
+    words.extend([case.needed, case.text.len(), text.len()].map(count).concat());
+    words.extend(list);
+    words.extend(packed(text));
+    words
+}
+
+/// The shortest first part that gives all when it is repeated, where that is
+/// short; else all.
+fn repeated_part<T: PartialEq>(all: &[T]) -> &[T] {
+    let gives_all = |part: &usize| all.iter().zip(&all[*part..]).all(|(early, late)| early == late);
+    let shortest = (1..=all.len().min(LONGEST_PART)).find(gives_all);
+    &all[..shortest.unwrap_or(all.len())]
 }
 
 /// Bytes two to a word, low byte first; a last odd one stands with 0.
@@ -392,5 +437,34 @@ mod tests {
         let by_hand: [&[u16]; 3] =
             [&[7, 14, 3, 0, 6, 0, 4, 0, 500, 1, 2, 0, 3, 0, 0, 0], &[0x3D61, 0x0039], &[0x0A61, 0x3B62, 0x0AFF]];
         assert_eq!(text_words(b"a=9", b"a\nb;\xFF\n", 4), by_hand.concat());
+    }
+    fn print_words(list: &[u16], room: usize) -> Vec<u16> {
+        print_record(&lists::Case::judged(list.to_vec(), room, 500))
+    }
+
+    #[test]
+    fn a_printed_list_has_its_text_after_its_words() {
+        let by_hand: [&[u16]; 3] =
+            [&[8, 0, 2, 0, 2, 0, 4, 1, 500, 0, 7, 0, 7, 0, 7, 0], &[7, 6200], &[0x0A37, 0x3236, 0x3030, 0x000A]];
+        assert_eq!(print_words(&[7, 6200], 65540), by_hand.concat());
+        assert_eq!(print_words(&[], 0), [8, 0, 0, 0, 0, 0, 0, 0, 500, 0, 0, 0, 0, 0, 0, 0]);
+    }
+
+    #[test]
+    fn a_refused_list_ends_with_its_words() {
+        let short = [8, 16, 2, 0, 2, 0, 3, 0, 500, 0, 6, 0, 0, 0, 0, 0, 7, 100];
+        assert_eq!(print_words(&[7, 100], 3), short);
+        let long = [8, 16, 1, 1, 1, 0, 3, 0, 500, 16, 0, 0, 0, 0, 0, 0, 7];
+        assert_eq!(print_words(&[7; 65537], 3), long);
+    }
+
+    #[test]
+    fn a_part_that_is_repeated_is_stored_once() {
+        assert_eq!(print_words(&[7, 8, 7, 8, 7], 10)[..16], [8, 0, 5, 0, 2, 0, 10, 0, 500, 0, 10, 0, 10, 0, 4, 0]);
+        assert_eq!(print_words(&[7, 8, 7, 8, 7], 10)[16..], [7, 8, 0x0A37, 0x0A38]);
+        assert_eq!(repeated_part::<u16>(&[]), []);
+        assert_eq!(repeated_part(&[5, 5, 5]), [5]);
+        assert_eq!(repeated_part(&[5, 5, 6]), [5, 5, 6]);
+        assert_eq!(repeated_part(&[5, 6, 5]), [5, 6]);
     }
 }

@@ -6,9 +6,10 @@ use crate::events::Answer;
 use crate::happening::scene::Scene;
 use crate::image::Kernel;
 use crate::numbers;
+use crate::printing::MOST_WORDS;
 use crate::translate::SCRIPT;
 use crate::vectors::{self, marked};
-use crate::{building, cases, happening, ordering, running, texts};
+use crate::{building, cases, happening, lists, ordering, running, texts};
 
 /// The paper's plan, the words of its image, and a word that none of them is.
 const PLAN: [u16; 9] = [1, 2, 1, 1, 1, 4, 2, 4656, 4672];
@@ -221,6 +222,46 @@ pub fn translations() -> Vec<Vec<u16>> {
     wrong.iter().flatten().map(|case| marked(vectors::text_record(case))).collect()
 }
 
+/// The records of prints: both numbers, both counts of bytes, and bytes of the
+/// text.
+pub fn prints() -> Vec<Vec<u16>> {
+    let judged = |words: &[u16], room| lists::Case::judged(words.into(), room, OTHER);
+    let wrong = [
+        // Eight bytes of text, and room for more.
+        each(
+            &judged(&[4656, 7], 10),
+            [
+                |case| case.number = numbers::ROOM,
+                |case| case.size_number = numbers::ROOM,
+                |case| case.needed -= 1,
+                |case| case.needed += 1,
+                |case| case.needed += HIGH,
+                |case| case.text[0] = b'o',
+                |case| case.text[4] = b'T',
+                |case| *case.text.last_mut().expect("a last byte") = b'\r',
+                |case| case.text.truncate(case.text.len() - 1),
+                |case| case.text.push(lists::filled(case.room, OTHER)[case.text.len()]),
+            ],
+        ),
+        // As it is said, its last line is the first again.
+        each(&judged(&[7, 7, 7, 8], 8), [|case| case.text[6] = b'7']),
+        each(
+            &judged(&[4656, 7], 7),
+            [
+                |case| case.number = numbers::GOOD,
+                |case| case.size_number = numbers::ROOM,
+                |case| case.needed = 7,
+                |case| case.text = lists::filled(1, OTHER),
+            ],
+        ),
+        each(
+            &judged(&[0; MOST_WORDS + 1], 5),
+            [|case| case.number = numbers::GOOD, |case| case.size_number = numbers::GOOD, |case| case.needed = 5],
+        ),
+    ];
+    wrong.iter().flatten().map(|case| marked(vectors::print_record(case))).collect()
+}
+
 #[cfg(test)]
 mod tests {
     use super::*;
@@ -228,7 +269,7 @@ mod tests {
     #[test]
     fn a_wrong_record_is_marked_and_stands_after_its_own_image() {
         let image = papers().encode().len();
-        for (kind, records) in [(1, checks()), (2, builds()), (7, translations())] {
+        for (kind, records) in [(1, checks()), (2, builds()), (7, translations()), (8, prints())] {
             assert!(records.iter().all(|words| words[0] == 256 + kind));
         }
         for (kind, records) in [(4, orders()), (5, events())] {
@@ -248,5 +289,21 @@ mod tests {
 
     fn word_of_target(place: usize) -> u16 {
         ((31 * place + usize::from(OTHER)) % 65536) as u16
+    }
+    /// One byte more that is the buffer's own: only the count is wrong.
+    #[test]
+    fn the_byte_past_a_text_is_the_buffers_own() {
+        let records = prints();
+        let [.., shorter, longer] = &records[..10] else { panic!("ten records of one text") };
+        assert_eq!((shorter[12], longer[12]), (7, 9));
+        assert_eq!(longer.last(), Some(&((31 * 8 + OTHER) % 256)));
+    }
+
+    /// A part of the text is stored, and only a byte past it is wrong.
+    #[test]
+    fn the_wrong_byte_of_a_text_may_not_be_stored() {
+        let record = &prints()[10];
+        assert_eq!(record[12..16], [8, 0, 2, 0]);
+        assert_eq!(record.last(), Some(&0x0A37));
     }
 }
