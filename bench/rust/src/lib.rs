@@ -1,5 +1,6 @@
 //! The baseline in safe Rust: the paper's kernel, in place on an image of
-//! 16-bit words. The image is the only state. Beside it a translator of texts.
+//! 16-bit words. The image is the only state. Beside it a translator of texts
+//! and a printer.
 #![forbid(unsafe_code)]
 
 mod check;
@@ -8,15 +9,17 @@ mod kernel;
 mod layout;
 mod orders;
 mod plans;
+mod printing;
 mod queues;
 mod runs;
 mod services;
 mod texts;
 
 /// What the calls come to, as the product tells it.
-pub use ::kernel::c::{Ran, Size, Told, Translated};
+pub use ::kernel::c::{Printed, Ran, Size, Told, Translated};
 pub use check::check;
 pub use plans::{build, size};
+pub use printing::{print, print_size};
 pub use runs::{event, run};
 pub use texts::{translate, translate_or_name, Refused};
 
