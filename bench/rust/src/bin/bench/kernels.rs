@@ -1,9 +1,16 @@
 //! The kernels side by side, each behind the same calls.
 
-use baseline::{Ran, Size, Told, Translated};
+use baseline::{Printed, Ran, Size, Told, Translated};
 
-/// Translates names and a script to words in a target.
-pub type Translate = fn(&[u8], &[u8], &mut [u16]) -> Translated;
+/// A kernel's calls on texts.
+#[derive(Clone, Copy)]
+pub struct OnTexts {
+    /// Translates names and a script to words in a target.
+    pub translate: fn(&[u8], &[u8], &mut [u16]) -> Translated,
+    /// Prints words as a text in a buffer.
+    pub print: fn(&[u16], &mut [u8]) -> Printed,
+    pub print_size: fn(&[u16]) -> Printed,
+}
 
 /// A kernel's calls.
 #[derive(Clone, Copy)]
@@ -14,8 +21,8 @@ pub struct Kernel {
     pub build: fn(&[u16], &mut [u16]) -> u16,
     pub event: fn(&mut [u16], [u16; 3]) -> Told,
     pub run: fn(&mut [u16], &[u16]) -> Ran,
-    /// Not every kernel has a translator.
-    pub translate: Option<Translate>,
+    /// Not every kernel has them.
+    pub texts: Option<OnTexts>,
 }
 
 /// Declares the calls of a baseline in C.
@@ -88,6 +95,16 @@ fn translate_in_product(names: &[u8], script: &[u8], target: &mut [u16]) -> Tran
     unsafe { kernel::c::kernel_translate(names.as_ptr(), names.len(), script.as_ptr(), script.len(), words, room) }
 }
 
+fn print_in_product(words: &[u16], text: &mut [u8]) -> Printed {
+    // SAFETY: pointer and count are those of one slice, twice.
+    unsafe { kernel::c::kernel_print(words.as_ptr(), words.len(), text.as_mut_ptr(), text.len()) }
+}
+
+fn print_size_in_product(words: &[u16]) -> Printed {
+    // SAFETY: pointer and count are those of one slice.
+    unsafe { kernel::c::kernel_print_size(words.as_ptr(), words.len()) }
+}
+
 fn event_in_rust(image: &mut [u16], [kind, device, character]: [u16; 3]) -> Told {
     baseline::event(image, kind, device, character)
 }
@@ -100,7 +117,11 @@ const PRODUCT: Kernel = Kernel {
     build: product::build,
     event: product::event,
     run: product::run,
-    translate: Some(translate_in_product),
+    texts: Some(OnTexts {
+        translate: translate_in_product,
+        print: print_in_product,
+        print_size: print_size_in_product,
+    }),
 };
 
 /// The kernel in safe Rust.
@@ -111,19 +132,12 @@ pub const RUST: Kernel = Kernel {
     build: baseline::build,
     event: event_in_rust,
     run: baseline::run,
-    translate: Some(baseline::translate),
+    texts: Some(OnTexts { translate: baseline::translate, print: baseline::print, print_size: baseline::print_size }),
 };
 
 /// The kernel in C, from order to order by labels as values.
-const C: Kernel = Kernel {
-    name: "C",
-    check: c::check,
-    size: c::size,
-    build: c::build,
-    event: c::event,
-    run: c::run,
-    translate: None,
-};
+const C: Kernel =
+    Kernel { name: "C", check: c::check, size: c::size, build: c::build, event: c::event, run: c::run, texts: None };
 
 /// The same, from order to order by one switch: what labels alone bring.
 const SWITCH: Kernel = Kernel {
@@ -133,7 +147,7 @@ const SWITCH: Kernel = Kernel {
     build: switch::build,
     event: switch::event,
     run: switch::run,
-    translate: None,
+    texts: None,
 };
 
 /// The product, then the two baselines, then the switch form of one of them.
@@ -141,7 +155,7 @@ pub fn all() -> Vec<Kernel> {
     vec![PRODUCT, RUST, C, SWITCH]
 }
 
-/// Those of them that translate: the last is the baseline in Rust.
-pub fn translators() -> Vec<Kernel> {
-    all().into_iter().filter(|kernel| kernel.translate.is_some()).collect()
+/// Those of them that translate and print: the last is the baseline in Rust.
+pub fn with_texts() -> Vec<Kernel> {
+    all().into_iter().filter(|kernel| kernel.texts.is_some()).collect()
 }

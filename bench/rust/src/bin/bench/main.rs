@@ -2,7 +2,9 @@
 //! vectors.
 
 mod assembler;
+mod chance;
 mod kernels;
+mod lists;
 mod measure;
 mod picture;
 mod programs;
@@ -68,9 +70,9 @@ fn measure_all(svg: &str) -> Result<(), String> {
     fs::write(svg, picture::picture(&names, &rows)).map_err(|error| format!("{svg}: {error}"))
 }
 
-/// Measures the translations of texts and prints their table.
+/// Measures the translations of texts and the printing, and prints their table.
 fn measure_texts(names: &[&str]) -> Result<(), String> {
-    let translators = kernels::translators();
+    let translators = kernels::with_texts();
     println!("Texts: nanoseconds a line, the least of {} rounds.", measure::ROUNDS);
     println!("{}", report::heading(names, "Rust"));
     for workload in workloads::texts() {

@@ -1,5 +1,6 @@
 //! The texts of the workloads, made by chance from a seed.
 
+use crate::chance::Chance;
 use std::fmt::Write;
 
 /// A list of names, and a script that uses them.
@@ -101,20 +102,6 @@ fn given_names(count: usize, seed: u64) -> String {
     text
 }
 
-/// Numbers by chance, the same from the same seed.
-struct Chance(u64);
-
-impl Chance {
-    fn below(&mut self, limit: usize) -> usize {
-        self.0 = self.0.wrapping_mul(6364136223846793005).wrapping_add(1442695040888963407);
-        (self.0 >> 33) as usize % limit
-    }
-
-    fn of<'a>(&mut self, all: &[&'a str]) -> &'a str {
-        all[self.below(all.len())]
-    }
-}
-
 /// A mixed script so far.
 struct Maker {
     chance: Chance,
@@ -131,7 +118,7 @@ impl Maker {
         }
         let body = match self.chance.below(100) {
             0..8 => String::new(),
-            8..16 => self.chance.of(&COMMENTS).into(),
+            8..16 => (*self.chance.of(&COMMENTS)).into(),
             16..36 => format!("    load r{} {}", self.chance.below(8), self.sum()),
             36..72 => self.two_registers(),
             72..88 => format!("\t{} {}", self.chance.of(&JUMPS), self.aim()),

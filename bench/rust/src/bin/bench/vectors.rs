@@ -1,7 +1,7 @@
 //! The model's vectors, compared with what each kernel does.
 
-use crate::kernels::Kernel;
-use baseline::Size;
+use crate::kernels::{Kernel, OnTexts};
+use baseline::{Printed, Size};
 use std::fs;
 
 type Outcome = Result<(), String>;
@@ -10,7 +10,8 @@ type Outcome = Result<(), String>;
 const WRONG: u16 = 256;
 
 /// Compares a kernel with every record of a file, and with none that is wrong
-/// on purpose may it agree. Gives how many there were.
+/// on purpose may it agree. Gives how many there were; a kernel without calls on
+/// texts has none in a file of prints.
 pub fn compare(kernel: &Kernel, file: &str) -> Result<usize, String> {
     let bytes = fs::read(file).map_err(|error| format!("{file}: {error}"))?;
     let words: Vec<u16> = bytes.chunks_exact(2).map(|pair| u16::from_le_bytes([pair[0], pair[1]])).collect();
@@ -28,6 +29,10 @@ pub fn compare(kernel: &Kernel, file: &str) -> Result<usize, String> {
             }
             5 => reader.event(kernel),
             6 => reader.run(kernel),
+            8 => match kernel.texts {
+                Some(texts) => reader.print(texts),
+                None => return Ok(0),
+            },
             _ => Err("a kind that is not known".into()),
         };
         cases += 1;
@@ -63,6 +68,12 @@ impl<'a> Reader<'a> {
         words
     }
 
+    /// So many bytes, two to a word; the high byte of a last odd one is left.
+    fn bytes(&mut self, count: usize) -> Vec<u8> {
+        let words = self.words(count.div_ceil(2));
+        words.iter().flat_map(|word| word.to_le_bytes()).take(count).collect()
+    }
+
     /// The image that stands with so many pairs of place and word changed.
     fn changed(&mut self, pairs: usize) -> Vec<u16> {
         let mut image = self.image.clone();
@@ -95,7 +106,7 @@ impl<'a> Reader<'a> {
         let mut target: Vec<u16> = (0..target_words).map(|k| (31 * k + salt) as u16).collect();
         let after = if expected == 0 { self.words(target_words).to_vec() } else { target.clone() };
         same("number", (kernel.build)(&plan, &mut target), expected)?;
-        same_words(&target, &after)?;
+        same_units("word", &target, &after)?;
         same("size", (kernel.size)(&plan), size)
     }
 
@@ -107,7 +118,7 @@ impl<'a> Reader<'a> {
         let after = self.changed(changes);
         let told = (kernel.event)(&mut self.image, [event[0], event[1], event[2]]);
         same("number and answer", [told.number, told.kind, told.task], [expected, answer[0], answer[1]])?;
-        same_words(&self.image, &after)
+        same_units("word", &self.image, &after)
     }
 
     fn run(&mut self, kernel: &Kernel) -> Outcome {
@@ -119,8 +130,30 @@ impl<'a> Reader<'a> {
         let after = self.changed(changes);
         let ran = (kernel.run)(&mut self.image, &list);
         same("taken and number", (ran.taken, ran.number), (taken as u64, expected))?;
-        same_words(&self.image, &after)
+        same_units("word", &self.image, &after)
     }
+
+    fn print(&mut self, texts: OnTexts) -> Outcome {
+        let number = self.word();
+        let (list_words, stored_words) = (self.count(), self.count());
+        let buffer_bytes = self.count();
+        let salt = usize::from(self.word());
+        let size_number = self.word();
+        let size = Printed { bytes: self.count() as u64, number: size_number };
+        let (text_bytes, stored_bytes) = (self.count(), self.count());
+        let list = again(self.words(stored_words).to_vec(), list_words);
+        let text = again(self.bytes(stored_bytes), text_bytes);
+        let mut buffer: Vec<u8> = (0..buffer_bytes).map(|k| (31 * k + salt) as u8).collect();
+        let after = [&text, &buffer[text_bytes..]].concat();
+        same("number and bytes", (texts.print)(&list, &mut buffer), Printed { bytes: text_bytes as u64, number })?;
+        same_units("byte", &buffer, &after)?;
+        same("size", (texts.print_size)(&list), size)
+    }
+}
+
+/// So many units: what is stored of them, again and again.
+fn again<T: Clone>(stored: Vec<T>, count: usize) -> Vec<T> {
+    stored.into_iter().cycle().take(count).collect()
 }
 
 fn same<T: PartialEq + std::fmt::Debug>(what: &str, given: T, expected: T) -> Outcome {
@@ -130,11 +163,12 @@ fn same<T: PartialEq + std::fmt::Debug>(what: &str, given: T, expected: T) -> Ou
     Err(format!("{what} is {given:?}, expected {expected:?}"))
 }
 
-/// Whether two lists are equal, or the first place where they are not.
-pub fn same_words(given: &[u16], expected: &[u16]) -> Outcome {
-    same("count of words", given.len(), expected.len())?;
+/// Whether two lists of words or bytes are equal, or the first place where they
+/// are not.
+pub fn same_units<T: Copy + PartialEq + std::fmt::Debug>(unit: &str, given: &[T], expected: &[T]) -> Outcome {
+    same(&format!("count of {unit}s"), given.len(), expected.len())?;
     match given.iter().zip(expected).position(|(given, expected)| given != expected) {
         None => Ok(()),
-        Some(place) => same(&format!("word {place}"), given[place], expected[place]),
+        Some(place) => same(&format!("{unit} {place}"), given[place], expected[place]),
     }
 }

@@ -2,6 +2,7 @@
 
 use crate::assembler::Program;
 use crate::kernels::RUST;
+use crate::lists::program;
 use crate::programs::*;
 use crate::texts::{long_names, mixed, short_names, uses, Mix, Texts};
 
@@ -9,6 +10,9 @@ use crate::texts::{long_names, mixed, short_names, uses, Mix, Texts};
 const EVENTS: usize = 60_000;
 /// The largest T.
 const LARGEST: usize = 32768;
+/// The most words that are printed, and the longest line of a printed text.
+const LONGEST_LIST: usize = 32715;
+const LONGEST_LINE: usize = 16;
 
 const TICK: [u16; 3] = [0, 0, 0];
 
@@ -25,6 +29,15 @@ pub enum Work {
     /// A translation of each of some texts to a part of the image; the unit is
     /// a line.
     Translations(Vec<Texts>),
+    /// A print of a program to a text of its size; the unit is a line of it.
+    Print(Printable),
+}
+
+/// Words, and how many bytes and lines their text has.
+pub struct Printable {
+    pub words: Vec<u16>,
+    bytes: usize,
+    lines: usize,
 }
 
 pub struct Workload {
@@ -40,6 +53,15 @@ impl Work {
             Work::Run(list) => list.len() / 3,
             Work::Checks(count) | Work::Builds(count, _) | Work::Ticks(count) => *count,
             Work::Translations(all) => all.iter().map(Texts::lines).sum(),
+            Work::Print(program) => program.lines,
+        }
+    }
+
+    /// How many bytes are printed.
+    pub fn text_bytes(&self) -> usize {
+        match self {
+            Work::Print(program) => program.bytes,
+            _ => 0,
         }
     }
 }
@@ -108,7 +130,7 @@ pub fn all() -> Vec<Workload> {
     all
 }
 
-/// Texts to translate, in the order of their table.
+/// Texts to translate, and words to print, in the order of their table.
 pub fn texts() -> Vec<Workload> {
     vec![
         mixed_texts(1, Mix { lines: 30_000, labels: 1000, names: 500 }),
@@ -116,6 +138,7 @@ pub fn texts() -> Vec<Workload> {
         mixed_texts(100, Mix { lines: 300, labels: 10, names: 10 }),
         translations("8192 names of 400 letters, nearly alike".into(), vec![uses(&long_names(8192))]),
         translations("8192 names of 6 letters, nearly alike".into(), vec![uses(&short_names(8192))]),
+        print_back(LONGEST_LIST),
     ]
 }
 
@@ -128,6 +151,17 @@ fn mixed_texts(count: u64, mix: Mix) -> Workload {
 /// A translation of each text, to a target with room for all.
 fn translations(name: String, all: Vec<Texts>) -> Workload {
     Workload { name, image: (0..=u16::MAX).collect(), work: Work::Translations(all) }
+}
+
+/// A print of so many words to a text of its size.
+fn print_back(count: usize) -> Workload {
+    let words = program(count, 1);
+    let mut text = vec![0; LONGEST_LINE * count];
+    let printed = baseline::print(&words, &mut text);
+    let bytes = printed.bytes as usize;
+    let lines = text[..bytes].iter().filter(|byte| **byte == b'\n').count();
+    let work = Work::Print(Printable { words, bytes, lines });
+    Workload { name: format!("print, {count} words"), image: Vec::new(), work }
 }
 
 fn arithmetics(n: usize, slice: u16) -> Setting {
