@@ -1,6 +1,7 @@
 //! The calls of the library, and what comes back from them.
 
-/// One call, with the words and the bytes that it is lent.
+/// One call, with the words and the bytes that it is lent. A round trip is two: the words are printed to the text, and the
+/// printed text is translated to the target.
 pub enum Call {
     Check { image: Vec<u16> },
     Size { plan: Vec<u16> },
@@ -9,6 +10,9 @@ pub enum Call {
     Run { image: Vec<u16>, events: Vec<u16> },
     Translate { names: Vec<u8>, script: Vec<u8>, target: Vec<u16> },
     RefusedLine { names: Vec<u8>, script: Vec<u8>, room: u64 },
+    Print { words: Vec<u16>, text: Vec<u8> },
+    PrintSize { words: Vec<u16> },
+    RoundTrip { words: Vec<u16>, text: Vec<u8>, target: Vec<u16> },
 }
 
 /// What a call answers.
@@ -21,10 +25,13 @@ pub enum Answer {
     Run { number: u16, taken: u64 },
     Translate { number: u16, text: u16, words: u64 },
     RefusedLine { start: u64, bytes: u64 },
+    Print { number: u16, bytes: u64 },
+    PrintSize { number: u16, bytes: u64 },
+    RoundTrip { printed: u64, number: u16, words: u64 },
 }
 
 /// The names of the calls, in the order of their cases.
-pub const NAMES: [&str; 7] = [
+pub const NAMES: [&str; 10] = [
     "kernel_check",
     "kernel_size",
     "kernel_build",
@@ -32,9 +39,12 @@ pub const NAMES: [&str; 7] = [
     "kernel_run",
     "kernel_translate",
     "kernel_refused_line",
+    "kernel_print",
+    "kernel_print_size",
+    "kernel_print and kernel_translate",
 ];
 
-/// The most bytes of a text that are shown.
+/// The most bytes of a text, or words of a list, that are shown.
 const MOST_SHOWN: usize = 500;
 
 /// What a buffer is, and its words or bytes.
@@ -50,24 +60,30 @@ impl Call {
             Call::Run { image, events } => vec![("image", image), ("events", events)],
             Call::Translate { target, .. } => vec![("target", target)],
             Call::RefusedLine { .. } => vec![],
+            Call::Print { words, .. } | Call::PrintSize { words } => vec![("words", words)],
+            Call::RoundTrip { words, target, .. } => vec![("words", words), ("target", target)],
         }
     }
 
-    /// Each buffer of bytes that the call is lent. All are lent for reading.
+    /// Each buffer of bytes that the call is lent, with its bytes before the call.
     pub fn texts(&self) -> Vec<Buffer<'_, u8>> {
         match self {
             Call::Translate { names, script, .. } | Call::RefusedLine { names, script, .. } => {
                 vec![("names", names), ("script", script)]
             }
+            Call::Print { text, .. } | Call::RoundTrip { text, .. } => vec![("text", text)],
             _ => vec![],
         }
     }
 
-    /// The call in a few words: its name, its event or room, the start of each text, and the length of each buffer.
+    /// The call in a few words: its name, its event, room or list, the start of each text, and the length of each buffer.
     pub fn title(&self) -> String {
         let own = match self {
             Call::Event { event, .. } => format!(", event {event:?}"),
             Call::RefusedLine { room, .. } => format!(", room of {room} words"),
+            Call::Print { words, .. } | Call::PrintSize { words } | Call::RoundTrip { words, .. } => {
+                format!(", list {:?}", &words[..words.len().min(MOST_SHOWN)])
+            }
             _ => String::new(),
         };
         let bytes = |(name, bytes): &Buffer<u8>| {
@@ -90,6 +106,9 @@ impl Call {
             Call::Run { .. } => 4,
             Call::Translate { .. } => 5,
             Call::RefusedLine { .. } => 6,
+            Call::Print { .. } => 7,
+            Call::PrintSize { .. } => 8,
+            Call::RoundTrip { .. } => 9,
         }
     }
 }

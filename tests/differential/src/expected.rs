@@ -7,6 +7,7 @@ use model::events::{self, happen};
 use model::image::Kernel;
 use model::numbers::GOOD;
 use model::plan;
+use model::printing;
 use model::runs::{run, Ran};
 use model::translate::{translate, Translation};
 
@@ -17,6 +18,15 @@ pub struct Outcome {
     pub answer: Answer,
     /// The words of each buffer after the call.
     pub buffers: Vec<Vec<u16>>,
+    /// The text after the call, where it is one that the call may print to.
+    pub printed: Option<Vec<u8>>,
+}
+
+impl Outcome {
+    /// An outcome of a call that prints nothing.
+    fn new(number: u16, answer: Answer, buffers: Vec<Vec<u16>>) -> Outcome {
+        Outcome { number, answer, buffers, printed: None }
+    }
 }
 
 /// What the call comes to by the model.
@@ -24,31 +34,43 @@ pub fn outcome(call: &Call) -> Outcome {
     match call {
         Call::Check { image } => {
             let number = check(image);
-            Outcome { number, answer: Answer::Check { number }, buffers: vec![image.clone()] }
+            Outcome::new(number, Answer::Check { number }, vec![image.clone()])
         }
         Call::Size { plan } => size(plan),
         Call::Build { plan, target } => {
             let (number, built) = plan::build(plan, target);
-            Outcome { number, answer: Answer::Build { number }, buffers: vec![plan.clone(), built] }
+            Outcome::new(number, Answer::Build { number }, vec![plan.clone(), built])
         }
         Call::Event { image, event } => one_event(image, *event),
         Call::Run { image, events } => {
             let Ran { number, taken, image } = run(image, events);
             let answer = Answer::Run { number, taken: taken as u64 };
-            Outcome { number, answer, buffers: vec![image, events.clone()] }
+            Outcome::new(number, answer, vec![image, events.clone()])
         }
         Call::Translate { names, script, target } => translated(names, script, target),
         Call::RefusedLine { names, script, room } => refused_line(names, script, *room),
+        Call::Print { words, text } => printed(words, text),
+        Call::PrintSize { words } => {
+            let (number, bytes) = numbered(printing::size(words), 0);
+            let answer = Answer::PrintSize { number, bytes: bytes as u64 };
+            Outcome::new(number, answer, vec![words.clone()])
+        }
+        Call::RoundTrip { words, text, target } => round_trip(words, text, target),
+    }
+}
+
+/// The number of a refusal and another value, or 0 and the value.
+fn numbered<T>(result: Result<T, u16>, refused: T) -> (u16, T) {
+    match result {
+        Ok(value) => (GOOD, value),
+        Err(number) => (number, refused),
     }
 }
 
 /// The size of a plan's image, 0 where the plan is refused.
 fn size(plan: &[u16]) -> Outcome {
-    let (number, words) = match plan::size(plan) {
-        Ok(words) => (GOOD, words as u64),
-        Err(number) => (number, 0),
-    };
-    Outcome { number, answer: Answer::Size { number, words }, buffers: vec![plan.to_vec()] }
+    let (number, words) = numbered(plan::size(plan), 0);
+    Outcome::new(number, Answer::Size { number, words: words as u64 }, vec![plan.to_vec()])
 }
 
 /// The answer to an event, and the image's words after it.
@@ -56,9 +78,9 @@ fn one_event(image: &[u16], event: [u16; 3]) -> Outcome {
     match taken(image, event) {
         Ok((events::Answer { kind, task }, kernel)) => {
             let answer = Answer::Event { number: GOOD, kind, task };
-            Outcome { number: GOOD, answer, buffers: vec![kernel.encode()] }
+            Outcome::new(GOOD, answer, vec![kernel.encode()])
         }
-        Err(number) => Outcome { number, answer: refused_event(number), buffers: vec![image.to_vec()] },
+        Err(number) => Outcome::new(number, refused_event(number), vec![image.to_vec()]),
     }
 }
 
@@ -77,9 +99,8 @@ pub fn refused_event(number: u16) -> Answer {
 /// A script's words from the target's first place on; those past them stay.
 fn translated(names: &[u8], script: &[u8], target: &[u16]) -> Outcome {
     let Translation { number, text, words, .. } = translate(names, script, target.len());
-    let after = [&words, &target[words.len()..]].concat();
     let answer = Answer::Translate { number, text, words: words.len() as u64 };
-    Outcome { number, answer, buffers: vec![after] }
+    Outcome::new(number, answer, vec![over(&words, target)])
 }
 
 /// The line that is refused with a target of so many words.
@@ -87,5 +108,25 @@ fn refused_line(names: &[u8], script: &[u8], room: u64) -> Outcome {
     let room = usize::try_from(room).expect("the archive is for machines of 64 bits");
     let Translation { number, start, bytes, .. } = translate(names, script, room);
     let answer = Answer::RefusedLine { start: start as u64, bytes: bytes as u64 };
-    Outcome { number, answer, buffers: vec![] }
+    Outcome::new(number, answer, vec![])
+}
+
+/// A buffer with these units from its first place on.
+fn over<T: Copy>(units: &[T], buffer: &[T]) -> Vec<T> {
+    [units, &buffer[units.len()..]].concat()
+}
+
+/// The text of words from the buffer's first byte on; the bytes past it stay.
+fn printed(words: &[u16], text: &[u8]) -> Outcome {
+    let (number, bytes) = numbered(printing::print(words, text.len()), vec![]);
+    let answer = Answer::Print { number, bytes: bytes.len() as u64 };
+    Outcome { printed: Some(over(&bytes, text)), ..Outcome::new(number, answer, vec![words.to_vec()]) }
+}
+
+/// The text of words that are printed, and the same words from the target's first place on.
+fn round_trip(words: &[u16], text: &[u8], target: &[u16]) -> Outcome {
+    let bytes = printing::print(words, text.len()).expect("a text that fits");
+    let answer = Answer::RoundTrip { printed: bytes.len() as u64, number: GOOD, words: words.len() as u64 };
+    let buffers = vec![words.to_vec(), over(words, target)];
+    Outcome { printed: Some(over(&bytes, text)), ..Outcome::new(GOOD, answer, buffers) }
 }

@@ -2,7 +2,8 @@
 
 use crate::call::{Answer, Call};
 use crate::lent::{Lent, Rooms};
-use kernel::c::{self, Line, Ran, Size, Told, Translated};
+use kernel::c::{self, Line, Printed, Ran, Size, Told, Translated};
+use model::numbers::GOOD;
 
 /// Makes the call with its words and bytes in the rooms that are lent.
 pub fn answer(call: &Call, lent: &mut Rooms) -> Answer {
@@ -14,6 +15,12 @@ pub fn answer(call: &Call, lent: &mut Rooms) -> Answer {
         (Call::Run { .. }, [image, events], []) => run(image, events),
         (Call::Translate { .. }, [target], [names, script]) => translate(names, script, target),
         (Call::RefusedLine { room, .. }, [], [names, script]) => refused_line(names, script, *room),
+        (Call::Print { .. }, [words], [text]) => {
+            let Printed { bytes, number } = print(words, text);
+            Answer::Print { number, bytes }
+        }
+        (Call::PrintSize { .. }, [words], []) => print_size(words),
+        (Call::RoundTrip { .. }, [words, target], [text]) => round_trip(words, text, target),
         _ => unreachable!("a call has the buffers of its own"),
     }
 }
@@ -71,4 +78,30 @@ fn refused_line(names: &mut Lent<u8>, script: &mut Lent<u8>, room: u64) -> Answe
     let Line { start, bytes } =
         unsafe { c::kernel_refused_line(names.pointer(), names.len(), script.pointer(), script.len(), room) };
     Answer::RefusedLine { start, bytes }
+}
+
+fn print(words: &mut Lent<u16>, text: &mut Lent<u8>) -> Printed {
+    // SAFETY: above.
+    unsafe { c::kernel_print(words.pointer(), words.len(), text.pointer(), text.len()) }
+}
+
+fn print_size(words: &mut Lent<u16>) -> Answer {
+    // SAFETY: above.
+    let Printed { bytes, number } = unsafe { c::kernel_print_size(words.pointer(), words.len()) };
+    Answer::PrintSize { number, bytes }
+}
+
+/// Prints words, and translates what is printed, with no names.
+fn round_trip(words: &mut Lent<u16>, text: &mut Lent<u8>, target: &mut Lent<u16>) -> Answer {
+    let Printed { bytes: printed, number } = print(words, text);
+    if number != GOOD {
+        return Answer::RoundTrip { printed, number, words: 0 };
+    }
+    let names: &[u8] = &[];
+    let script = &text.words()[..printed as usize];
+    // SAFETY: above.
+    let Translated { words, number, .. } = unsafe {
+        c::kernel_translate(names.as_ptr(), names.len(), script.as_ptr(), script.len(), target.pointer(), target.len())
+    };
+    Answer::RoundTrip { printed, number, words }
 }

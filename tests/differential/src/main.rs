@@ -75,7 +75,8 @@ fn differences(rng: &mut Rng, call: &Call, outcome: &Outcome, (way, make): Way) 
     for (((name, _), room), expected) in call.buffers().iter().zip(&lent.words).zip(&outcome.buffers) {
         told.extend(room.difference(expected).map(|word| told_of(way, "word", name, word)));
     }
-    for ((name, expected), room) in call.texts().iter().zip(&lent.texts) {
+    for ((name, before), room) in call.texts().iter().zip(&lent.texts) {
+        let expected = outcome.printed.as_deref().unwrap_or(before);
         told.extend(room.difference(expected).map(|byte| told_of(way, "byte", name, byte)));
     }
     told

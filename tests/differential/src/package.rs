@@ -21,6 +21,15 @@ pub fn answer(call: &Call, lent: &mut Rooms) -> Answer {
         }
         (Call::Translate { .. }, [target], [names, script]) => translate(names, script, target),
         (Call::RefusedLine { room, .. }, [], [names, script]) => refused_line(names, script, *room),
+        (Call::Print { .. }, [words], [text]) => {
+            let (number, bytes) = counted(kernel::print(words.words(), text.words()));
+            Answer::Print { number, bytes }
+        }
+        (Call::PrintSize { .. }, [words], []) => {
+            let (number, bytes) = counted(kernel::print_size(words.words()));
+            Answer::PrintSize { number, bytes }
+        }
+        (Call::RoundTrip { .. }, [words, target], [text]) => round_trip(words, text, target),
         _ => unreachable!("a call has the buffers of its own"),
     }
 }
@@ -30,11 +39,17 @@ fn number(result: Result<(), u16>) -> u16 {
     result.err().unwrap_or(0)
 }
 
-fn size(plan: &mut Lent<u16>) -> Answer {
-    match kernel::size(plan.words()) {
-        Ok(words) => Answer::Size { number: 0, words: words as u64 },
-        Err(number) => Answer::Size { number, words: 0 },
+/// The number of a result, and its count, 0 where it is refused.
+fn counted(result: Result<usize, u16>) -> (u16, u64) {
+    match result {
+        Ok(count) => (0, count as u64),
+        Err(number) => (number, 0),
     }
+}
+
+fn size(plan: &mut Lent<u16>) -> Answer {
+    let (number, words) = counted(kernel::size(plan.words()));
+    Answer::Size { number, words }
 }
 
 fn one_event(image: &mut Lent<u16>, [kind, device, character]: [u16; 3]) -> Answer {
@@ -56,6 +71,18 @@ fn text_number(text: Text) -> u16 {
         Text::Names => NAMES,
         Text::Script => SCRIPT,
     }
+}
+
+/// Prints words, and translates what is printed, with no names.
+fn round_trip(words: &mut Lent<u16>, text: &mut Lent<u8>, target: &mut Lent<u16>) -> Answer {
+    let (number, printed) = counted(kernel::print(words.words(), text.words()));
+    if number != 0 {
+        return Answer::RoundTrip { printed, number, words: 0 };
+    }
+    let script = &text.words()[..printed as usize];
+    let back = kernel::translate(&[], script, target.words()).map_err(|refused| refused.number);
+    let (number, words) = counted(back);
+    Answer::RoundTrip { printed, number, words }
 }
 
 fn refused_line(names: &mut Lent<u8>, script: &mut Lent<u8>, room: u64) -> Answer {

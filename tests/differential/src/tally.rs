@@ -5,9 +5,11 @@ use crate::expected::Outcome;
 
 /// The numbers that must occur. 10 is not among them: on a good image no wake finds the ready queue full.
 const NUMBERS: [u16; 16] = [0, 1, 2, 3, 4, 5, 6, 7, 8, 9, 11, 12, 13, 14, 15, 16];
-/// The calls on texts by their places among the names, and the numbers that must occur in each of them.
-const OF_TEXTS: [usize; 2] = [5, 6];
+/// The calls on texts by their places among the names, each with the numbers that must occur in it.
+const OF_TEXTS: [(usize, &[u16]); 5] =
+    [(5, &TEXT_NUMBERS), (6, &TEXT_NUMBERS), (7, &PRINT_NUMBERS), (8, &PRINT_NUMBERS), (9, &[0])];
 const TEXT_NUMBERS: [u16; 5] = [0, 13, 14, 15, 16];
+const PRINT_NUMBERS: [u16; 2] = [0, 16];
 /// The kinds of answer, all of which must occur.
 const KINDS: [u16; 10] = [0, 1, 2, 3, 4, 5, 6, 7, 8, 9];
 
@@ -61,7 +63,7 @@ impl Tally {
 
     /// The call on texts and its number that did not occur, if there is one.
     fn missing_of_texts(&self) -> Option<String> {
-        let mut pairs = OF_TEXTS.into_iter().flat_map(|call| TEXT_NUMBERS.map(|n| (call, n)));
+        let mut pairs = OF_TEXTS.into_iter().flat_map(|(call, numbers)| numbers.iter().map(move |&n| (call, n)));
         let (call, number) = pairs.find(|&(call, n)| self.numbers[call][usize::from(n)] == 0)?;
         Some(format!("{}: number {number} did not occur", NAMES[call]))
     }

@@ -2,6 +2,7 @@
 
 mod images;
 mod plans;
+mod prints;
 mod texts;
 
 use crate::call::Call;
@@ -19,6 +20,9 @@ use model::rng::Rng;
 use model::running;
 use model::runs::run;
 use model::texts::faults as text_faults;
+
+/// Of so many batches one is near the largest image; each other kind of call has more of them.
+const BATCHES: usize = 130;
 
 /// The most events, or runs, that follow one another from an image.
 const MOST_STEPS: usize = 20;
@@ -67,7 +71,7 @@ impl Source {
 
     /// Some calls that belong together.
     fn batch(&mut self) -> Vec<Call> {
-        match self.rng.below(120) {
+        match self.rng.below(BATCHES) {
             0 => self.large(),
             1..=19 => self.checks(),
             20..=34 => plans::calls(&mut self.rng, &self.faults, &self.of_plan),
@@ -75,7 +79,8 @@ impl Source {
             65..=74 => self.events_on_any(),
             75..=94 => runs(&mut self.rng),
             95..=99 => self.runs_on_any(),
-            _ => texts::calls(&mut self.rng, &self.text_faults, &self.later_faults),
+            100..=119 => texts::calls(&mut self.rng, &self.text_faults, &self.later_faults),
+            _ => prints::calls(&mut self.rng),
         }
     }
 
