@@ -118,7 +118,7 @@ fn read_case(fd: i32, head: Head) -> Asked {
 }
 
 // Whether a part is what a text has from a start on: a yes means that all its bytes are.
-fn is_part(part: &[u8], text: &[u8], start: usize) -> bool
+pub fn is_part(part: &[u8], text: &[u8], start: usize) -> bool
     ensures { λ r. ⌜ (r ≡ true → take (length (now (part .entry))) (drop start (now (text .entry))) ≡ now (part .entry)) ⌝ }
 {
     if start > text.len() {

@@ -43,6 +43,12 @@ pub const TEXT_COUNT: usize = 5;
 // The numbers that a translation may give.
 pub const TEXT_NUMBERS: [u16; TEXT_COUNT] = [0, 13, 14, 15, 16];
 
+// How many numbers a print may give.
+pub const PRINT_COUNT: usize = 2;
+
+// The numbers that a print may give.
+pub const PRINT_NUMBERS: [u16; PRINT_COUNT] = [0, 16];
+
 // How what the code under test says compares with a record, or that the record is bad.
 pub enum Answer {
     Same,
