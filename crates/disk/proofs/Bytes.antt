@@ -1,14 +1,18 @@
 -- Laws of Bytes. Assumes nothing.
-use mathlib.Core.Path.{_≡_, refl}
+use mathlib.Core.Path.{_≡_, refl, sym}
 use mathlib.Core.List.{List, [], _∷_, _++_, append-assoc}
 use Prim.Native.Nat.{ℕ, suc, _+_, _*_, _/_, _%_, _<_, _≤_}
 use native.Mathlib.Numerals.{add-one}
 use native.Mathlib.Nat.{min-le-right}
 use native.Mathlib.Omega.{arith}
 use lib.ListN.{length, getD, take, set, length-set, length-take}
-use lib.Seq.{take-suc, take-suc-set, take-all}
+use lib.Seq.{take-suc, take-suc-set, take-all, length-take-le}
+use Rattle.paper.specs.Runner.{words-of}
+use Rattle.writes.specs.Written.{written, kept-length}
+use Rattle.files.specs.Bytes.{words-length}
 use Rattle.disk.specs.declared.Loaded.{Loaded}
-use Rattle.disk.specs.Bytes.{Loads, bytes-of, chunk, chunk-bytes}
+use Rattle.disk.specs.declared.Words.{Words}
+use Rattle.disk.specs.Bytes.{Loads, LoadsWords, bytes-of, chunk, chunk-bytes}
 
 bytes-more : (ws : List ℕ) (w : ℕ) → bytes-of (ws ++ (w ∷ [])) ≡ bytes-of ws ++ (w % 256 ∷ (w / 256 ∷ []))
 unfolding bytes-of
@@ -66,3 +70,26 @@ loaded-count b r n e h = (rw e at h) .1
 -- a part of a buffer is no longer
 pub part-short : (n : ℕ) (b : List ℕ) (m : ℕ) → length b ≡ m → length (take n b) ≤ m
 part-short n b m e = rw (length-take, e) (min-le-right n m)
+
+-- the words of a file lie in their target
+module _ (buffer b words : List ℕ) (found : ℕ) (kept : length b ≡ length buffer) (room : length buffer < 2 * length words + 2) where
+  pub words-room : length (take found b) < 2 * length words + 2
+  words-room = omega (arith, part-short found b (length buffer) kept)
+
+  pub words-loaded : (out : List ℕ) (n : ℕ) → n ≡ length (words-of (take found b)) → out ≡ written words 0 (words-of (take found b)) → LoadsWords (length buffer) out (Words.Count n)
+  words-loaded out n e w =
+      let few = part-short found b (length buffer) kept in
+      let two = words-length (take found b) in
+      let in-target : n ≤ length out = omega (arith, kept-length words out 0 (words-of (take found b)) w) in
+      (omega arith, (in-target, sym (length-take-le n out in-target)))
+
+-- the words that were read
+module _ (most : ℕ) (target : List ℕ) (r : Words) (n : ℕ) (e : r ≡ Words.Count n) (h : LoadsWords most target r) where
+  pub words-few : 2 * n ≤ most
+  words-few = (rw e at h) .0
+
+  pub words-end : n ≤ length target
+  words-end = (rw e at h) .1 .0
+
+  pub words-count : n ≡ length (take n target)
+  words-count = (rw e at h) .1 .1

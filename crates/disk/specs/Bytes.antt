@@ -1,9 +1,10 @@
 -- The bytes of words, the low byte first. Assumes nothing.
 use mathlib.Core.Path.{_≡_}
 use mathlib.Core.List.{List, [], _∷_}
-use Prim.Native.Nat.{ℕ, _/_, _%_, _≤_}
+use Prim.Native.Nat.{ℕ, _*_, _/_, _%_, _≤_}
 use lib.ListN.{length, take}
 use Rattle.disk.specs.declared.Loaded.{Loaded}
+use Rattle.disk.specs.declared.Words.{Words}
 
 -- the words that are written at a time
 abbrev pub chunk : ℕ
@@ -20,3 +21,8 @@ bytes-of (w ∷ ws) = w % 256 ∷ (w / 256 ∷ bytes-of ws)
 abbrev pub Loads : List ℕ → Loaded → Type 0
 Loads b (Loaded.Bytes n) = (n ≤ length b) × (n ≡ length (take n b))
 Loads b Loaded.Nothing = Unit {0}
+
+-- the words of a file of at most so many bytes lie at the start of their target
+abbrev pub LoadsWords : ℕ → List ℕ → Words → Type 0
+LoadsWords most target (Words.Count n) = (2 * n ≤ most) × ((n ≤ length target) × (n ≡ length (take n target)))
+LoadsWords most target Words.Nothing = Unit {0}

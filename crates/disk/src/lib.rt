@@ -2,7 +2,8 @@
 ghost use mathlib.Core.Path.{_≡_};
 ghost use Prim.Native.Nat.{_+_, _*_, _<_, _≤_};
 ghost use lib.ListN.{length, take};
-ghost use Rattle.disk.specs.Bytes.{chunk, chunk-bytes, bytes-of, Loads};
+ghost use Rattle.disk.specs.Bytes.{chunk, chunk-bytes, bytes-of, Loads, LoadsWords};
+use files::put_words;
 use libc::STDERR_FILENO;
 use libc::STDOUT_FILENO;
 use paper::BYTE_END;
@@ -19,6 +20,25 @@ pub enum Outcome {
 // A file that was read: its count of bytes, or that it could not be had whole.
 pub enum Loaded {
     Bytes(usize),
+    Nothing,
+}
+
+// The words of a file that was read: their count, or that they could not be had.
+pub enum Words {
+    Count(usize),
+    Nothing,
+}
+
+// A file that is written piece by piece: whether it is a plain file, and whether all pieces so far are written.
+pub struct Output {
+    pub file: i32,
+    pub plain: bool,
+    pub whole: bool,
+}
+
+// A file to write, or that it could not be opened.
+pub enum Opened {
+    File(Output),
     Nothing,
 }
 
@@ -92,6 +112,22 @@ pub fn load(path: &[u8], buffer: &mut [u8]) -> Loaded
     loaded
 }
 
+// Reads the words of a whole file by way of a buffer; where it cannot, or there is half a word, that is said.
+pub fn load_words(path: &[u8], buffer: &mut [u8], words: &mut [u16]) -> Words
+    requires { ⌜ length (now buffer) < 2 * length (now words) + 2 ⌝ }
+    ensures { λ r. ⌜ LoadsWords (length (now (buffer .entry))) (now (words .exit)) r ⌝ }
+{
+    let Loaded::Bytes(found) = load(path, buffer) else {
+        return Words::Nothing;
+    };
+    if found % WORD_BYTES != 0 {
+        say(path);
+        say(b": an odd count of bytes\n");
+        return Words::Nothing;
+    }
+    Words::Count(put_words(&buffer[..found], words))
+}
+
 // Puts words into bytes, the low byte first.
 fn put_bytes(words: &[u16], bytes: &mut [u8; CHUNK_BYTES])
     requires { ⌜ length (now words) ≤ chunk ⌝ }
@@ -134,13 +170,68 @@ fn write_words(fd: i32, words: &[u16]) -> bool {
     true
 }
 
-// Writes words to an open file and closes it.
-fn save_open(fd: i32, words: &[u16]) -> bool {
-    if !write_words(fd, words) {
-        libc::close(fd);
-        return false;
+// Opens a file to be written anew; where it cannot, that is said.
+pub fn open(path: &[u8]) -> Opened {
+    let file = os::open_overwrite(path);
+    if file < 0 {
+        os::fail(path);
+        return Opened::Nothing;
     }
-    libc::close(fd) == 0
+    Opened::File(Output {
+        file: file,
+        plain: libc::ftruncate(file, 0) == 0,
+        whole: true,
+    })
+}
+
+// Writes a text to a file, if all before it is written.
+pub fn put_text(out: Output, text: &[u8]) -> Output {
+    if !out.whole {
+        return out;
+    }
+    Output {
+        file: out.file,
+        plain: out.plain,
+        whole: io::write_all(out.file, text),
+    }
+}
+
+// Writes a number to a file, if all before it is written.
+pub fn put_number(out: Output, n: usize) -> Output {
+    if !out.whole {
+        return out;
+    }
+    Output {
+        file: out.file,
+        plain: out.plain,
+        whole: io::print_decimal(out.file, n as u64),
+    }
+}
+
+// Closes a file, and whether all of it is written.
+fn close_whole(out: Output) -> bool {
+    let closed = libc::close(out.file) == 0;
+    out.whole && closed
+}
+
+// Closes a file that was written; where it is not whole, that is said, and no plain file is left.
+pub fn close(path: &[u8], out: Output) -> Outcome {
+    if close_whole(out) {
+        return Outcome::Done;
+    }
+    os::fail(path);
+    if out.plain {
+        os::unlink(path);
+    }
+    Outcome::Unwritten
+}
+
+// Writes a text as a whole file.
+pub fn save_text(path: &[u8], text: &[u8]) -> Outcome {
+    let Opened::File(out) = open(path) else {
+        return Outcome::Unwritten;
+    };
+    close(path, put_text(out, text))
 }
 
 // Says how many words a file has.
@@ -151,21 +242,19 @@ fn say_saved(path: &[u8], words: usize) {
     say(b" words\n");
 }
 
-// Writes words as a whole file, and says how many; where it cannot, that is said, and no plain file is left.
+// Writes words as a whole file, and says how many.
 pub fn save(path: &[u8], words: &[u16]) -> Outcome {
-    let fd = os::open_overwrite(path);
-    if fd < 0 {
-        os::fail(path);
+    let Opened::File(out) = open(path) else {
         return Outcome::Unwritten;
-    }
-    let plain = libc::ftruncate(fd, 0) == 0;
-    if save_open(fd, words) {
+    };
+    let written = Output {
+        file: out.file,
+        plain: out.plain,
+        whole: write_words(out.file, words),
+    };
+    let saved = close(path, written);
+    if let Outcome::Done = saved {
         say_saved(path, words.len());
-        return Outcome::Done;
     }
-    os::fail(path);
-    if plain {
-        os::unlink(path);
-    }
-    Outcome::Unwritten
+    saved
 }

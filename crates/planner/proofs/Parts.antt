@@ -1,13 +1,13 @@
 -- Laws of Parts. Assumes nothing.
 use mathlib.Core.Path.{_≡_, sym}
 use mathlib.Core.List.{List}
-use Prim.Native.Nat.{ℕ, _+_, _-_, _*_, _<_, _≤_}
+use Prim.Native.Nat.{ℕ, _+_, _*_, _≤_}
 use native.Mathlib.Omega.{arith}
-use lib.ListN.{length, take, drop, length-drop}
-use lib.Seq.{take-all, length-take-le}
-use Rattle.paper.specs.Runner.{words-of}
-use Rattle.files.specs.Bytes.{words-length}
-use Rattle.disk.proofs.Bytes.{part-short}
+use lib.ListN.{length, take}
+use lib.Seq.{length-take-le}
+use Rattle.disk.specs.Bytes.{LoadsWords}
+use Rattle.disk.specs.declared.Words.{Words}
+use Rattle.disk.proofs.Bytes.{words-few}
 use Rattle.joining.specs.Texts.{Begins}
 use Rattle.joining.proofs.Texts.{rest-begins}
 use Rattle.joining.specs.declared.Task.{Task}
@@ -34,13 +34,8 @@ pub name-begins : (b : List ℕ) (n from : ℕ) (length-asked : ℕ) (r : Task) 
 name-begins b n from length-asked r h e k = omega (arith, rest-begins (take n b) r length-asked from e h)
 
 -- the words of a program's file
-pub few-words : (b : List ℕ) (n r : ℕ) → length b ≡ 65430 → r ≡ length (words-of (take n b)) → r ≤ most-program
-few-words b n r l e = omega (arith, words-length (take n b), part-short n b 65430 l)
-
-pub words-fit : (b plan : List ℕ) (n at : ℕ) → length b ≡ 65430 → at + most-program ≤ length plan
-    → length (take n b) < 2 * length (take (length plan - at) (drop at plan)) + 2
-words-fit b plan n at l h =
-    rw (take-all (length plan - at) (drop at plan) (omega (arith, length-drop at plan)), length-drop) (omega (arith, part-short n b 65430 l))
+pub few-words : (most : ℕ) (target : List ℕ) (r : Words) (n : ℕ) → r ≡ Words.Count n → LoadsWords most target r → most ≡ 65430 → n ≤ most-program
+few-words most target r n e h l = omega (arith, words-few most target r n e h)
 
 -- a whole plan lies in its buffer
 module _ (p : List ℕ) (n end : ℕ) (r : Joined) (l : length p ≡ most-plan) (few : n ≤ most-tasks) (e : r ≡ Joined.End end)

@@ -4,14 +4,13 @@ ghost use mathlib.Core.Path.{_≡_};
 ghost use Prim.Native.Nat.{_+_, _*_, _<_, _≤_};
 ghost use lib.ListN.{length};
 ghost use Rattle.planner.specs.Parts.{leading, pair, most-tasks, most-program, most-plan, Ends};
-use disk::Loaded;
 use disk::Outcome;
-use disk::load;
+use disk::Words;
+use disk::load_words;
 use disk::save;
 use disk::say;
 use disk::say_number;
 use disk::tell;
-use files::put_words;
 use joining::Asked;
 use joining::Cause;
 use joining::Task;
@@ -25,7 +24,6 @@ use paper::MOST_TASKS;
 use paper::PAIR_WORDS;
 use paper::Refusal;
 use paper::Size;
-use paper::WORD_BYTES;
 use plans::size;
 
 // The arguments before the tasks, the program's own name among them.
@@ -91,14 +89,9 @@ fn put_program(path: &[u8], plan: &mut [u16], at: usize) -> Joined
     ensures { λ r. ⌜ Ends at most-program r ⌝ }
 {
     let mut bytes = [0u8; PROGRAM_BYTES];
-    let Loaded::Bytes(found) = load(path, &mut bytes) else {
+    let Words::Count(count) = load_words(path, &mut bytes, &mut plan[at..]) else {
         return Joined::Nothing;
     };
-    if found % WORD_BYTES != 0 {
-        say_not(path, b": an odd count of bytes\n");
-        return Joined::Nothing;
-    }
-    let count = put_words(&bytes[..found], &mut plan[at..]);
     Joined::End(at + count)
 }
 
