@@ -2,7 +2,7 @@
  * The kernel, for programs in C and C++. Link with libkernel_c.a; docs/LIBRARY.md says how it is made.
  *
  * Nothing is required of the words and bytes: any of them, in any number, may be lent, and every call ends. A call
- * either does what it says, or it refuses, answers the number of the refusal and changes no word.
+ * either does what it says, or it refuses, answers the number of the refusal and changes no word or byte.
  *
  * Lent means: the pointer leads to as many words, or bytes, as the length beside it says, and nobody else writes them
  * during the call. A buffer that is lent for writing shares no word with another that is lent to the same call. With
@@ -26,7 +26,7 @@
  *   13  a line of the names or of the script is outside the grammar, or gives one name or label more than 8192
  *   14  a name or label is given twice, or one that is used is not given
  *   15  a value is out of range
- *   16  the script has more words than the target
+ *   16  the script has more words than the target, or a list of words or its text is too long to print
  */
 #ifndef KERNEL_H
 #define KERNEL_H
@@ -56,6 +56,9 @@ extern "C" {
 
 /* The most names and labels that two texts may give together. */
 #define KERNEL_MOST_NAMES 8192
+
+/* The most words of a list that is printed: those of the longest segment. */
+#define KERNEL_MOST_PRINTED 32715
 
 /* How many words a plan's image has. */
 struct kernel_size {
@@ -90,6 +93,12 @@ struct kernel_line {
     uint64_t bytes; /* how many bytes it has, without the byte 10 that ends it; both are 0 where no line is refused */
 };
 
+/* What a list of words is printed to. */
+struct kernel_printed {
+    uint64_t bytes;  /* how many bytes the text has, from the buffer's first on; 0 where the list is refused */
+    uint16_t number; /* 0 or 16 */
+};
+
 /* Checks an image, which is lent for reading. Answers 0, or 1 to 6. */
 uint16_t kernel_check(const uint16_t *image, size_t words);
 
@@ -118,6 +127,16 @@ struct kernel_translated kernel_translate(const uint8_t *names, size_t names_byt
    reading. Which of the two texts it stands in, kernel_translate answers. */
 struct kernel_line kernel_refused_line(const uint8_t *names, size_t names_bytes, const uint8_t *script,
                                        size_t script_bytes, uint64_t room);
+
+/* Prints a list of words in the buffer, from its first byte on, as the script that kernel_translate gives these words
+   for, without names; the bytes past it stay as they are. The words are lent for reading, the buffer for writing.
+   Refused with 16: a list of over KERNEL_MOST_PRINTED words, and a text that is longer than the buffer. 16 bytes for
+   each word always suffice. */
+struct kernel_printed kernel_print(const uint16_t *words, size_t count, uint8_t *text, size_t text_bytes);
+
+/* How many bytes kernel_print needs for a list of words, exactly; 0 and 16 for a list of over KERNEL_MOST_PRINTED
+   words. The words are lent for reading. */
+struct kernel_printed kernel_print_size(const uint16_t *words, size_t count);
 
 #ifdef __cplusplus
 }

@@ -2,10 +2,11 @@
 use mathlib.Core.Path.{_≡_, sym, _∙_, ap}
 use mathlib.Core.List.{List}
 use Prim.Native.Nat.{ℕ}
-use Rattle.kernel_c.specs.Promises.{ChecksC, MeasuresC, BuildsC, HappensC, RunsC, TranslatesC, NamesLineC}
+use Rattle.kernel_c.specs.Promises.{ChecksC, MeasuresC, BuildsC, HappensC, RunsC, TranslatesC, NamesLineC, PrintsC, MeasuresTextC}
 use Rattle.kernel_c.specs.declared.Measured.{Measured}
 use Rattle.kernel_c.specs.declared.ReplyNumbers.{ReplyNumbers}
 use Rattle.kernel_c.specs.declared.RunNumbers.{RunNumbers}
+use Rattle.kernel_c.specs.declared.prints.Printed.{Printed}
 use Rattle.kernel_c.specs.declared.scripts.Translated.{Translated}
 use Rattle.kernel_c.specs.declared.scripts.RefusedLine.{RefusedLine}
 
@@ -64,3 +65,16 @@ line-same a b es eb =
 
 pub names-line-c-once : (names script : List ℕ) (room : ℕ) (a b : RefusedLine) → NamesLineC names script room a → NamesLineC names script room b → a ≡ b
 names-line-c-once names script room a b p q = line-same a b (p .begins ∙ sym (q .begins)) (p .counted ∙ sym (q .counted))
+
+-- a print: how many bytes there are, the number, and every byte of the buffer
+printed-same : (a b : Printed) → a .bytes ≡ b .bytes → a .number ≡ b .number → a ≡ b
+printed-same a b eb en =
+    let again : ℕ → ℕ → Printed = λ c n. record { bytes = c; number = n } in
+    ap (λ c. again c (a .number)) eb ∙ ap (again (b .bytes)) en
+
+pub prints-c-once : (words text : List ℕ) (a b : Printed) (x y : List ℕ) → PrintsC words text a x → PrintsC words text b y → (a ≡ b) × (x ≡ y)
+prints-c-once words text a b x y p q = (printed-same a b (p .counted ∙ sym (q .counted)) (p .numbered ∙ sym (q .numbered)), p .left ∙ sym (q .left))
+
+-- how many bytes a print needs, and the number
+pub measures-text-c-once : (words : List ℕ) (a b : Printed) → MeasuresTextC words a → MeasuresTextC words b → a ≡ b
+measures-text-c-once words a b p q = printed-same a b (p .counted ∙ sym (q .counted)) (p .numbered ∙ sym (q .numbered))

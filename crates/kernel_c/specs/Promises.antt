@@ -6,10 +6,12 @@ use lib.ListN.{length}
 use Rattle.paper.specs.Numbers.{verdict-number, reply-number, check, check-build}
 use Rattle.paper.specs.Calls.{plan-size, size-number, size-value, built, event, run}
 use Rattle.grammar.specs.Texts.{program, judged, answered, translation-words, translation-number, translation-text, stored, named-line}
+use Rattle.grammar.specs.Printing.{printed, measured, printing, printing-bytes, printing-number, inscribed}
 use Rattle.kernel_c.specs.Answers.{told-kind, told-task}
 use Rattle.kernel_c.specs.declared.Measured.{Measured}
 use Rattle.kernel_c.specs.declared.ReplyNumbers.{ReplyNumbers}
 use Rattle.kernel_c.specs.declared.RunNumbers.{RunNumbers}
+use Rattle.kernel_c.specs.declared.prints.Printed.{Printed}
 use Rattle.kernel_c.specs.declared.scripts.Translated.{Translated}
 use Rattle.kernel_c.specs.declared.scripts.RefusedLine.{RefusedLine}
 
@@ -51,3 +53,14 @@ pub record TranslatesC (names script target : List ℕ) (answer : Translated) (a
 pub record NamesLineC (names script : List ℕ) (room : ℕ) (answer : RefusedLine) : Type 0 where
   pub begins : answer .start ≡ named-line (judged names script room) .from
   pub counted : answer .bytes ≡ named-line (judged names script room) .count
+
+-- printing a list of words
+pub record PrintsC (words text : List ℕ) (answer : Printed) (after : List ℕ) : Type 0 where
+  pub counted : answer .bytes ≡ printing-bytes (printing words (length text))
+  pub numbered : answer .number ≡ printing-number (printing words (length text))
+  pub left : after ≡ inscribed (printing words (length text)) (printed words) text
+
+-- how many bytes printing a list needs
+pub record MeasuresTextC (words : List ℕ) (answer : Printed) : Type 0 where
+  pub counted : answer .bytes ≡ printing-bytes (measured words)
+  pub numbered : answer .number ≡ printing-number (measured words)
