@@ -78,6 +78,11 @@ static int is_line(struct kernel_line line, uint64_t start, uint64_t bytes)
     return line.start == start && line.bytes == bytes;
 }
 
+static int is_printed(struct kernel_printed told, uint64_t bytes, uint16_t number)
+{
+    return told.bytes == bytes && told.number == number;
+}
+
 static const uint8_t *bytes(const char *text)
 {
     return (const uint8_t *)text;
@@ -152,6 +157,36 @@ static void try_texts(void)
     EXPECT(image[0] == 4 && image[1] == 5 && image[2] == 8 && guarded(3));
 }
 
+/* No words and no bytes, at NULL; a word at NULL has no room. */
+static void try_no_prints(void)
+{
+    static const uint16_t word[] = {0};
+    EXPECT(is_printed(kernel_print(NULL, 0, NULL, 0), 0, 0));
+    EXPECT(is_printed(kernel_print_size(NULL, 0), 0, 0));
+    EXPECT(is_printed(kernel_print(word, 1, NULL, 0), 0, 16));
+}
+
+/* A list of four words in a byte too little, in room enough and in more, and a list of a word too many. */
+static void try_prints(void)
+{
+    static const uint16_t words[] = {4656, 256, 7, 256}, zeros[KERNEL_MOST_PRINTED + 1];
+    static const char printed[] = "input\nload r0 7\n256\n";
+    enum { PRINTED = sizeof printed - 1 };
+    uint8_t *text = (uint8_t *)image;
+    clear();
+    EXPECT(is_printed(kernel_print_size(words, COUNT(words)), PRINTED, 0));
+    EXPECT(is_printed(kernel_print_size(zeros, KERNEL_MOST_PRINTED), 2 * KERNEL_MOST_PRINTED, 0));
+    EXPECT(is_printed(kernel_print_size(zeros, COUNT(zeros)), 0, 16));
+    EXPECT(is_printed(kernel_print(words, COUNT(words), text, PRINTED - 1), 0, 16));
+    EXPECT(is_printed(kernel_print(zeros, COUNT(zeros), text, 2 * CROWD_WORDS), 0, 16));
+    EXPECT(guarded(0));
+    EXPECT(is_printed(kernel_print(words, COUNT(words), text, PRINTED), PRINTED, 0));
+    EXPECT(memcmp(text, printed, PRINTED) == 0 && guarded(PRINTED / 2));
+    clear();
+    EXPECT(is_printed(kernel_print(words, COUNT(words), text, 2 * CROWD_WORDS), PRINTED, 0));
+    EXPECT(memcmp(text, printed, PRINTED) == 0 && guarded(PRINTED / 2));
+}
+
 int main(void)
 {
     try_no_words();
@@ -159,5 +194,7 @@ int main(void)
     try_a_crowd();
     try_no_texts();
     try_texts();
+    try_no_prints();
+    try_prints();
     return EXIT_SUCCESS;
 }

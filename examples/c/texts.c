@@ -1,11 +1,12 @@
-/* The example of the text form: its script is translated with its names, in room enough, in too little, and with a name less. */
+/* The example of the text form: its script is translated with its names and the words are printed back; then in too little
+   room, and with a name less. */
 #include <stdio.h>
 #include <stdlib.h>
 #include <string.h>
 
 #include "kernel.h"
 
-enum { MOST_WORDS = 16 };
+enum { MOST_WORDS = 16, MOST_BYTES = 16 * MOST_WORDS };
 
 static const char names[] = "size = 4\n"
                             "last = size * (2 + 3) - 1\n";
@@ -34,7 +35,15 @@ static void print_refused(const char *with, struct kernel_translated told, size_
     printf("refused %u: %.*s\n", told.number, (int)line.bytes, text + line.start);
 }
 
-/* Translates the script with some names to at most so many words, and prints them, or what is refused. */
+/* Prints words back as text. */
+static void print_back(const uint16_t *words, size_t count)
+{
+    uint8_t text[MOST_BYTES];
+    struct kernel_printed told = kernel_print(words, count, text, MOST_BYTES);
+    printf("%.*s", (int)told.bytes, (const char *)text);
+}
+
+/* Translates the script with some names to at most so many words, and prints them and their text, or what is refused. */
 static void print_translated(const char *with, size_t room)
 {
     uint16_t target[MOST_WORDS];
@@ -46,6 +55,7 @@ static void print_translated(const char *with, size_t room)
     }
     for (size_t k = 0; k < told.words; k++)
         printf("%u\n", target[k]);
+    print_back(target, told.words);
 }
 
 int main(void)

@@ -1,5 +1,5 @@
-//! The example of the text form: its script is translated with its names, in room enough, in too little, and with a
-//! name less.
+//! The example of the text form: its script is translated with its names and the words are printed back; then in too
+//! little room, and with a name less.
 
 const MOST_WORDS: usize = 16;
 
@@ -19,11 +19,23 @@ table: size
       loop + 2
 ";
 
-/// Translates the script with some names to at most so many words, and prints them, or what is refused.
+/// Prints words back as text.
+fn print_back(words: &[u16]) {
+    let mut text = [0; 16 * MOST_WORDS];
+    match kernel::print(words, &mut text) {
+        Ok(bytes) => print!("{}", String::from_utf8_lossy(&text[..bytes])),
+        Err(number) => println!("refused {number}"),
+    }
+}
+
+/// Translates the script with some names to at most so many words, and prints them and their text, or what is refused.
 fn print_translated(names: &str, room: usize) {
     let mut target = [0; MOST_WORDS];
     match kernel::translate(names.as_bytes(), SCRIPT.as_bytes(), &mut target[..room]) {
-        Ok(words) => target[..words].iter().for_each(|word| println!("{word}")),
+        Ok(words) => {
+            target[..words].iter().for_each(|word| println!("{word}"));
+            print_back(&target[..words]);
+        }
         Err(refused) => {
             let line = kernel::refused_line(names.as_bytes(), SCRIPT.as_bytes(), room);
             println!("refused {}: {}", refused.number, String::from_utf8_lossy(line));

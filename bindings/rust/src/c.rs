@@ -55,6 +55,16 @@ pub struct Line {
     pub bytes: u64,
 }
 
+/// What a list of words is printed to.
+#[repr(C)]
+#[derive(Clone, Copy, Debug, PartialEq, Eq)]
+pub struct Printed {
+    /// How many bytes the text has, 0 where the list is refused.
+    pub bytes: u64,
+    /// 0 or 16.
+    pub number: u16,
+}
+
 /// The kind and the task of a refused event.
 pub const NO_ANSWER: u16 = 65535;
 
@@ -101,4 +111,10 @@ extern "C" {
         script_bytes: usize,
         room: u64,
     ) -> Line;
+
+    /// Prints a list of words in the buffer.
+    pub fn kernel_print(words: *const u16, count: usize, text: *mut u8, text_bytes: usize) -> Printed;
+
+    /// How many bytes [`kernel_print`] needs for a list of words.
+    pub fn kernel_print_size(words: *const u16, count: usize) -> Printed;
 }

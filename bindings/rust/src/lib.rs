@@ -1,4 +1,4 @@
-//! The proved kernel, for programs in Rust: check, size, build, event, run; translate, `refused_line`.
+//! The proved kernel, for programs in Rust: check, size, build, event, run; translate, `refused_line`; print, `print_size`.
 //!
 //! Nothing is required of the words and bytes: any slice may be lent, empty ones too. A call either does what it says, or
 //! it refuses, answers the number of the refusal and changes no word. The numbers are 1 to 16, as `include/kernel.h` lists
@@ -29,6 +29,9 @@ pub const OUTPUT_DONE: u16 = 2;
 
 /// The words of an event in a list: kind, device, character.
 pub const EVENT_WORDS: usize = 3;
+
+/// The most words of a list that is printed: those of the longest segment.
+pub const MOST_PRINTED: usize = 32715;
 
 /// How a run ended.
 #[derive(Clone, Copy, Debug, PartialEq, Eq)]
@@ -149,6 +152,30 @@ pub fn translate(names: &[u8], script: &[u8], target: &mut [u16]) -> Result<usiz
     };
     let text = if told.text == c::NAMES { Text::Names } else { Text::Script };
     unless_refused(told.number, count(told.words)).map_err(|number| Untranslated { number, text })
+}
+
+/// Prints a list of words in the buffer, from its first byte on, as the script that [`translate`] gives these words for,
+/// without names; the bytes past it stay as they are. Answers how many bytes the text has.
+///
+/// # Errors
+///
+/// 16 where the list has over [`MOST_PRINTED`] words, or its text more bytes than the buffer. No byte of the buffer is
+/// changed then.
+pub fn print(words: &[u16], text: &mut [u8]) -> Result<usize, u16> {
+    // SAFETY: above.
+    let told = unsafe { c::kernel_print(words.as_ptr(), words.len(), text.as_mut_ptr(), text.len()) };
+    unless_refused(told.number, count(told.bytes))
+}
+
+/// How many bytes [`print`] needs for a list of words.
+///
+/// # Errors
+///
+/// 16 where the list has over [`MOST_PRINTED`] words.
+pub fn print_size(words: &[u16]) -> Result<usize, u16> {
+    // SAFETY: above.
+    let told = unsafe { c::kernel_print_size(words.as_ptr(), words.len()) };
+    unless_refused(told.number, count(told.bytes))
 }
 
 /// The line that [`translate`] refuses with a target of so many words, as the part of its text, without the byte 10 that

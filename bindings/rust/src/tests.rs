@@ -1,7 +1,7 @@
 //! Each call on the paper's example or the example of the text form, on what is refused, and on empty slices.
 
-use crate::{build, c, check, event, refused_line, run, size, translate};
-use crate::{Ran, Text, Untranslated, INPUT, OUTPUT_DONE, TICK};
+use crate::{build, c, check, event, print, print_size, refused_line, run, size, translate};
+use crate::{Ran, Text, Untranslated, INPUT, MOST_PRINTED, OUTPUT_DONE, TICK};
 
 const PLAN: [u16; 9] = [1, 2, 1, 1, 1, 4, 2, 4656, 4672];
 
@@ -158,14 +158,74 @@ fn there_may_be_8192_names_and_one_more_is_13() {
     assert_eq!(refused_line(lines(8193).as_bytes(), b"", 0), b"a8192 = 8192");
 }
 
+/// The words of the text form's example, and their text as its page has it.
+const WORDS: [u16; 9] = [4656, 1076, 336, 19, 3381, 3856, 0, 4, 2];
+
+const PRINTED: &[u8] = b"input\nstore r3 r4\nload r5 19\ncompare r3 r5\njumplt 0\n4\n2\n";
+
+/// Any byte that is no byte of the text form.
+const UNTOUCHED_BYTE: u8 = 0xA5;
+
+#[test]
+fn the_text_of_a_list_stands_first_and_the_other_bytes_stay() {
+    let mut text = [UNTOUCHED_BYTE; 64];
+    let (lent, rest) = text.split_at_mut(PRINTED.len() + 2);
+    assert_eq!(print(&WORDS, lent), Ok(PRINTED.len()));
+    assert_eq!(lent[..PRINTED.len()], *PRINTED);
+    assert_eq!(lent[PRINTED.len()..], [UNTOUCHED_BYTE; 2]);
+    assert!(rest.iter().all(|byte| *byte == UNTOUCHED_BYTE));
+}
+
+#[test]
+fn a_buffer_of_the_measured_size_is_enough_and_a_byte_less_is_16_and_kept() {
+    assert_eq!(print_size(&WORDS), Ok(PRINTED.len()));
+    let mut text = vec![UNTOUCHED_BYTE; PRINTED.len()];
+    assert_eq!(print(&WORDS, &mut text[1..]), Err(16));
+    assert!(text.iter().all(|byte| *byte == UNTOUCHED_BYTE));
+    assert_eq!(print(&WORDS, &mut text), Ok(PRINTED.len()));
+    assert_eq!(text, PRINTED);
+}
+
+#[test]
+fn a_printed_list_is_translated_to_the_list() {
+    let words: Vec<u16> = (0..32715).map(|k: u32| (k * 7919 % 65536) as u16).collect();
+    let mut text = vec![0; print_size(&words).unwrap()];
+    assert_eq!(print(&words, &mut text), Ok(text.len()));
+    let mut target = vec![UNTOUCHED; words.len()];
+    assert_eq!(translate(b"", &text, &mut target), Ok(words.len()));
+    assert_eq!(target, words);
+}
+
+#[test]
+fn the_longest_list_is_printed_and_one_word_more_is_16() {
+    let words = vec![2423; MOST_PRINTED + 1];
+    let mut text = vec![UNTOUCHED_BYTE; 16 * words.len()];
+    assert_eq!(print_size(&words), Err(16));
+    assert_eq!(print(&words, &mut text), Err(16));
+    assert!(text.iter().all(|byte| *byte == UNTOUCHED_BYTE));
+    assert_eq!(print_size(&words[1..]), Ok(16 * MOST_PRINTED));
+    assert_eq!(print(&words[1..], &mut text), Ok(16 * MOST_PRINTED));
+    assert!(text.ends_with(b"\nremainder r7 r7\n\xA5\xA5\xA5\xA5\xA5\xA5\xA5\xA5\xA5\xA5\xA5\xA5\xA5\xA5\xA5\xA5"));
+}
+
+#[test]
+fn an_empty_list_has_the_empty_text() {
+    assert_eq!(print_size(&[]), Ok(0));
+    assert_eq!(print(&[], &mut []), Ok(0));
+    assert_eq!(print(&[0], &mut []), Err(16));
+}
+
 /// The most of the stack that a call on texts takes, by include/kernel.h.
 const MOST_STACK: usize = 256 * 1024;
 
 #[test]
 fn a_call_on_texts_needs_little_of_the_stack() {
-    let call = || (translated(NAMES, b"((((((((last))))))))"), refused_line(NAMES, b"b", 16));
+    let call = || {
+        let printed = print(&WORDS, &mut [0; 64]);
+        (translated(NAMES, b"((((((((last))))))))"), refused_line(NAMES, b"b", 16), printed)
+    };
     let thread = std::thread::Builder::new().stack_size(MOST_STACK).spawn(call).unwrap();
-    assert_eq!(thread.join().unwrap(), (Ok(1), &b"b"[..]));
+    assert_eq!(thread.join().unwrap(), (Ok(1), &b"b"[..], Ok(PRINTED.len())));
 }
 
 /// A plan of three tasks, its image's words, and events of which the last but one is refused.
@@ -211,4 +271,19 @@ fn each_field_of_an_answer_on_texts_stands_where_it_is_declared() {
     assert_eq!(told(b"size = 4\n", script, 2), (translated(0, 16, c::SCRIPT), line(14, 10)));
     assert_eq!(told(b"size = 4\n", b"size\nother\n", 4), (translated(0, 14, c::SCRIPT), line(5, 5)));
     assert_eq!(told(b"size = 4\nb = \n", script, 4), (translated(0, 13, c::NAMES), line(9, 4)));
+}
+
+#[test]
+fn each_field_of_an_answer_on_printing_stands_where_it_is_declared() {
+    let told = |words: &[u16], room: usize| unsafe {
+        let mut text = vec![UNTOUCHED_BYTE; room];
+        (
+            c::kernel_print(words.as_ptr(), words.len(), text.as_mut_ptr(), room),
+            c::kernel_print_size(words.as_ptr(), words.len()),
+        )
+    };
+    let printed = |bytes, number| c::Printed { bytes, number };
+    assert_eq!(told(&[4656, 10], 10), (printed(9, 0), printed(9, 0)));
+    assert_eq!(told(&[4656, 10], 8), (printed(0, 16), printed(9, 0)));
+    assert_eq!(told(&[0; MOST_PRINTED + 1], 80000), (printed(0, 16), printed(0, 16)));
 }
