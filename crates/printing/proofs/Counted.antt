@@ -8,7 +8,8 @@ use lib.ListN.{length, length-append}
 use Rattle.paper.specs.Runner.{decimal, newline}
 use Rattle.laws.specs.Decimal.{decimal-short}
 use Rattle.packing.specs.Placing.{unpacked-length}
-use Rattle.spelling.specs.Rows.{row-of, front, tail, tail-at, order-piece}
+use Rattle.rows.specs.Rows.{row-of, front, tail}
+use Rattle.spelling.specs.Pieces.{tail-at, order-piece}
 use Rattle.spelling.specs.Spelt.{piece-in-parts}
 use Rattle.printing.specs.Pieces.{piece, most-piece, RowFor, is-order}
 

@@ -11,7 +11,8 @@ use Rattle.paper.specs.Runner.{decimal, space, newline}
 use Rattle.grammar.specs.Tokens.{bytes}
 use Rattle.grammar.specs.Kept.{kept-words}
 use Rattle.grammar.specs.Printing.{named-as, Spelling, spelling, number-text, line-alone, line-of-two, printed}
-use Rattle.spelling.specs.Rows.{row-of, row-at, second, number-piece, piece-by, order-piece}
+use Rattle.rows.specs.Rows.{row-of, row-at, second}
+use Rattle.spelling.specs.Pieces.{number-piece, piece-by, order-piece}
 use Rattle.spelling.specs.Spelt.{plain-spelt, followed, second-spelt}
 use Rattle.printing.specs.Pieces.{piece, RowFor, row-alone, row-first, text-from}
 

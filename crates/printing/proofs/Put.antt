@@ -10,7 +10,8 @@ use Rattle.paper.specs.Runner.{decimal, newline}
 use Rattle.packing.specs.Packed.{bytes-of, Placed}
 use Rattle.packing.specs.Placing.{bytes-length, placed-then, placed-text}
 use Rattle.packing.specs.declared.Packed.{Packed}
-use Rattle.spelling.specs.Rows.{row-of, rows-end, front, tail-at}
+use Rattle.rows.specs.Rows.{row-of, rows-end, front}
+use Rattle.spelling.specs.Pieces.{tail-at}
 use Rattle.spelling.specs.Spelt.{row-few}
 use Rattle.grammar.specs.Printing.{printed}
 use Rattle.printing.specs.Pieces.{piece, RowFor, row-first, Inscribed}

@@ -10,7 +10,7 @@ use lib.Dec.{eqb}
 use lib.ListN.{length, getD, take, drop, length-append, length-drop, take-append-drop, drop-of-length-le}
 use lib.Seq.{drop-cons, length-take-le, take-append-add, drop-append-add, take-append-seam, drop-append-seam}
 use Rattle.grammar.specs.Printing.{printed}
-use Rattle.spelling.specs.Rows.{row-of, second, rows-end}
+use Rattle.rows.specs.Rows.{row-of, second, rows-end}
 use Rattle.spelling.specs.Spelt.{row-few}
 use Rattle.printing.specs.Pieces.{piece, RowFor, row-alone, row-first, text-from}
 use Rattle.printing.proofs.From.{first-piece}

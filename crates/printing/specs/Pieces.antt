@@ -7,7 +7,8 @@ use Prim.Native.Nat.{ℕ, zero, suc}
 use lib.Dec.{eqb}
 use lib.ListN.{length, drop}
 use Rattle.grammar.specs.Printing.{printed}
-use Rattle.spelling.specs.Rows.{row-of, second, number-piece, order-piece}
+use Rattle.rows.specs.Rows.{row-of, second}
+use Rattle.spelling.specs.Pieces.{number-piece, order-piece}
 
 -- what a word gives to the text, by its row
 unfoldable pub piece : ℕ → ℕ → List ℕ

@@ -8,7 +8,8 @@ use borrow.Author.Tests.{lt-ltb, le-ltb}
 use lib.ListN.{length, getD}
 use Rattle.paper.specs.Orders.{a-of, b-of}
 use Rattle.packing.specs.Packed.{unpacked}
-use Rattle.spelling.specs.Rows.{rows-end, sixteenths, row-of, front, tail, second, end-b, place, packed, form, tail-value, tail-at, sixteenth-of, RowTable, ByRow, FormTable, NameTable, TailTable, PlaceTable}
+use Rattle.rows.specs.Rows.{rows-end, sixteenths, row-of, front, tail, second, end-b, place, packed, form, RowTable, ByRow, FormTable, NameTable, TailTable, PlaceTable}
+use Rattle.spelling.specs.Pieces.{tail-value, tail-at, sixteenth-of}
 use Rattle.spelling.specs.Spelt.{row-few, looked, row-looked, form-front, form-tail, form-second, form-end, front-short, tail-short, front-unpacked, registers-fit, tail-fits}
 
 -- an entry of a table by row

@@ -17,7 +17,8 @@ use Rattle.order_table.specs.Reading.{all-below, all-below-at}
 use Rattle.print_laws.specs.Sweep.{end-of-orders, none-past, each-order, swept}
 use Rattle.text_laws.specs.Words.{same-is}
 use Rattle.packing.specs.Packed.{unpacked}
-use Rattle.spelling.specs.Rows.{rows-end, sixteenths, row-from, row-named, row-of, row-at, front, tail, second, end-b, place, packed, form, tail-value, tail-at, sixteenth-of, piece-by, order-piece}
+use Rattle.rows.specs.Rows.{rows-end, sixteenths, row-from, row-named, row-of, row-at, front, tail, second, end-b, place, packed, form}
+use Rattle.spelling.specs.Pieces.{tail-value, tail-at, sixteenth-of, piece-by, order-piece}
 
 -- there are 24 rows
 pub row-few : (w : ℕ) → row-of w < rows-end

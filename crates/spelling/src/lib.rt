@@ -3,57 +3,20 @@ ghost use mathlib.Core.Path.{_≡_};
 ghost use Prim.Native.Nat.{_+_, _<_, _≤_};
 ghost use lib.ListN.{length};
 ghost use Rattle.packing.specs.Packed.{bytes-of};
-ghost use Rattle.spelling.specs.Rows.{row-of, rows-end, sixteenth-of, front, tail, second, tail-at, RowTable, FormTable, NameTable, TailTable, PlaceTable};
+ghost use Rattle.rows.specs.Rows.{row-of, rows-end, front, tail, second, RowTable, FormTable, NameTable, TailTable, PlaceTable};
+ghost use Rattle.spelling.specs.Pieces.{sixteenth-of, tail-at};
 use packing::Packed;
-use tables::FIELD_B;
-use tables::FORM_TABLE;
-use tables::NAME_TABLE;
-use tables::PLACE_TABLE;
-use tables::ROW_TABLE;
-pub use tables::ROWS;
-use tables::SECOND_WORD;
-pub use tables::SIXTEENTHS;
-use tables::TAIL;
-use tables::TAIL_TABLE;
-
-mod tables;
+use rows::FIELD_B;
+use rows::ROWS;
+use rows::SECOND_WORD;
+use rows::SIXTEENTHS;
+use rows::TAIL;
 
 // The fields of a first word.
 const FIELD: u16 = 16;
 
 // The place of the second register, from that of the first.
 const THREE_ON: u64 = 16777216;
-
-// The tables, for a caller that lays them out once and lends them down.
-pub fn row_table() -> [u8; SIXTEENTHS]
-    ensures { λ r. ⌜ RowTable r ⌝ }
-{
-    ROW_TABLE
-}
-
-pub fn form_table() -> [u16; ROWS]
-    ensures { λ r. ⌜ FormTable r ⌝ }
-{
-    FORM_TABLE
-}
-
-pub fn name_table() -> [u64; ROWS]
-    ensures { λ r. ⌜ NameTable r ⌝ }
-{
-    NAME_TABLE
-}
-
-pub fn tail_table() -> [u64; ROWS]
-    ensures { λ r. ⌜ TailTable r ⌝ }
-{
-    TAIL_TABLE
-}
-
-pub fn place_table() -> [u64; ROWS]
-    ensures { λ r. ⌜ PlaceTable r ⌝ }
-{
-    PLACE_TABLE
-}
 
 // The sixteenth of the words that a word lies in; all past the orders are one.
 fn sixteenth(word: u16) -> usize

@@ -2,10 +2,10 @@
 use mathlib.Core.Path.{refl}
 use Rattle.grammar.specs.Tokens.{bytes}
 use Rattle.grammar.specs.Kept.{kept-words}
-use Rattle.spelling.specs.Rows.{row-at, tail, packed}
-use Rattle.spelling.proofs.Entries.{by-row-right}
-use Rattle.spelling.proofs.tail_table.Statement.{statement}
-use Rattle.spelling.proofs.tail_table.Tie as tie
+use Rattle.rows.specs.Rows.{row-at, tail, packed}
+use Rattle.rows.proofs.Entries.{by-row-right}
+use Rattle.rows.proofs.tail_table.Statement.{statement}
+use Rattle.rows.proofs.tail_table.Tie as tie
 
 returns : tie.Need-returns
 unfolding row-at tail packed bytes kept-words

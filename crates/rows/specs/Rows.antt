@@ -2,16 +2,14 @@
 use mathlib.Core.Path.{_≡_}
 use mathlib.Core.Bool.{true, false}
 use mathlib.Core.List.{List, [], _∷_, _++_}
-use Prim.Native.Nat.{ℕ, zero, suc, _+_, _*_, _/_, _^_, _<_, min}
+use Prim.Native.Nat.{ℕ, suc, _+_, _*_, _^_, _<_}
 use lib.ListN.{length, getD, take, drop}
-use Rattle.paper.specs.Orders.{a-of, b-of}
-use Rattle.paper.specs.Runner.{decimal, space, newline}
+use Rattle.paper.specs.Runner.{space, newline}
 use Rattle.grammar.specs.Tokens.{bytes, same}
 use Rattle.grammar.specs.Kept.{Row, row, kept-words}
-use Rattle.grammar.specs.Printing.{Named, named-as, Spelling, spelling}
+use Rattle.grammar.specs.Printing.{Named, named-as}
 use Rattle.grammar.specs.declared.Kept.{Kept}
 use Rattle.grammar.specs.declared.Operands.{Operands}
-use Rattle.packing.specs.Packed.{unpacked}
 
 -- the rows, and the sixteenths of the words before the end of the orders
 abbrev pub rows-end : ℕ
@@ -99,17 +97,6 @@ packed (b ∷ bs) = b + 256 * packed bs
 abbrev pub form : ℕ → ℕ
 form r = length (front r) + 16 * length (tail r) + 256 * second r + 512 * end-b r
 
--- the tail of a word's row with the word's registers: the second stands three bytes after the first
-abbrev pub tail-value : ℕ → ℕ → ℕ
-tail-value r w = packed (tail r) + (a-of w + 16777216 * b-of w) * place r
-
-unfoldable pub tail-at : ℕ → List ℕ
-tail-at w = unpacked (length (tail (row-of w))) (tail-value (row-of w) w)
-
--- the sixteenth of the words that a word lies in; all past the orders are one
-abbrev pub sixteenth-of : ℕ → ℕ
-sixteenth-of w = min (w / 16) sixteenths
-
 -- the rules of the tables
 unfoldable pub RowTable : List ℕ → Type 0
 RowTable t = (k : ℕ) → k < suc sixteenths → getD t k 0 ≡ row-of (16 * k)
@@ -129,15 +116,3 @@ TailTable t = ByRow (λ r. packed (tail r)) t
 
 abbrev pub PlaceTable : List ℕ → Type 0
 PlaceTable t = ByRow place t
-
--- what a word gives to a text: as a number, and where it begins a line, which is an order up to its second word or a number
-abbrev pub number-piece : ℕ → List ℕ
-number-piece w = decimal w ++ newline
-
-abbrev pub piece-by : Spelling → ℕ → List ℕ
-piece-by Spelling.plain w = number-piece w
-piece-by (Spelling.one l) w = l ++ newline
-piece-by (Spelling.two l) w = l ++ space
-
-unfoldable pub order-piece : ℕ → List ℕ
-order-piece w = piece-by (spelling (named-as w) w) w

@@ -3,10 +3,10 @@ use mathlib.Core.Path.{refl}
 use Rattle.grammar.specs.Tokens.{bytes, same}
 use Rattle.grammar.specs.Kept.{kept-words}
 use Rattle.grammar.specs.Printing.{named-in, named-as}
-use Rattle.spelling.specs.Rows.{row-from, row-of}
-use Rattle.spelling.proofs.Entries.{rows-right}
-use Rattle.spelling.proofs.row_table.Statement.{statement}
-use Rattle.spelling.proofs.row_table.Tie as tie
+use Rattle.rows.specs.Rows.{row-from, row-of}
+use Rattle.rows.proofs.Entries.{rows-right}
+use Rattle.rows.proofs.row_table.Statement.{statement}
+use Rattle.rows.proofs.row_table.Tie as tie
 
 returns : tie.Need-returns
 unfolding row-of row-from bytes same kept-words named-in named-as

@@ -7,7 +7,7 @@ use borrow.Author.Tests.{eqb-true}
 use lib.Dec.{eqb}
 use lib.ListN.{getD}
 use Rattle.order_table.specs.Reading.{all-below, all-below-at}
-use Rattle.spelling.specs.Rows.{rows-end, sixteenths, row-of, RowTable, ByRow}
+use Rattle.rows.specs.Rows.{rows-end, sixteenths, row-of, RowTable, ByRow}
 
 entries : (n : ℕ) (f : ℕ → ℕ) (t : List ℕ) → So (all-below n (λ k. eqb (getD t k 0) (f k))) → (k : ℕ) → k < n → getD t k 0 ≡ f k
 entries n f t right k h = eqb-true _ _ (all-below-at n (λ j. eqb (getD t j 0) (f j)) right k h)
