@@ -50,3 +50,7 @@ decimal-short (suc k) n h = go (ltb n 10) refl (decimal-short k (n / 10) (omega 
     go : (b : Bool) → ltb n 10 ≡ b → length (decimal (n / 10)) ≤ suc k → length (decimal n) ≤ suc (suc k)
     go true e s = rw (decimal-one n (ltb-true n 10 e)) (omega arith)
     go false e s = rw (decimal-more n (ltb-false n 10 e), length-append) (omega arith)
+
+-- a word has at most five digits
+pub word-short : (n c : ℕ) → n < 65536 → c ≡ length (decimal n) → c ≤ 5
+word-short n c h e = rw e (decimal-short 4 n (omega arith))

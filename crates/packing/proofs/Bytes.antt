@@ -8,7 +8,7 @@ use native.Mathlib.Omega.{arith}
 use lib.Pow.{shr-shr}
 use lib.ListN.{length, set, take, drop}
 use Rattle.paper.specs.Runner.{decimal, newline}
-use Rattle.laws.specs.Decimal.{decimal-short}
+use Rattle.laws.specs.Decimal.{word-short}
 use Rattle.writes.specs.Written.{written}
 use Rattle.packing.specs.Packed.{unpacked, five, Placed}
 use Rattle.packing.specs.Placing.{unpacked-length, placed-first}
@@ -60,10 +60,7 @@ five-bytes n h =
       line-end,
     )
 
--- a word has five digits at most, and what is left after the shift is its digits and the end of the line
-pub word-short : (n c : ℕ) → n < 65536 → c ≡ length (decimal n) → c ≤ 5
-word-short n c h e = omega (arith, decimal-short 4 n (omega arith))
-
+-- what is left after the shift is the digits and the end of the line
 pub number-bytes : (n c v : ℕ) → n < 65536 → c ≡ length (decimal n) → v ≡ five n
     → unpacked (c + 1) (v / 2 ^ (8 * (5 - c))) ≡ decimal n ++ newline
 number-bytes n c v h e ev =

@@ -47,7 +47,7 @@ line-spells l t ws g h fine few s =
     }
 
 -- a word in front of another: `later` is the text from the other on, `past` the text past it
-abbrev whole-of : Spelling → ℕ → ℕ → List ℕ → List ℕ → List ℕ
+abbrev pub whole-of : Spelling → ℕ → ℕ → List ℕ → List ℕ → List ℕ
 whole-of s w n later past =
     elim s [
       | Spelling.plain ↦ decimal w ++ (newline ++ later)

@@ -62,7 +62,7 @@ module _ (ws : List ℕ) where
   abbrev Fits : ℕ → Type 0
   Fits room = (length ws ≤ most-printed) × (length (printed ws) ≤ room)
 
-  measured-is : (n : ℕ) → Printing.Bytes n ≡ measured ws → (length ws ≤ most-printed) × (n ≡ length (printed ws))
+  pub measured-is : (n : ℕ) → Printing.Bytes n ≡ measured ws → (length ws ≤ most-printed) × (n ≡ length (printed ws))
   unfolding measured
   measured-is n e =
       let h = measured-bytes (leb (length ws) most-printed) (length (printed ws)) n (sym e) in

@@ -1,6 +1,5 @@
 -- What the two calls answer, by the length of the list and of the buffer. Assumes nothing.
 use mathlib.Core.Path.{_≡_, refl, sym, ap, _∙_}
-use mathlib.Core.Bool.{Bool, true, false}
 use mathlib.Core.List.{List, _++_}
 use Prim.Native.Nat.{ℕ, _<_, _≤_}
 use native.Mathlib.Omega.{arith}
@@ -11,6 +10,7 @@ use Rattle.grammar.specs.Printing.{printed, most-printed, measured, printing, f
 use Rattle.grammar.specs.Promises.{Prints, MeasuresText}
 use Rattle.grammar.specs.declared.Printing.{Printing}
 use Rattle.grammar.specs.declared.Refusal.{Refusal}
+use Rattle.print_laws.specs.Proved.{measured-is}
 use Rattle.printing.specs.Pieces.{Inscribed}
 
 -- an answer that is the promised one has its numbers
@@ -46,11 +46,5 @@ module _ (ws o : List ℕ) (a : Printing) (m : MeasuresText ws a) where
   prints-text out n e h left =
       prints ws o out _ (sym (ap (λ b. fitting b (length o)) (sym (m .answers) ∙ e) ∙ rw (le-leb n (length o) h, fitting))) left
 
-  pub measured-is : (n : ℕ) → a ≡ Printing.Bytes n → n ≡ length (printed ws)
-  unfolding measured
-  measured-is n e = either (leb (length ws) most-printed) (sym e ∙ m .answers)
-    where
-      either : (t : Bool) → Printing.Bytes n ≡ elim t [ true ↦ Printing.Bytes (length (printed ws)) | false ↦ Printing.Refused Refusal.NoRoom ]
-          → n ≡ length (printed ws)
-      either true e = ap printing-bytes e
-      either false e = absurd (let z : _≡_ {A = ℕ} 0 16 = ap printing-number e in omega arith)
+  pub measured-text-is : (n : ℕ) → a ≡ Printing.Bytes n → n ≡ length (printed ws)
+  measured-text-is n e = measured-is ws n (sym e ∙ m .answers) .1

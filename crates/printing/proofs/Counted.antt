@@ -6,7 +6,6 @@ use Prim.Native.Nat.{ℕ, zero, suc, _+_, _-_, _*_, _<_, _≤_}
 use native.Mathlib.Omega.{arith}
 use lib.ListN.{length, length-append}
 use Rattle.paper.specs.Runner.{decimal, newline}
-use Rattle.laws.specs.Decimal.{decimal-short}
 use Rattle.packing.specs.Placing.{unpacked-length}
 use Rattle.rows.specs.Rows.{row-of, front, tail}
 use Rattle.spelling.specs.Pieces.{tail-at, order-piece}
@@ -18,11 +17,6 @@ pub flag-times : (a b : ℕ) → a ≤ 1 → a * b ≤ b
 flag-times zero b h = omega arith
 flag-times (suc zero) b h = omega arith
 flag-times (suc (suc a)) b h = absurd (omega arith)
-
-pub times-flag : (a b : ℕ) → b ≤ 1 → a * b ≤ a
-times-flag a zero h = omega arith
-times-flag a (suc zero) h = omega arith
-times-flag a (suc (suc b)) h = absurd (omega arith)
 
 pub order-flag : (row : ℕ) → is-order row ≤ 1
 unfolding is-order
@@ -37,9 +31,6 @@ order-known (suc r) ne = refl
 pub number-long : (w : ℕ) → length (piece 0 w) ≡ length (decimal w) + 1
 unfolding piece
 number-long w = length-append (decimal w) newline
-
-pub number-few : (w d : ℕ) → w < 65536 → d ≡ length (decimal w) → d ≤ 5
-number-few w d h e = rw e (decimal-short 4 w (omega arith))
 
 -- front and tail of an order's row
 pub order-in-parts : (row w : ℕ) → row ≢ 0 → RowFor row w → piece row w ≡ front row ++ tail-at w

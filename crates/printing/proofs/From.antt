@@ -10,7 +10,8 @@ use lib.ListN.{length, getD, take, drop}
 use Rattle.paper.specs.Runner.{decimal, space, newline}
 use Rattle.grammar.specs.Tokens.{bytes}
 use Rattle.grammar.specs.Kept.{kept-words}
-use Rattle.grammar.specs.Printing.{named-as, Spelling, spelling, number-text, line-alone, line-of-two, printed}
+use Rattle.grammar.specs.Printing.{named-as, Spelling, spelling, number-text, line-alone, printed}
+use Rattle.print_laws.specs.Back.{whole-of}
 use Rattle.rows.specs.Rows.{row-of, row-at, second}
 use Rattle.spelling.specs.Pieces.{number-piece, piece-by, order-piece}
 use Rattle.spelling.specs.Spelt.{plain-spelt, followed, second-spelt}
@@ -44,16 +45,8 @@ last-line w (Spelling.one l) r e p = rw (alone-one r e, e, p) (sym (append-nil _
 last-line w (Spelling.two l) r e p = rw (alone-two r e, no-second) (sym (append-nil _))
 
 -- a word with another after it
-abbrev lines-on : Spelling → ℕ → ℕ → List ℕ → List ℕ
-lines-on x w n ws =
-    elim x [
-      | Spelling.plain ↦ decimal w ++ (newline ++ printed (n ∷ ws))
-      | Spelling.one l ↦ l ++ (newline ++ printed (n ∷ ws))
-      | Spelling.two l ↦ line-of-two l n ++ (newline ++ printed ws)
-    ]
-
 next-line : (w n : ℕ) (ws : List ℕ) (x : Spelling) (r : ℕ) → second r ≡ followed x → piece r w ≡ piece-by x w
-    → lines-on x w n ws ≡ piece r w ++ text-from (1 - second r) (n ∷ ws)
+    → whole-of x w n (printed (n ∷ ws)) (printed ws) ≡ piece r w ++ text-from (1 - second r) (n ∷ ws)
 unfolding text-from
 next-line w n ws Spelling.plain r e p = rw (e, p) (sym (append-assoc (decimal w) newline (printed (n ∷ ws))))
 next-line w n ws (Spelling.one l) r e p = rw (e, p) (sym (append-assoc l newline (printed (n ∷ ws))))

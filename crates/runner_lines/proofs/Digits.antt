@@ -56,9 +56,6 @@ number-small Refusal.WrongTarget = omega arith
 pub kind-short : (a : Answer) (k : ℕ) → k ≡ kind a → length (decimal k) ≡ 1
 kind-short a k e = rw e (one-long (kind a) (kind-small a))
 
-pub task-short : (t : ℕ) → t < 65536 → length (decimal t) ≤ 5
-task-short t h = decimal-short 4 t (omega arith)
-
 pub number-short : (r : Refusal) (k : ℕ) → k ≡ number r → length (decimal k) ≤ 2
 number-short r k e = rw e (decimal-short 1 (number r) (number-small r))
 

@@ -6,14 +6,12 @@ ghost use Rattle.packing.specs.Packed.{bytes-of};
 ghost use Rattle.rows.specs.Rows.{row-of, rows-end, front, tail, second, RowTable, FormTable, NameTable, TailTable, PlaceTable};
 ghost use Rattle.spelling.specs.Pieces.{sixteenth-of, tail-at};
 use packing::Packed;
+use paper::FIELD;
 use rows::FIELD_B;
 use rows::ROWS;
 use rows::SECOND_WORD;
 use rows::SIXTEENTHS;
 use rows::TAIL;
-
-// The fields of a first word.
-const FIELD: u16 = 16;
 
 // The place of the second register, from that of the first.
 const THREE_ON: u64 = 16777216;

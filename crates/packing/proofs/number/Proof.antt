@@ -1,7 +1,8 @@
 -- At most five digits: those that are not needed are shifted away.
 use native.Mathlib.Omega.{arith}
+use Rattle.laws.specs.Decimal.{word-short}
 use Rattle.packing.specs.Packed.{bytes-of}
-use Rattle.packing.proofs.Bytes.{word-short, number-bytes}
+use Rattle.packing.proofs.Bytes.{number-bytes}
 use Rattle.packing.proofs.number.Statement.{statement}
 use Rattle.packing.proofs.number.Tie as tie
 

@@ -1,6 +1,6 @@
 -- The answer of the measure, unless the buffer is too short; only then is the text written.
 use native.Mathlib.Omega.{arith}
-use Rattle.printing.proofs.Answered.{prints-refused, prints-short, prints-text, measured-is}
+use Rattle.printing.proofs.Answered.{prints-refused, prints-short, prints-text, measured-text-is}
 use borrow.Author.Needs.{needs}
 use Rattle.printing.proofs.print.Statement.{statement}
 use Rattle.printing.proofs.print.Tie as tie
@@ -10,7 +10,7 @@ returns c = prints-short _ _ _ (c .before .before .before .before .print-size .e
 
 put-words-requires : tie.Need-put-words-requires
 put-words-requires c κs =
-    (measured-is _ (c .before .before .before .before .before .before .before .before .args .text .now) _ (c .before .before .before .before .before .print-size .ensures) _ (c .before .before .before .bytes .given .1), omega arith)
+    (measured-text-is _ (c .before .before .before .before .before .before .before .before .args .text .now) _ (c .before .before .before .before .before .print-size .ensures) _ (c .before .before .before .bytes .given .1), omega arith)
 
 returns-2 : tie.Need-returns-2
 returns-2 c = prints-refused _ _ _ (c .before .before .before .print-size .ensures) _ (c .before .r .given .1)

@@ -5,7 +5,7 @@ use lib.ListN.{length, take}
 use Rattle.grammar.specs.Printing.{printed}
 use Rattle.packing.specs.Packed.{Placed}
 use Rattle.packing.specs.Placing.{placed-none}
-use Rattle.printing.proofs.Counted.{flag-times, times-flag}
+use Rattle.printing.proofs.Counted.{flag-times}
 use Rattle.printing.proofs.Reached.{Reached, reached-none, reached-within, reached-next, row-for-piece}
 use Rattle.printing.proofs.Put.{piece-on, all-put}
 use borrow.Author.Needs.{needs}
@@ -24,7 +24,7 @@ loop-holds c = (reached-none _, placed-none _ _ _)
 
 mul-put-piece : tie.Need-mul-put-piece Inv-loop μ-loop
 mul-put-piece c =
-    let few = times-flag (c .before .row-at .result) _ (c .before .before .before .before .before .loop .inv .0 .flag) in
+    let few = flag-times _ (c .before .row-at .result) (c .before .before .before .before .before .loop .inv .0 .flag) in
     search (few, needs)
 
 put-piece-requires : tie.Need-put-piece-requires Inv-loop μ-loop
