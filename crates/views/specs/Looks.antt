@@ -37,29 +37,33 @@ task-state s im i =
 abbrev pub port-state : Shape → List ℕ → Task → PortState
 port-state s im d = record { busy = at s im (busy d); character = at s im (character d) }
 
--- queue 0 is the ready queue, the other two numbers 0
-abbrev pub names-ready : ℕ → ℕ → ℕ → Bool
-names-ready q i j = eqb q 0 && eqb i 0 && eqb j 0
+-- a queue, where it is there
+abbrev pub queue-if : Bool → Queue → Named
+queue-if there q = cond there (Named.Queue q) Named.NotThere
 
--- queue 1 is the input buffer of task i, the last number 0
-abbrev pub names-input : Shape → ℕ → ℕ → ℕ → Bool
-names-input s q i j = eqb q 1 && ltb i (s .n) && eqb j 0
+-- queue 0 is the ready queue, the two tasks 0
+abbrev pub ready-queue : ℕ → ℕ → Named
+ready-queue i j = queue-if (eqb i 0 && eqb j 0) Queue.Ready
 
--- queue 2 is the output buffer of task i, the last number 0
-abbrev pub names-output : Shape → ℕ → ℕ → ℕ → Bool
-names-output s q i j = eqb q 2 && ltb i (s .n) && eqb j 0
+-- queue 1 is the input buffer of task i, the second task 0
+abbrev pub input-buffer : Shape → ℕ → ℕ → Named
+input-buffer s i j = queue-if (ltb i (s .n) && eqb j 0) (Queue.Input (task-of i))
+
+-- queue 2 is the output buffer of task i, the second task 0
+abbrev pub output-buffer : Shape → ℕ → ℕ → Named
+output-buffer s i j = queue-if (ltb i (s .n) && eqb j 0) (Queue.Output (task-of i))
 
 -- queue 3 is the message buffer from task i to task j
-abbrev pub names-message : Shape → ℕ → ℕ → ℕ → Bool
-names-message s q i j = eqb q 3 && ltb i (s .n) && ltb j (s .n)
+abbrev pub message-buffer : Shape → ℕ → ℕ → Named
+message-buffer s i j = queue-if (ltb i (s .n) && ltb j (s .n)) (Queue.Message (task-of i) (task-of j))
 
--- the queue that three numbers name; others name none
+-- other numbers name no queue
 unfoldable pub named-queue : Shape → ℕ → ℕ → ℕ → Named
 named-queue s q i j =
-    cond (names-ready q i j) (Named.Queue Queue.Ready)
-    (cond (names-input s q i j) (Named.Queue (Queue.Input (task-of i)))
-    (cond (names-output s q i j) (Named.Queue (Queue.Output (task-of i)))
-    (cond (names-message s q i j) (Named.Queue (Queue.Message (task-of i) (task-of j))) Named.NotThere)))
+    cond (eqb q 0) (ready-queue i j)
+    (cond (eqb q 1) (input-buffer s i j)
+    (cond (eqb q 2) (output-buffer s i j)
+    (cond (eqb q 3) (message-buffer s i j) Named.NotThere)))
 
 -- the word at a place of a list, counted from 0
 abbrev pub word-in : List ℕ → ℕ → WordView

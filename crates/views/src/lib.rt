@@ -3,7 +3,7 @@ ghost use mathlib.Core.Path.{_≡_};
 ghost use Prim.Native.Nat.{_<_};
 ghost use Rattle.paper.specs.Queues.{Has, held};
 ghost use Rattle.laws.specs.Sound.{Sound};
-ghost use Rattle.views.specs.Looks.{task-state, port-state, named-queue, word-in, task-seen, port-seen, register-seen, length-seen, word-seen};
+ghost use Rattle.views.specs.Looks.{task-state, port-state, queue-if, named-queue, word-in, task-seen, port-seen, register-seen, length-seen, word-seen};
 ghost use Rattle.views.specs.Promises.{LooksAtTask, LooksAtPort, LooksAtRegister, LooksAtLength, LooksAtWord};
 use connectives::both;
 use inspect::inspect;
@@ -107,25 +107,29 @@ fn port_of(s: Shape, im: &[u16], d: Task) -> PortState
     }
 }
 
+// A queue, where it is there.
+fn where_there(there: bool, q: Queue) -> Named
+    ensures { λ r. ⌜ r ≡ queue-if there q ⌝ }
+{
+    if there {
+        return Named::Queue(q);
+    }
+    Named::NotThere
+}
+
 // The queue that is named by the number of its kind and those of its tasks.
 fn queue_named(s: Shape, q: u16, i: u16, j: u16) -> Named
     ensures { λ r. ⌜ r ≡ named-queue s q i j ⌝ }
 {
     let from = wide(i) < s.n;
     let to = wide(j) < s.n;
-    if both(q == READY_QUEUE, both(i == 0, j == 0)) {
-        return Named::Queue(Queue::Ready);
+    match q {
+        READY_QUEUE => where_there(both(i == 0, j == 0), Queue::Ready),
+        INPUT_BUFFER => where_there(both(from, j == 0), Queue::Input(Task(i))),
+        OUTPUT_BUFFER => where_there(both(from, j == 0), Queue::Output(Task(i))),
+        MESSAGE_BUFFER => where_there(both(from, to), Queue::Message(Task(i), Task(j))),
+        _ => Named::NotThere,
     }
-    if both(q == INPUT_BUFFER, both(from, j == 0)) {
-        return Named::Queue(Queue::Input(Task(i)));
-    }
-    if both(q == OUTPUT_BUFFER, both(from, j == 0)) {
-        return Named::Queue(Queue::Output(Task(i)));
-    }
-    if both(q == MESSAGE_BUFFER, both(from, to)) {
-        return Named::Queue(Queue::Message(Task(i), Task(j)));
-    }
-    Named::NotThere
 }
 
 // The word at a place of a queue, counted from its head.
