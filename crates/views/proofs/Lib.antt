@@ -1,3 +1,4 @@
 pub mod Seen
 pub mod Queues
 pub mod Looked
+pub mod Ranges

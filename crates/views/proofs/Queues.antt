@@ -67,7 +67,7 @@ module _ (s : Shape) (im : List ℕ) (q : Queue) (h : Sound s im) (hq : Has s q)
     pub slot-there : (x : ℕ) → lead + x % d < lead + header-capacity s q
     slot-there x = omega (arith, mod-lt x some-slots, rules .sized)
 
-    pub slot-low : (x : ℕ) → x % d < 33
+    pub slot-low : (x : ℕ) → 4 + x % d < 37
     slot-low x = omega (arith, mod-lt x some-slots, rules .sized, given-fits s im q (header-capacity s q) (sound-sized s im h) refl)
 
     pub word-held : (k n a b y w : ℕ) → n ≡ at s im (count s q) → k < n → a ≡ at s im (head s q) → b ≡ a → y ≡ k

@@ -1,10 +1,8 @@
 -- The word k places from the head is in slot (head + k) mod capacity.
-use Prim.Native.Nat.{_+_}
-use native.Mathlib.Omega.{arith}
 use Rattle.laws.specs.Sound.{sound-sized}
 use Rattle.laws.specs.Cells.{in-lead}
 use Rattle.views.proofs.Queues.{none-held, some-slots, slot-there, slot-low, word-held}
-use borrow.Author.Needs.{needs}
+use borrow.Author.Needs.{needs, fits-under}
 use Rattle.views.proofs.held_at.Statement.{statement}
 use Rattle.views.proofs.held_at.Tie as tie
 
@@ -24,7 +22,7 @@ add-queue-word : tie.Need-add-queue-word
 add-queue-word c =
     let b = c .before .before in
     let a = b .before .before .before .before .before .before in
-    omega (arith, slot-low _ _ (a .args .q) (a .pre .0) (a .pre .1) _ _ (b .queue-word2 .ensures) (c .before .wide2 .ensures) (b .before .wide .result + c .wide3 .result))
+    fits-under _ _ 37 (slot-low _ _ (a .args .q) (a .pre .0) (a .pre .1) _ _ (b .queue-word2 .ensures) (c .before .wide2 .ensures) _) tt
 
 queue-word-requires-3 : tie.Need-queue-word-requires-3
 queue-word-requires-3 c κs =
