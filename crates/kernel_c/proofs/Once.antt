@@ -2,13 +2,16 @@
 use mathlib.Core.Path.{_≡_, sym, _∙_, ap}
 use mathlib.Core.List.{List}
 use Prim.Native.Nat.{ℕ}
-use Rattle.kernel_c.specs.Promises.{ChecksC, MeasuresC, BuildsC, HappensC, RunsC, TranslatesC, NamesLineC, PrintsC, MeasuresTextC}
+use Rattle.kernel_c.specs.Promises.{ChecksC, MeasuresC, BuildsC, HappensC, RunsC, TranslatesC, NamesLineC, PrintsC, MeasuresTextC, LooksAtTaskC, LooksAtPortC, LooksAtRegisterC, LooksAtLengthC, LooksAtWordC}
 use Rattle.kernel_c.specs.declared.Measured.{Measured}
 use Rattle.kernel_c.specs.declared.ReplyNumbers.{ReplyNumbers}
 use Rattle.kernel_c.specs.declared.RunNumbers.{RunNumbers}
 use Rattle.kernel_c.specs.declared.prints.Printed.{Printed}
 use Rattle.kernel_c.specs.declared.scripts.Translated.{Translated}
 use Rattle.kernel_c.specs.declared.scripts.RefusedLine.{RefusedLine}
+use Rattle.kernel_c.specs.declared.looks.TaskNumbers.{TaskNumbers}
+use Rattle.kernel_c.specs.declared.looks.PortNumbers.{PortNumbers}
+use Rattle.kernel_c.specs.declared.looks.WordNumbers.{WordNumbers}
 
 -- checking an image
 pub checks-c-once : (image : List ℕ) (a b : ℕ) → ChecksC image a → ChecksC image b → a ≡ b
@@ -78,3 +81,19 @@ prints-c-once words text a b x y p q = (printed-same a b (p .counted ∙ sym (q 
 -- how many bytes a print needs, and the number
 pub measures-text-c-once : (words : List ℕ) (a b : Printed) → MeasuresTextC words a → MeasuresTextC words b → a ≡ b
 measures-text-c-once words a b p q = printed-same a b (p .counted ∙ sym (q .counted)) (p .numbered ∙ sym (q .numbered))
+
+-- looking into an image: the number and every field
+pub looks-at-task-c-once : (image : List ℕ) (t : ℕ) (a b : TaskNumbers) → LooksAtTaskC image t a → LooksAtTaskC image t b → a ≡ b
+looks-at-task-c-once image t a b p q = p .told ∙ sym (q .told)
+
+pub looks-at-port-c-once : (image : List ℕ) (d : ℕ) (a b : PortNumbers) → LooksAtPortC image d a → LooksAtPortC image d b → a ≡ b
+looks-at-port-c-once image d a b p q = p .told ∙ sym (q .told)
+
+pub looks-at-register-c-once : (image : List ℕ) (t r : ℕ) (a b : WordNumbers) → LooksAtRegisterC image t r a → LooksAtRegisterC image t r b → a ≡ b
+looks-at-register-c-once image t r a b p q = p .told ∙ sym (q .told)
+
+pub looks-at-length-c-once : (image : List ℕ) (q i j : ℕ) (a b : WordNumbers) → LooksAtLengthC image q i j a → LooksAtLengthC image q i j b → a ≡ b
+looks-at-length-c-once image q i j a b x y = x .told ∙ sym (y .told)
+
+pub looks-at-word-c-once : (image : List ℕ) (q i j k : ℕ) (a b : WordNumbers) → LooksAtWordC image q i j k a → LooksAtWordC image q i j k b → a ≡ b
+looks-at-word-c-once image q i j k a b x y = x .told ∙ sym (y .told)

@@ -1,4 +1,4 @@
--- What each exported function promises: every number of its answer, and every word of each buffer that it is lent to write. The definitions are those that the promises of paper and of grammar name.
+-- What each exported function promises: every number of its answer, and every word of each buffer that it is lent to write. The definitions are those that the promises of paper, of grammar and of views name.
 use mathlib.Core.Path.{_≡_}
 use mathlib.Core.List.{List}
 use Prim.Native.Nat.{ℕ}
@@ -7,13 +7,18 @@ use Rattle.paper.specs.Numbers.{verdict-number, reply-number, check, check-buil
 use Rattle.paper.specs.Calls.{plan-size, size-number, size-value, built, event, run}
 use Rattle.grammar.specs.Texts.{program, judged, answered, translation-words, translation-number, translation-text, stored, named-line}
 use Rattle.grammar.specs.Printing.{printed, measured, printing, printing-bytes, printing-number, inscribed}
+use Rattle.views.specs.Looks.{task-view, port-view, register-view, length-view, word-view}
 use Rattle.kernel_c.specs.Answers.{told-kind, told-task}
+use Rattle.kernel_c.specs.Views.{task-numbers, port-numbers, word-numbers}
 use Rattle.kernel_c.specs.declared.Measured.{Measured}
 use Rattle.kernel_c.specs.declared.ReplyNumbers.{ReplyNumbers}
 use Rattle.kernel_c.specs.declared.RunNumbers.{RunNumbers}
 use Rattle.kernel_c.specs.declared.prints.Printed.{Printed}
 use Rattle.kernel_c.specs.declared.scripts.Translated.{Translated}
 use Rattle.kernel_c.specs.declared.scripts.RefusedLine.{RefusedLine}
+use Rattle.kernel_c.specs.declared.looks.TaskNumbers.{TaskNumbers}
+use Rattle.kernel_c.specs.declared.looks.PortNumbers.{PortNumbers}
+use Rattle.kernel_c.specs.declared.looks.WordNumbers.{WordNumbers}
 
 -- checking an image
 pub record ChecksC (image : List ℕ) (answer : ℕ) : Type 0 where
@@ -64,3 +69,23 @@ pub record PrintsC (words text : List ℕ) (answer : Printed) (after : List ℕ)
 pub record MeasuresTextC (words : List ℕ) (answer : Printed) : Type 0 where
   pub counted : answer .bytes ≡ printing-bytes (measured words)
   pub numbered : answer .number ≡ printing-number (measured words)
+
+-- looking at a task of an image
+pub record LooksAtTaskC (image : List ℕ) (t : ℕ) (answer : TaskNumbers) : Type 0 where
+  pub told : answer ≡ task-numbers (task-view image t)
+
+-- at a port
+pub record LooksAtPortC (image : List ℕ) (d : ℕ) (answer : PortNumbers) : Type 0 where
+  pub told : answer ≡ port-numbers (port-view image d)
+
+-- at a register of a task
+pub record LooksAtRegisterC (image : List ℕ) (t r : ℕ) (answer : WordNumbers) : Type 0 where
+  pub told : answer ≡ word-numbers (register-view image t r)
+
+-- at how many words a queue holds
+pub record LooksAtLengthC (image : List ℕ) (q i j : ℕ) (answer : WordNumbers) : Type 0 where
+  pub told : answer ≡ word-numbers (length-view image q i j)
+
+-- at a word of a queue
+pub record LooksAtWordC (image : List ℕ) (q i j k : ℕ) (answer : WordNumbers) : Type 0 where
+  pub told : answer ≡ word-numbers (word-view image q i j k)
