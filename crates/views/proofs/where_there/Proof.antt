@@ -1,6 +1,5 @@
 -- The test decides.
 use Rattle.views.proofs.Queues.{there-named, absent-named}
-use borrow.Author.Needs.{needs}
 use Rattle.views.proofs.where_there.Statement.{statement}
 use Rattle.views.proofs.where_there.Tie as tie
 
