@@ -4,18 +4,18 @@ ghost use mathlib.Core.Path.{_≡_};
 ghost use Prim.Native.Nat.{_+_, _*_, _<_, _≤_};
 ghost use lib.ListN.{length};
 ghost use Rattle.planner.specs.Parts.{leading, pair, most-tasks, most-program, most-plan, Ends};
+use causes::plan_cause;
 use disk::Outcome;
 use disk::Words;
 use disk::load_words;
+use disk::misused;
+use disk::put_text;
 use disk::save;
 use disk::say;
-use disk::say_number;
+use disk::standard_error;
 use disk::tell;
 use joining::Asked;
-use joining::Cause;
 use joining::Task;
-use joining::pairs_cause;
-use joining::range_cause;
 use joining::read_task;
 use joining::read_word;
 use numbers::number_of;
@@ -25,6 +25,8 @@ use paper::PAIR_WORDS;
 use paper::Refusal;
 use paper::Size;
 use plans::size;
+use saying::put_plan_cause;
+use saying::put_refused;
 
 // The arguments before the tasks, the program's own name among them.
 const LEADING_ARGUMENTS: usize = 6;
@@ -134,51 +136,22 @@ fn put_tasks(n: usize, plan: &mut [u16]) -> Joined
     Joined::End(at)
 }
 
-// Says what is wrong with a task.
-fn say_task(k: usize, what: &[u8]) {
-    say(b"task ");
-    say_number(k);
-    say(what);
-}
-
-// Says why a plan is refused.
-fn say_cause(cause: Cause) {
-    match cause {
-        Cause::Slice => say(b"SLICE is not 1..65535"),
-        Cause::Inputs => say(b"CI is not 1..32"),
-        Cause::Outputs => say(b"CO is not 1..32"),
-        Cause::Messages => say(b"CM is not 1..32"),
-        Cause::EmptySegment(k) => say_task(k, b" has a segment of no words"),
-        Cause::LongProgram(k) => say_task(k, b" has a program that is longer than its segment"),
-        Cause::TooManyWords => say(b"the image has more than 32768 words"),
-    }
-}
-
 // Says that a plan is refused, with the number and the cause.
-fn refuse(path: &[u8], plan: &[u16], n: usize, r: Refusal) -> Outcome
-    requires { ⌜ (n ≤ most-tasks) × (leading + pair * n ≤ length (now plan)) ⌝ }
-{
-    say(path);
-    say(b": refused ");
-    say_number(number_of(r) as usize);
-    say(b": ");
-    match r {
-        Refusal::OutOfRange => say_cause(range_cause(plan)),
-        _ => say_cause(pairs_cause(plan, n)),
-    }
-    say(b"\n");
+fn refuse(path: &[u8], plan: &[u16], r: Refusal) -> Outcome {
+    let named = put_text(standard_error(), path);
+    let numbered = put_refused(named, number_of(r));
+    let told = put_plan_cause(numbered, plan_cause(plan));
+    put_text(told, b"\n");
     Outcome::Refused
 }
 
-// Writes a plan of n tasks to the file of the first argument, if it is accepted.
-fn write_plan(plan: &[u16], n: usize) -> Outcome
-    requires { ⌜ (n ≤ most-tasks) × (leading + pair * n ≤ length (now plan)) ⌝ }
-{
+// Writes a plan to the file of the first argument, if it is accepted.
+fn write_plan(plan: &[u16]) -> Outcome {
     let mut path = io::buffer();
     let end = os::arg(1, &mut path);
     match size(plan) {
         Size::Words(_) => save(&path[..end], plan),
-        Size::Refused(r) => refuse(&path[..end], plan, n, r),
+        Size::Refused(r) => refuse(&path[..end], plan, r),
     }
 }
 
@@ -193,23 +166,17 @@ fn join(n: usize) -> Outcome
     let Joined::End(end) = put_tasks(n, &mut plan) else {
         return Outcome::Unread;
     };
-    write_plan(&plan[..end], n)
-}
-
-// Says how the program is used.
-fn usage() -> Outcome {
-    say(b"usage: tools/plan OUT SLICE CI CO CM LENGTH:PROGRAM ..  (1 to 16 programs)\n");
-    Outcome::Unread
+    write_plan(&plan[..end])
 }
 
 // Joins as the arguments say.
 fn run() -> Outcome {
     let count = os::arg_count();
     if count <= LEADING_ARGUMENTS {
-        return usage();
+        return misused();
     }
     if LEADING_ARGUMENTS + MOST_TASKS < count {
-        return usage();
+        return misused();
     }
     join(count - LEADING_ARGUMENTS)
 }

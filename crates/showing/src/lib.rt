@@ -11,25 +11,15 @@ use disk::Output;
 use disk::put_number;
 use disk::put_text;
 use grammar::Printing;
-use paper::BAD_ORDER;
-use paper::BAD_SERVICE;
 use paper::BASE;
 use paper::FLAGS;
 use paper::LENGTH;
 use paper::NEXT_ORDER;
-use paper::NO_ERROR;
-use paper::NO_SUCH_TASK;
-use paper::OUTSIDE;
-use paper::READY;
 use paper::Shape;
 use paper::Task;
-use paper::WAITS_FOR_INPUT;
-use paper::WAITS_FOR_OUTPUT;
-use paper::WAITS_TO_RECEIVE;
-use paper::WAITS_TO_SEND;
-use paper::ZERO_DIVISOR;
 use printing::print;
 use results::error_of;
+use saying::put_status;
 use words::Spot;
 use words::entry;
 use words::get;
@@ -40,53 +30,6 @@ use zeros::zero_lines;
 
 // The bytes that the text of the longest segment needs at most: 16 for each word.
 pub const TEXT_BYTES: usize = 523440;
-
-// What an error is.
-fn put_meaning(out: Output, error: u16) -> Output {
-    match error {
-        OUTSIDE => put_text(out, b"address outside the segment"),
-        BAD_ORDER => put_text(out, b"unknown op or bad field"),
-        BAD_SERVICE => put_text(out, b"unknown service"),
-        ZERO_DIVISOR => put_text(out, b"zero divisor"),
-        NO_SUCH_TASK => put_text(out, b"no such task"),
-        _ => put_text(out, b"output of more than 255"),
-    }
-}
-
-// What an error has done or will do, its number and what it is.
-fn put_error(out: Output, text: &[u8], error: u16) -> Output {
-    let said = put_text(out, text);
-    let numbered = put_number(said, error as usize);
-    let opened = put_text(numbered, b" (");
-    let meant = put_meaning(opened, error);
-    put_text(meant, b")")
-}
-
-// What a ready task is; with an error it is stopped at its next tick.
-fn put_ready(out: Output, error: u16) -> Output {
-    if error == NO_ERROR {
-        return put_text(out, b"ready");
-    }
-    put_error(out, b"ready, to be stopped by error ", error)
-}
-
-// What a task waits for, and the other task.
-fn put_wait(out: Output, text: &[u8], peer: u16) -> Output {
-    let said = put_text(out, text);
-    put_number(said, peer as usize)
-}
-
-// The status of a task.
-fn put_status(out: Output, status: u16, peer: u16, error: u16) -> Output {
-    match status {
-        READY => put_ready(out, error),
-        WAITS_TO_SEND => put_wait(out, b"waits to send to task ", peer),
-        WAITS_TO_RECEIVE => put_wait(out, b"waits for a message from task ", peer),
-        WAITS_FOR_INPUT => put_text(out, b"waits for input"),
-        WAITS_FOR_OUTPUT => put_text(out, b"waits for output"),
-        _ => put_error(out, b"stopped by error ", error),
-    }
-}
 
 // Where R0 stands, in a segment of so many words.
 fn put_next_order(out: Output, address: u16, length: u16) -> Output {

@@ -1,6 +1,6 @@
 // Translates the texts of two files, a list of names and a script, to a third, the program; all three are arguments.
 use disk::Outcome;
-use disk::say;
+use disk::misused;
 use disk::tell;
 use translating::translate_files;
 
@@ -10,8 +10,7 @@ const ARGUMENTS: usize = 4;
 // Translates as the arguments say.
 fn run() -> Outcome {
     if os::arg_count() != ARGUMENTS {
-        say(b"usage: tools/translate NAMES SCRIPT PROGRAM\n");
-        return Outcome::Unread;
+        return misused();
     }
     let mut names = io::buffer();
     let mut script = io::buffer();

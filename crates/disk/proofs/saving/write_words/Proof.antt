@@ -6,8 +6,8 @@ use borrow.Author.Needs.{needs}
 use lib.ListN.{length}
 use lib.Seq.{length-take-le}
 use Rattle.disk.specs.Bytes.{chunk-bytes}
-use Rattle.disk.proofs.write_words.Statement.{statement}
-use Rattle.disk.proofs.write_words.Tie as tie
+use Rattle.disk.proofs.saving.write_words.Statement.{statement}
+use Rattle.disk.proofs.saving.write_words.Tie as tie
 
 abbrev Inv-loop : tie.InvT-loop
 Inv-loop fd words bytes₀ at₀ bytes at = (at ≤ length words) × (length bytes ≡ chunk-bytes)

@@ -3,8 +3,8 @@ use Prim.Native.Nat.{_-_}
 use native.Mathlib.Omega.{arith}
 use lib.ListN.{length}
 use Rattle.disk.proofs.Bytes.{Put, put-none, put-more, put-all}
-use Rattle.disk.proofs.put_bytes.Statement.{statement}
-use Rattle.disk.proofs.put_bytes.Tie as tie
+use Rattle.disk.proofs.saving.put_bytes.Statement.{statement}
+use Rattle.disk.proofs.saving.put_bytes.Tie as tie
 
 abbrev Inv-loop : tie.InvT-loop
 Inv-loop words bytes₀ k₀ bytes k = Put words bytes k
