@@ -32,10 +32,10 @@ use places::wide;
 use places::word_of;
 
 // Characters are below this.
-const CHARACTERS: usize = MOST_CHARACTER as usize + 1;
+pub const CHARACTERS: usize = MOST_CHARACTER as usize + 1;
 
 // The capacity that the header gives a queue.
-fn capacity_of(s: Shape, q: Queue) -> usize
+pub fn capacity_of(s: Shape, q: Queue) -> usize
     ensures { λ r. ⌜ r ≡ header-capacity s q ⌝ }
 {
     match q {
@@ -184,7 +184,7 @@ pub fn queued(s: Shape, im: &[u16], q: Queue) -> bool
 }
 
 // Whether each word that a queue holds is below m.
-fn held_below(s: Shape, im: &[u16], q: Queue, m: usize) -> bool
+pub fn held_below(s: Shape, im: &[u16], q: Queue, m: usize) -> bool
     requires { ⌜ Sized s (now im) ⌝ }
     requires { ⌜ Has s q ⌝ }
     requires { ⌜ is-queued s (now im) q ≡ true ⌝ }

@@ -31,6 +31,11 @@ module _ (s : Shape) (im : List ℕ) (q : Queue) (n : ℕ) (en : n ≡ at s im (
   unfolding empty
   empty-tested = rw en
 
+-- flags are in their ranges
+pub ranges-tested : (f : ℕ) (p o : Bool) → p ≡ (leb (f % 4) 2 && leb (f / 4 % 8) 6) → o ≡ (p && leb (f / 32) 4)
+    → o ≡ (leb (f % 4) 2 && leb (f / 4 % 8) 6 && leb (f / 32) 4)
+ranges-tested f p o ep eo = rw (eo, ep)
+
 module _ (s : Shape) (im : List ℕ) (i : Task) where
   pub task-few : Sized s im → i .0 < s .n → i .0 < most-tasks
   task-few z l = omega (arith, sized-few s im z)
@@ -51,10 +56,10 @@ module _ (s : Shape) (im : List ℕ) (i : Task) where
   unfolding port-holds
   port-tested b c e p q r o eb ec ee ep eq er eo = rw (eo, eq, er, ep, ee, eb, ec)
 
-  pub flags-tested : (f : ℕ) (p q r o : Bool) → f ≡ at s im (flags i) → p ≡ (leb (f % 4) 2 && leb (f / 4 % 8) 6) → q ≡ (p && leb (f / 32) 4)
+  pub flags-tested : (f : ℕ) (q r o : Bool) → f ≡ at s im (flags i) → q ≡ (leb (f % 4) 2 && leb (f / 4 % 8) 6 && leb (f / 32) 4)
       → r ≡ (eqb (f / 4 % 8) 0 || eqb (f / 32) 0) → o ≡ (q && r) → o ≡ flags-hold s im i
   unfolding flags-hold
-  flags-tested f p q r o ef ep eq er eo = rw (eo, eq, er, ep, ef)
+  flags-tested f q r o ef eq er eo = rw (eo, eq, er, ef)
 
   pub peered-tested : (p r w : ℕ) (o : Bool) → p ≡ at s im (peer i) → r ≡ at s im (reg i 2) → w ≡ p → o ≡ (eqb r p && ltb w (s .n)) → o ≡ peered s im i
   peered-tested p r w o ep er ew eo = rw (eo, ew, er, ep)

@@ -1,9 +1,13 @@
 // The rules of a task, tested: its place in the ready queue, its port, its flags and its status.
 ghost use mathlib.Core.Path.{_≡_};
+ghost use mathlib.Core.Bool.{_&&_, _||_};
 ghost use Prim.Native.Nat.{_<_};
-ghost use Rattle.paper.specs.Image.{at as word-at, reg as reg-cell, flags as flags-cell, status as status-cell, peer as peer-cell};
+ghost use lib.Dec.{eqb, leb};
+ghost use lib.ListN.{length};
+ghost use Rattle.paper.specs.Image.{at as word-at, reg as reg-cell, flags as flags-cell, status as status-cell, peer as peer-cell, busy as busy-cell, character as character-cell};
 ghost use Rattle.paper.specs.Queues.{Has, held, empty as empty-of, full as full-of};
-ghost use Rattle.paper.specs.Flags.{error as error-of-task, pending as pending-of-task};
+ghost use Rattle.paper.specs.Flags.{cc-of, error-of, pending-of, most-cc, most-error, error as error-of-task, pending as pending-of-task};
+ghost use Rattle.paper.specs.Services.{services};
 ghost use Rattle.paper.specs.Tests.{readied-once as is-readied-once, port-holds as does-port-hold, flags-hold as do-flags-hold, peered as is-peered, standing as is-standing, status-holds as does-status-hold};
 ghost use Rattle.paper.specs.declared.Queue.the-variants.{Ready};
 ghost use Rattle.paper.specs.declared.Service.the-variants.{Send, Receive, Input, Output};
@@ -71,7 +75,7 @@ fn register(s: Shape, im: &[u16], i: Task, r: usize) -> u16
 }
 
 // The flags of task i.
-fn flags(s: Shape, im: &[u16], i: Task) -> u16
+pub fn flags(s: Shape, im: &[u16], i: Task) -> u16
     requires { ⌜ Sized s (now im) ⌝ }
     requires { ⌜ i .0 < s .n ⌝ }
     ensures { λ v. ⌜ v ≡ word-at s (now (im .entry)) (flags-cell i) ⌝ }
@@ -88,7 +92,7 @@ fn flags(s: Shape, im: &[u16], i: Task) -> u16
 }
 
 // The error of task i.
-fn error(s: Shape, im: &[u16], i: Task) -> u16
+pub fn error(s: Shape, im: &[u16], i: Task) -> u16
     requires { ⌜ Sized s (now im) ⌝ }
     requires { ⌜ i .0 < s .n ⌝ }
     ensures { λ v. ⌜ v ≡ error-of-task s (now (im .entry)) i ⌝ }
@@ -106,7 +110,7 @@ fn pending(s: Shape, im: &[u16], i: Task) -> u16
 }
 
 // The status of task i.
-fn status(s: Shape, im: &[u16], i: Task) -> u16
+pub fn status(s: Shape, im: &[u16], i: Task) -> u16
     requires { ⌜ Sized s (now im) ⌝ }
     requires { ⌜ i .0 < s .n ⌝ }
     ensures { λ v. ⌜ v ≡ word-at s (now (im .entry)) (status-cell i) ⌝ }
@@ -123,7 +127,7 @@ fn status(s: Shape, im: &[u16], i: Task) -> u16
 }
 
 // The peer of task i.
-fn peer(s: Shape, im: &[u16], i: Task) -> u16
+pub fn peer(s: Shape, im: &[u16], i: Task) -> u16
     requires { ⌜ Sized s (now im) ⌝ }
     requires { ⌜ i .0 < s .n ⌝ }
     ensures { λ v. ⌜ v ≡ word-at s (now (im .entry)) (peer-cell i) ⌝ }
@@ -172,13 +176,13 @@ pub fn readied_once(s: Shape, im: &[u16], i: Task, found: &[u8; MOST_TASKS]) -> 
     times == 0
 }
 
-// Whether the port of task i obeys its rules.
-pub fn port_holds(s: Shape, im: &[u16], i: Task) -> bool
+// Whether the port of task i is busy.
+pub fn busy(s: Shape, im: &[u16], i: Task) -> u16
     requires { ⌜ Sized s (now im) ⌝ }
     requires { ⌜ i .0 < s .n ⌝ }
-    ensures { λ r. ⌜ r ≡ does-port-hold s (now (im .entry)) i ⌝ }
+    ensures { λ v. ⌜ v ≡ word-at s (now (im .entry)) (busy-cell i) ⌝ }
 {
-    let busy = word_of(
+    word_of(
         s,
         im,
         Cell {
@@ -186,8 +190,16 @@ pub fn port_holds(s: Shape, im: &[u16], i: Task) -> bool
             row: i.0 as usize,
             column: PORT,
         },
-    );
-    let character = word_of(
+    )
+}
+
+// The character of the port of task i.
+pub fn character(s: Shape, im: &[u16], i: Task) -> u16
+    requires { ⌜ Sized s (now im) ⌝ }
+    requires { ⌜ i .0 < s .n ⌝ }
+    ensures { λ v. ⌜ v ≡ word-at s (now (im .entry)) (character-cell i) ⌝ }
+{
+    word_of(
         s,
         im,
         Cell {
@@ -195,11 +207,39 @@ pub fn port_holds(s: Shape, im: &[u16], i: Task) -> bool
             row: i.0 as usize,
             column: CHARACTER,
         },
-    );
-    let idle = both(character == 0, is_empty(s, im, Queue::Output(i)));
+    )
+}
+
+// Whether the port of task i obeys its rules.
+pub fn port_holds(s: Shape, im: &[u16], i: Task) -> bool
+    requires { ⌜ Sized s (now im) ⌝ }
+    requires { ⌜ i .0 < s .n ⌝ }
+    ensures { λ r. ⌜ r ≡ does-port-hold s (now (im .entry)) i ⌝ }
+{
+    let b = busy(s, im, i);
+    let c = character(s, im, i);
+    let idle = both(c == 0, is_empty(s, im, Queue::Output(i)));
     both(
-        both(busy <= BUSY, character <= MOST_CHARACTER),
-        implies(busy == IDLE, idle),
+        both(b <= BUSY, c <= MOST_CHARACTER),
+        implies(b == IDLE, idle),
+    )
+}
+
+// Whether the three fields of flags are in their ranges.
+pub fn in_ranges(f: u16) -> bool
+    ensures { λ r. ⌜ r ≡ (leb (cc-of f) most-cc && leb (error-of f) most-error && leb (pending-of f) (length services)) ⌝ }
+{
+    let low = both(f % ERROR <= MOST_CC, f / ERROR % ERROR_END <= MOST_ERROR);
+    both(low, f / PENDING <= MOST_SERVICE)
+}
+
+// Whether flags have not both an error and a pending service.
+pub fn not_both(f: u16) -> bool
+    ensures { λ r. ⌜ r ≡ (eqb (error-of f) 0 || eqb (pending-of f) 0) ⌝ }
+{
+    either(
+        f / ERROR % ERROR_END == NO_ERROR,
+        f / PENDING == NOTHING_PENDING,
     )
 }
 
@@ -210,16 +250,7 @@ pub fn flags_hold(s: Shape, im: &[u16], i: Task) -> bool
     ensures { λ r. ⌜ r ≡ do-flags-hold s (now (im .entry)) i ⌝ }
 {
     let f = flags(s, im, i);
-    let error = f / ERROR % ERROR_END;
-    let pending = f / PENDING;
-    let ranges = both(
-        both(f % ERROR <= MOST_CC, error <= MOST_ERROR),
-        pending <= MOST_SERVICE,
-    );
-    both(
-        ranges,
-        either(error == NO_ERROR, pending == NOTHING_PENDING),
-    )
+    both(in_ranges(f), not_both(f))
 }
 
 // Whether R2 = peer < N.
@@ -233,7 +264,7 @@ fn peered(s: Shape, im: &[u16], i: Task) -> bool
 }
 
 // Whether task i stands as one that waits to send.
-fn may_send(s: Shape, im: &[u16], i: Task) -> bool
+pub fn may_send(s: Shape, im: &[u16], i: Task) -> bool
     requires { ⌜ Sized s (now im) ⌝ }
     requires { ⌜ i .0 < s .n ⌝ }
     ensures { λ r. ⌜ r ≡ is-standing s (now (im .entry)) i Send ⌝ }
@@ -246,7 +277,7 @@ fn may_send(s: Shape, im: &[u16], i: Task) -> bool
 }
 
 // Whether task i stands as one that waits to receive.
-fn may_receive(s: Shape, im: &[u16], i: Task) -> bool
+pub fn may_receive(s: Shape, im: &[u16], i: Task) -> bool
     requires { ⌜ Sized s (now im) ⌝ }
     requires { ⌜ i .0 < s .n ⌝ }
     ensures { λ r. ⌜ r ≡ is-standing s (now (im .entry)) i Receive ⌝ }
@@ -259,7 +290,7 @@ fn may_receive(s: Shape, im: &[u16], i: Task) -> bool
 }
 
 // Whether task i stands as one that waits for input.
-fn may_input(s: Shape, im: &[u16], i: Task) -> bool
+pub fn may_input(s: Shape, im: &[u16], i: Task) -> bool
     requires { ⌜ Sized s (now im) ⌝ }
     requires { ⌜ i .0 < s .n ⌝ }
     ensures { λ r. ⌜ r ≡ is-standing s (now (im .entry)) i Input ⌝ }
@@ -271,7 +302,7 @@ fn may_input(s: Shape, im: &[u16], i: Task) -> bool
 }
 
 // Whether task i stands as one that waits for output.
-fn may_output(s: Shape, im: &[u16], i: Task) -> bool
+pub fn may_output(s: Shape, im: &[u16], i: Task) -> bool
     requires { ⌜ Sized s (now im) ⌝ }
     requires { ⌜ i .0 < s .n ⌝ }
     ensures { λ r. ⌜ r ≡ is-standing s (now (im .entry)) i Output ⌝ }

@@ -1,0 +1,150 @@
+// The first broken rule of an image, in the paper's order, and the first task or queue that breaks it.
+use inspect::inspect;
+use numbers::number_of;
+use paper::Queue;
+use paper::Refusal;
+use paper::Shape;
+use paper::Task;
+use paper::Verdict;
+use single_rules::Kind;
+pub use single_rules::Rule;
+use single_rules::holds;
+use single_rules::kind_of;
+use single_rules::queue_at;
+
+// How many rules there are.
+const RULES: usize = 20;
+
+// The number of a refusal for a broken rule.
+const BROKEN: u16 = 6;
+
+// What breaks a rule.
+pub enum Subject {
+    Clock,
+    Task(Task),
+    Queue(Queue),
+}
+
+// The first broken rule and what breaks it; that the image is good; or the refusal of one that is no image.
+pub enum Broken {
+    Rule(Rule, Subject),
+    Nothing,
+    Refused(Refusal),
+}
+
+// Where a test fails first.
+enum Failing {
+    At(usize),
+    Nowhere,
+}
+
+// Rule k, counted from 0.
+fn rule_at(k: usize) -> Rule {
+    match k {
+        0 => Rule::Flags,
+        1 => Rule::Both,
+        2 => Rule::Status,
+        3 => Rule::Capacity,
+        4 => Rule::HeadTail,
+        5 => Rule::Length,
+        6 => Rule::Round,
+        7 => Rule::Characters,
+        8 => Rule::Tasks,
+        9 => Rule::Readied,
+        10 => Rule::ClockRange,
+        11 => Rule::ClockIdle,
+        12 => Rule::Port,
+        13 => Rule::IdlePort,
+        14 => Rule::Sends,
+        15 => Rule::Receives,
+        16 => Rule::Inputs,
+        17 => Rule::Outputs,
+        18 => Rule::Stopped,
+        _ => Rule::Peerless,
+    }
+}
+
+// The number of a rule, 1 to 20.
+pub fn rule_number(rule: Rule) -> u16 {
+    match rule {
+        Rule::Flags => 1,
+        Rule::Both => 2,
+        Rule::Status => 3,
+        Rule::Capacity => 4,
+        Rule::HeadTail => 5,
+        Rule::Length => 6,
+        Rule::Round => 7,
+        Rule::Characters => 8,
+        Rule::Tasks => 9,
+        Rule::Readied => 10,
+        Rule::ClockRange => 11,
+        Rule::ClockIdle => 12,
+        Rule::Port => 13,
+        Rule::IdlePort => 14,
+        Rule::Sends => 15,
+        Rule::Receives => 16,
+        Rule::Inputs => 17,
+        Rule::Outputs => 18,
+        Rule::Stopped => 19,
+        Rule::Peerless => 20,
+    }
+}
+
+// How many tasks, queues or clocks an image has.
+fn subjects(s: Shape, kind: Kind) -> usize {
+    match kind {
+        Kind::Task => s.n,
+        Kind::Queue => 1 + s.n + s.n + s.n * s.n,
+        Kind::Clock => 1,
+    }
+}
+
+// Task k, queue k, or the clock.
+fn subject_at(s: Shape, kind: Kind, k: usize) -> Subject {
+    match kind {
+        Kind::Task => Subject::Task(Task(k as u16)),
+        Kind::Queue => Subject::Queue(queue_at(s, k)),
+        Kind::Clock => Subject::Clock,
+    }
+}
+
+// Where a rule fails first.
+fn first_failing(s: Shape, im: &[u16], rule: Rule) -> Failing {
+    let end = subjects(s, kind_of(rule));
+    let mut k: usize = 0;
+    while k < end {
+        if !holds(s, im, rule, k) {
+            return Failing::At(k);
+        }
+        k += 1;
+    }
+    Failing::Nowhere
+}
+
+// The first rule that fails and its first subject that breaks it.
+fn first_broken(s: Shape, im: &[u16]) -> Broken {
+    let mut k: usize = 0;
+    while k < RULES {
+        let rule = rule_at(k);
+        if let Failing::At(at) = first_failing(s, im, rule) {
+            return Broken::Rule(rule, subject_at(s, kind_of(rule), at));
+        }
+        k += 1;
+    }
+    Broken::Nothing
+}
+
+// The first broken rule of an image.
+pub fn broken_rule(im: &[u16]) -> Broken {
+    let found = inspect(im);
+    let verdict = found.verdict;
+    match verdict {
+        Verdict::Fine => Broken::Nothing,
+        Verdict::Refused(r) => {
+            if number_of(r) == BROKEN {
+                return first_broken(found.shape, im);
+            }
+            Broken::Refused(r)
+        }
+    }
+}
