@@ -1,4 +1,12 @@
 // The first broken rule of an image, in the paper's order, and the first task or queue that breaks it.
+ghost use mathlib.Core.Path.{_≡_};
+ghost use Prim.Native.Nat.{_<_};
+ghost use lib.ListN.{length};
+ghost use Rattle.paper.specs.Rules.{Fit};
+ghost use Rattle.laws.specs.Sound.{Sized};
+ghost use Rattle.single_rules.specs.Each.{subjects as subjects-of};
+ghost use Rattle.breaches.specs.Order.{rules, rule as nth-rule, number-of-rule, subject};
+ghost use Rattle.breaches.specs.Broken.{breaker, breach, TellsBroken};
 use inspect::inspect;
 use numbers::number_of;
 use paper::Queue;
@@ -39,7 +47,10 @@ enum Failing {
 }
 
 // Rule k, counted from 0.
-fn rule_at(k: usize) -> Rule {
+fn rule_at(k: usize) -> Rule
+    requires { ⌜ k < length rules ⌝ }
+    ensures { λ r. ⌜ r ≡ nth-rule k ⌝ }
+{
     match k {
         0 => Rule::Flags,
         1 => Rule::Both,
@@ -65,7 +76,9 @@ fn rule_at(k: usize) -> Rule {
 }
 
 // The number of a rule, 1 to 20.
-pub fn rule_number(rule: Rule) -> u16 {
+pub fn rule_number(rule: Rule) -> u16
+    ensures { λ r. ⌜ r ≡ number-of-rule rule ⌝ }
+{
     match rule {
         Rule::Flags => 1,
         Rule::Both => 2,
@@ -91,7 +104,10 @@ pub fn rule_number(rule: Rule) -> u16 {
 }
 
 // How many tasks, queues or clocks an image has.
-fn subjects(s: Shape, kind: Kind) -> usize {
+fn subjects(s: Shape, kind: Kind) -> usize
+    requires { ⌜ Fit s ⌝ }
+    ensures { λ r. ⌜ r ≡ subjects-of s kind ⌝ }
+{
     match kind {
         Kind::Task => s.n,
         Kind::Queue => 1 + s.n + s.n + s.n * s.n,
@@ -100,7 +116,11 @@ fn subjects(s: Shape, kind: Kind) -> usize {
 }
 
 // Task k, queue k, or the clock.
-fn subject_at(s: Shape, kind: Kind, k: usize) -> Subject {
+fn subject_at(s: Shape, kind: Kind, k: usize) -> Subject
+    requires { ⌜ Fit s ⌝ }
+    requires { ⌜ k < subjects-of s kind ⌝ }
+    ensures { λ r. ⌜ r ≡ subject s kind k ⌝ }
+{
     match kind {
         Kind::Task => Subject::Task(Task(k as u16)),
         Kind::Queue => Subject::Queue(queue_at(s, k)),
@@ -109,7 +129,10 @@ fn subject_at(s: Shape, kind: Kind, k: usize) -> Subject {
 }
 
 // Where a rule fails first.
-fn first_failing(s: Shape, im: &[u16], rule: Rule) -> Failing {
+fn first_failing(s: Shape, im: &[u16], rule: Rule) -> Failing
+    requires { ⌜ Sized s (now im) ⌝ }
+    ensures { λ r. ⌜ r ≡ breaker s (now (im .entry)) rule ⌝ }
+{
     let end = subjects(s, kind_of(rule));
     let mut k: usize = 0;
     while k < end {
@@ -122,7 +145,10 @@ fn first_failing(s: Shape, im: &[u16], rule: Rule) -> Failing {
 }
 
 // The first rule that fails and its first subject that breaks it.
-fn first_broken(s: Shape, im: &[u16]) -> Broken {
+fn first_broken(s: Shape, im: &[u16]) -> Broken
+    requires { ⌜ Sized s (now im) ⌝ }
+    ensures { λ r. ⌜ r ≡ breach s (now (im .entry)) ⌝ }
+{
     let mut k: usize = 0;
     while k < RULES {
         let rule = rule_at(k);
@@ -135,7 +161,9 @@ fn first_broken(s: Shape, im: &[u16]) -> Broken {
 }
 
 // The first broken rule of an image.
-pub fn broken_rule(im: &[u16]) -> Broken {
+pub fn broken_rule(im: &[u16]) -> Broken
+    ensures { λ r. ⌜ TellsBroken (now (im .entry)) r ⌝ }
+{
     let found = inspect(im);
     let verdict = found.verdict;
     match verdict {
