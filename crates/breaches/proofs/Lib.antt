@@ -1,2 +1,4 @@
 pub mod First
 pub mod Told
+pub mod Exact
+pub mod Laws

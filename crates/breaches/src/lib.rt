@@ -24,7 +24,7 @@ use single_rules::queue_at;
 const RULES: usize = 20;
 
 // The number of a refusal for a broken rule.
-const BROKEN: u16 = 6;
+pub const RULE_BROKEN: u16 = 6;
 
 // What breaks a rule.
 pub enum Subject {
@@ -169,7 +169,7 @@ pub fn broken_rule(im: &[u16]) -> Broken
     match verdict {
         Verdict::Fine => Broken::Nothing,
         Verdict::Refused(r) => {
-            if number_of(r) == BROKEN {
+            if number_of(r) == RULE_BROKEN {
                 return first_broken(found.shape, im);
             }
             Broken::Refused(r)
