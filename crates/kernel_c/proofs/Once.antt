@@ -2,7 +2,7 @@
 use mathlib.Core.Path.{_≡_, sym, _∙_, ap}
 use mathlib.Core.List.{List}
 use Prim.Native.Nat.{ℕ}
-use Rattle.kernel_c.specs.Promises.{ChecksC, MeasuresC, BuildsC, HappensC, RunsC, TranslatesC, NamesLineC, PrintsC, MeasuresTextC, LooksAtTaskC, LooksAtPortC, LooksAtRegisterC, LooksAtLengthC, LooksAtWordC}
+use Rattle.kernel_c.specs.Promises.{ChecksC, MeasuresC, BuildsC, HappensC, RunsC, TranslatesC, NamesLineC, PrintsC, MeasuresTextC, LooksAtTaskC, LooksAtPortC, LooksAtRegisterC, LooksAtLengthC, LooksAtWordC, TellsBrokenC}
 use Rattle.kernel_c.specs.declared.Measured.{Measured}
 use Rattle.kernel_c.specs.declared.ReplyNumbers.{ReplyNumbers}
 use Rattle.kernel_c.specs.declared.RunNumbers.{RunNumbers}
@@ -12,6 +12,7 @@ use Rattle.kernel_c.specs.declared.scripts.RefusedLine.{RefusedLine}
 use Rattle.kernel_c.specs.declared.looks.TaskNumbers.{TaskNumbers}
 use Rattle.kernel_c.specs.declared.looks.PortNumbers.{PortNumbers}
 use Rattle.kernel_c.specs.declared.looks.WordNumbers.{WordNumbers}
+use Rattle.kernel_c.specs.declared.broken.BrokenNumbers.{BrokenNumbers}
 
 -- checking an image
 pub checks-c-once : (image : List ℕ) (a b : ℕ) → ChecksC image a → ChecksC image b → a ≡ b
@@ -97,3 +98,7 @@ looks-at-length-c-once image q i j a b x y = x .told ∙ sym (y .told)
 
 pub looks-at-word-c-once : (image : List ℕ) (q i j k : ℕ) (a b : WordNumbers) → LooksAtWordC image q i j k a → LooksAtWordC image q i j k b → a ≡ b
 looks-at-word-c-once image q i j k a b x y = x .told ∙ sym (y .told)
+
+-- the first broken rule: the number and every field
+pub tells-broken-c-once : (image : List ℕ) (a b : BrokenNumbers) → TellsBrokenC image a → TellsBrokenC image b → a ≡ b
+tells-broken-c-once image a b p q = p .told ∙ sym (q .told)

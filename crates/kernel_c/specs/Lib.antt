@@ -1,3 +1,4 @@
 pub mod Answers
 pub mod Views
+pub mod Breaches
 pub mod Promises

@@ -1,4 +1,4 @@
--- What each exported function promises: every number of its answer, and every word of each buffer that it is lent to write. The definitions are those that the promises of paper, of grammar and of views name.
+-- What each exported function promises: every number of its answer, and every word of each buffer that it is lent to write. The definitions are those that the promises of paper, of grammar, of views and of breaches name.
 use mathlib.Core.Path.{_≡_}
 use mathlib.Core.List.{List}
 use Prim.Native.Nat.{ℕ}
@@ -8,8 +8,10 @@ use Rattle.paper.specs.Calls.{plan-size, size-number, size-value, built, event,
 use Rattle.grammar.specs.Texts.{program, judged, answered, translation-words, translation-number, translation-text, stored, named-line}
 use Rattle.grammar.specs.Printing.{printed, measured, printing, printing-bytes, printing-number, inscribed}
 use Rattle.views.specs.Looks.{task-view, port-view, register-view, length-view, word-view}
+use Rattle.breaches.specs.Broken.{broken}
 use Rattle.kernel_c.specs.Answers.{told-kind, told-task}
 use Rattle.kernel_c.specs.Views.{task-numbers, port-numbers, word-numbers}
+use Rattle.kernel_c.specs.Breaches.{broken-numbers}
 use Rattle.kernel_c.specs.declared.Measured.{Measured}
 use Rattle.kernel_c.specs.declared.ReplyNumbers.{ReplyNumbers}
 use Rattle.kernel_c.specs.declared.RunNumbers.{RunNumbers}
@@ -19,6 +21,7 @@ use Rattle.kernel_c.specs.declared.scripts.RefusedLine.{RefusedLine}
 use Rattle.kernel_c.specs.declared.looks.TaskNumbers.{TaskNumbers}
 use Rattle.kernel_c.specs.declared.looks.PortNumbers.{PortNumbers}
 use Rattle.kernel_c.specs.declared.looks.WordNumbers.{WordNumbers}
+use Rattle.kernel_c.specs.declared.broken.BrokenNumbers.{BrokenNumbers}
 
 -- checking an image
 pub record ChecksC (image : List ℕ) (answer : ℕ) : Type 0 where
@@ -89,3 +92,7 @@ pub record LooksAtLengthC (image : List ℕ) (q i j : ℕ) (answer : WordNumbers
 -- at a word of a queue
 pub record LooksAtWordC (image : List ℕ) (q i j k : ℕ) (answer : WordNumbers) : Type 0 where
   pub told : answer ≡ word-numbers (word-view image q i j k)
+
+-- the first broken rule of an image
+pub record TellsBrokenC (image : List ℕ) (answer : BrokenNumbers) : Type 0 where
+  pub told : answer ≡ broken-numbers (broken image)

@@ -14,7 +14,7 @@ use views::register;
 use views::task;
 
 // The number of what is not there, and what stands in every field where nothing is seen, while 0 is good in each.
-const NOT_THERE: u16 = 65535;
+pub const NOT_THERE: u16 = 65535;
 
 // 0 and what a task stands in; or the number of the refusal or of what is not there.
 #[repr(C)]

@@ -114,7 +114,9 @@ pub fn queue_at(s: Shape, k: usize) -> Queue
         return Queue::Output(Task(other as u16));
     }
     let message = other - s.n;
-    Queue::Message(Task((message / s.n) as u16), Task((message % s.n) as u16))
+    let from = Task((message / s.n) as u16);
+    let to = Task((message % s.n) as u16);
+    Queue::Message(from, to)
 }
 
 // The clock.

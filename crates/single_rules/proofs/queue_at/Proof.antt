@@ -13,11 +13,11 @@ returns-2 c = let p = c .before .before .before .pre in queue-input _ (p .0) _ (
 returns-3 : tie.Need-returns-3
 returns-3 c = let p = c .before .before .before .before .before .before .pre in queue-output _ (p .0) _ (p .1) (c .before .before .before .before .before .if1 .left) (c .before .before .before .if2 .left) (c .if3 .taken)
 
-cast-t12 : tie.Need-cast-t12
-cast-t12 c = search from-word
+cast-t14 : tie.Need-cast-t14
+cast-t14 c = search from-word
 
-cast-t15 : tie.Need-cast-t15
-cast-t15 c = search to-word
+cast-t14-2 : tie.Need-cast-t14-2
+cast-t14-2 c = search to-word
 
 returns-4 : tie.Need-returns-4
 returns-4 c = let p = c .before .before .before .before .before .before .before .before .before .pre in queue-message _ (p .0) _ (p .1) (c .before .before .before .before .before .before .before .before .if1 .left) (c .before .before .before .before .before .before .if2 .left) (c .before .before .before .if3 .left)
@@ -26,5 +26,5 @@ pub queue-at-spec : {M : Type 1} → statement M
 queue-at-spec =
     tie.close
     (tie.spec
-    returns (λ c. search needs) (λ c. search needs) returns-2 (λ c. search needs) returns-3 (λ c. search needs) cast-t12
-    (λ c. search needs) cast-t15 returns-4)
+    returns (λ c. search needs) (λ c. search needs) returns-2 (λ c. search needs) returns-3 (λ c. search needs) cast-t14
+    (λ c. search needs) cast-t14-2 returns-4)
