@@ -1,5 +1,7 @@
 // The words for what is refused, and for what a task is and does: each is said here, once, and put to a file that is written
 // piece by piece.
+mod rules;
+
 use causes::EventCause;
 use causes::PlanCause;
 use disk::Output;
@@ -23,6 +25,7 @@ use paper::WAITS_FOR_OUTPUT;
 use paper::WAITS_TO_RECEIVE;
 use paper::WAITS_TO_SEND;
 use paper::ZERO_DIVISOR;
+use rules::put_fault;
 
 // Why an image, an event or a plan is refused.
 pub fn put_refusal(out: Output, r: Refusal) -> Output {
@@ -167,6 +170,6 @@ pub fn put_refused(out: Output, number: u16) -> Output {
 pub fn say_refused_image(path: &[u8], im: &[u16], r: Refusal) {
     let named = put_text(standard_error(), path);
     let numbered = put_refused(named, number_of(r));
-    let told = put_refusal(numbered, r);
+    let told = put_fault(numbered, im);
     put_text(told, b"\n");
 }
