@@ -65,6 +65,65 @@ pub struct Printed {
     pub number: u16,
 }
 
+/// What stands in an image of a task.
+#[repr(C)]
+#[derive(Clone, Copy, Debug, PartialEq, Eq)]
+pub struct Task {
+    /// 0 where the task is there; 1 to 6 as the image is refused, or [`NOT_THERE`]: then so are the other fields.
+    pub number: u16,
+    /// 0 to 5.
+    pub status: u16,
+    /// The task that it waits for with status 1 or 2, else 0.
+    pub peer: u16,
+    /// 0 to 2.
+    pub cc: u16,
+    /// 0 to 6, 0 where there is none.
+    pub error: u16,
+    /// The service that is pending, 0 to 4, 0 where none is.
+    pub pending: u16,
+}
+
+/// What stands in an image of a port.
+#[repr(C)]
+#[derive(Clone, Copy, Debug, PartialEq, Eq)]
+pub struct Port {
+    /// 0 where the device is there; 1 to 6 as the image is refused, or [`NOT_THERE`]: then so are the other fields.
+    pub number: u16,
+    /// 0 or 1.
+    pub busy: u16,
+    /// 0 to 255.
+    pub character: u16,
+}
+
+/// A word of an image, or a count.
+#[repr(C)]
+#[derive(Clone, Copy, Debug, PartialEq, Eq)]
+pub struct Word {
+    /// 0 where it is there; 1 to 6 as the image is refused, or [`NOT_THERE`].
+    pub number: u16,
+    /// Any word; 65535 where the number is not 0.
+    pub word: u16,
+}
+
+/// The first broken rule of an image.
+#[repr(C)]
+#[derive(Clone, Copy, Debug, PartialEq, Eq)]
+pub struct Broken {
+    /// 0 to 6, as the image is checked.
+    pub number: u16,
+    /// 1 to 20 where the number is 6, else [`NOT_THERE`], as the fields below.
+    pub rule: u16,
+    /// The queue that breaks a rule of queues.
+    pub queue: u16,
+    /// The task that breaks a rule of tasks, or the queue's first task, 0 where it has none.
+    pub i: u16,
+    /// The queue's second task, 0 where it has none.
+    pub j: u16,
+}
+
+/// What is not there: a task, a device, a register, a queue or a place in it; a broken rule or what breaks it.
+pub const NOT_THERE: u16 = 65535;
+
 /// The kind and the task of a refused event.
 pub const NO_ANSWER: u16 = 65535;
 
@@ -117,4 +176,22 @@ extern "C" {
 
     /// How many bytes [`kernel_print`] needs for a list of words.
     pub fn kernel_print_size(words: *const u16, count: usize) -> Printed;
+
+    /// The status, the peer and the flags of a task.
+    pub fn kernel_task(image: *const u16, words: usize, task: u16) -> Task;
+
+    /// The port of a device.
+    pub fn kernel_port(image: *const u16, words: usize, device: u16) -> Port;
+
+    /// A register of a task.
+    pub fn kernel_register(image: *const u16, words: usize, task: u16, r: u16) -> Word;
+
+    /// How many words a queue holds.
+    pub fn kernel_queue_length(image: *const u16, words: usize, queue: u16, i: u16, j: u16) -> Word;
+
+    /// A word that a queue holds, counted from the head.
+    pub fn kernel_queue_word(image: *const u16, words: usize, queue: u16, i: u16, j: u16, at: u16) -> Word;
+
+    /// The first broken rule of an image.
+    pub fn kernel_broken_rule(image: *const u16, words: usize) -> Broken;
 }
