@@ -1,7 +1,7 @@
 //! Finds the archive of the kernel: the file that `KERNEL_ARCHIVE` names, else the one that `tools/archive` makes.
 
 use std::env;
-use std::path::PathBuf;
+use std::path::{Path, PathBuf};
 
 /// The environment variable that names the archive, from the file system's root on.
 const NAMED: &str = "KERNEL_ARCHIVE";
@@ -20,5 +20,5 @@ fn main() {
     };
     println!("cargo:rerun-if-changed={}", archive.display());
     println!("cargo:rustc-link-search=native={}", folder.display());
-    println!("cargo:rustc-link-lib=static:+verbatim={}", file.display());
+    println!("cargo:rustc-link-lib=static:+verbatim={}", Path::new(file).display());
 }

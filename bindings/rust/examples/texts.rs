@@ -24,7 +24,7 @@ fn print_back(words: &[u16]) {
     let mut text = [0; 16 * MOST_WORDS];
     match kernel::print(words, &mut text) {
         Ok(bytes) => print!("{}", String::from_utf8_lossy(&text[..bytes])),
-        Err(number) => println!("refused {number}"),
+        Err(refusal) => println!("refused {}", refusal.number()),
     }
 }
 
@@ -37,8 +37,8 @@ fn print_translated(names: &str, room: usize) {
             print_back(&target[..words]);
         }
         Err(refused) => {
-            let line = kernel::refused_line(names.as_bytes(), SCRIPT.as_bytes(), room);
-            println!("refused {}: {}", refused.number, String::from_utf8_lossy(line));
+            let line = kernel::refused_line(names.as_bytes(), SCRIPT.as_bytes(), room).unwrap_or_default();
+            println!("refused {}: {}", refused.refusal.number(), String::from_utf8_lossy(line));
         }
     }
 }

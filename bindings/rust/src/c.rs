@@ -124,6 +124,33 @@ pub struct Broken {
 /// What is not there: a task, a device, a register, a queue or a place in it; a broken rule or what breaks it.
 pub const NOT_THERE: u16 = 65535;
 
+/// The ready queue; i and j are 0.
+pub const READY_QUEUE: u16 = 0;
+
+/// The input buffer of task i.
+pub const INPUT_BUFFER: u16 = 1;
+
+/// The output buffer of task i.
+pub const OUTPUT_BUFFER: u16 = 2;
+
+/// The messages from task i to task j.
+pub const MESSAGE_BUFFER: u16 = 3;
+
+/// The cc after a compare of equal words.
+pub const EQUAL: u16 = 0;
+
+/// The cc after a compare of a less word with a greater one.
+pub const LESS: u16 = 1;
+
+/// The cc after a compare of a greater word with a less one.
+pub const GREATER: u16 = 2;
+
+/// The error or the pending service where there is none.
+pub const NONE: u16 = 0;
+
+/// The busy of a port that is idle.
+pub const IDLE: u16 = 0;
+
 /// The kind and the task of a refused event.
 pub const NO_ANSWER: u16 = 65535;
 

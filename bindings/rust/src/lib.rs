@@ -1,22 +1,79 @@
-//! The proved kernel, for programs in Rust: check, size, build, event, run; translate, `refused_line`; print, `print_size`.
+//! The proved kernel for programs in Rust: a runner of scripts of a small machine of 16-bit words.
 //!
-//! Nothing is required of the words and bytes: any slice may be lent, empty ones too. A call either does what it says, or
-//! it refuses, answers the number of the refusal and changes no word. The numbers are 1 to 16, as `include/kernel.h` lists
-//! them. No call allocates or keeps a reference. A call on texts takes at most 256 KiB of the stack.
+//! - A *plan* says which tasks there are: their number (1 to 16), the slice, the capacities of input, output and
+//!   message buffers (1 to 32 each), then for each task the length of its segment and of its program, then the
+//!   programs. [`size`] says how many words its image has, [`build`] makes it.
+//! - An *image* is the whole state, a slice of words: registers and flags of each task, buffers, ports, segments.
+//!   [`check`] says whether a slice is one; every call that takes an image checks it first. In a file a word is two
+//!   bytes, the low one first ([`u16::to_le_bytes`]).
+//! - An *event* is a tick, which lets the first ready task do one order or service; an input character for a device; or
+//!   that a device has put its character out. [`event`] takes one and [`run`] a list of them.
+//! - [`task`], [`port`], [`register`], [`queue_length`] and [`queue_word`] look into an image, and [`broken_rule`]
+//!   says why one is refused with [`Refusal::RuleBroken`].
+//! - A *script* is a program as text, in one order a line. [`translate`] gives its words, [`print()`] gives the text
+//!   back.
+//!
+//! docs/MACHINE.md in the repository says what each order, service and word of an image means, and docs/GRAMMAR.md how
+//! a script is written.
+//!
+//! Nothing is required of the words and bytes: any slice may be lent, empty ones too. A call either does what it says,
+//! or it refuses, says why with a [`Refusal`], and changes no word and no byte. No call allocates, keeps a reference
+//! or remembers earlier calls. [`translate`] and [`refused_line`] take at most 256 KiB of the stack, every other call
+//! 4 KiB.
+//!
+//! # Example
+//!
+//! A task that takes a character from its device and gives it back. Each tick is one step: the order, then the service
+//! that it asks for.
 //!
 //! ```
-//! let plan = [1, 2, 1, 1, 1, 4, 2, 4656, 4672];
+//! use kernel::{Kind, Port, Refusal, Status, TaskError, INPUT, OUTPUT_DONE, TICK};
+//!
+//! // The program's words.
+//! let mut program = [0; 2];
+//! assert_eq!(kernel::translate(b"", b"input\noutput\n", &mut program), Ok(2));
+//!
+//! // One task, slice 9, buffers of one word; a segment of 4 words, in which the program's 2 stand first.
+//! let plan = [1, 9, 1, 1, 1, 4, 2, program[0], program[1]];
 //! let mut image = vec![0; kernel::size(&plan)?];
 //! kernel::build(&plan, &mut image)?;
-//! let (kind, task) = kernel::event(&mut image, kernel::TICK, 0, 0)?;
-//! assert_eq!((kind, task), (6, 0));
-//! # Ok::<(), u16>(())
+//!
+//! assert_eq!(kernel::event(&mut image, TICK, 0, 0)?.kind, Kind::OrderDone);
+//! assert_eq!(kernel::event(&mut image, TICK, 0, 0)?.kind, Kind::ServiceWaits);
+//! let task = kernel::task(&image, 0)?.expect("task 0 is there");
+//! assert_eq!(task.status.to_string(), "waits for input");
+//!
+//! kernel::event(&mut image, INPUT, 0, u16::from(b'A'))?;
+//! for _ in 0..3 {
+//!     kernel::event(&mut image, TICK, 0, 0)?;
+//! }
+//! assert_eq!(kernel::port(&image, 0)?, Some(Port::Busy(b'A')));
+//! assert_eq!(kernel::event(&mut image, OUTPUT_DONE, 0, 0)?.task, Some(0));
+//! assert_eq!(kernel::event(&mut image, OUTPUT_DONE, 0, 0), Err(Refusal::PortIdle));
+//!
+//! // After the program comes a 0, which is no order: an error, and with the tick after it the task is stopped.
+//! kernel::event(&mut image, TICK, 0, 0)?;
+//! assert_eq!(kernel::event(&mut image, TICK, 0, 0)?.kind, Kind::ErrorStop);
+//! let task = kernel::task(&image, 0)?.expect("task 0 is there");
+//! assert_eq!((task.status, task.error), (Status::Stopped, Some(TaskError::BadOrder)));
+//! assert_eq!(kernel::task(&image, 1)?, None);
+//! # Ok::<(), kernel::Refusal>(())
 //! ```
 #![deny(missing_docs)]
 
 pub mod c;
+mod looking;
+mod numbers;
+mod outcomes;
+mod scripts;
 #[cfg(test)]
 mod tests;
+
+pub use looking::{broken_rule, port, queue_length, queue_word, register, task};
+pub use looking::{Broken, Port, Queue, Subject, Task};
+pub use numbers::{Kind, Refusal, Rule, Service, Status, TaskError};
+pub use outcomes::{Answer, Stopped};
+pub use scripts::{print, print_size, refused_line, translate, Text, Untranslated, MOST_NAMES, MOST_PRINTED};
 
 /// The kind of a tick; its device and its character are 0.
 pub const TICK: u16 = 0;
@@ -30,46 +87,46 @@ pub const OUTPUT_DONE: u16 = 2;
 /// The words of an event in a list: kind, device, character.
 pub const EVENT_WORDS: usize = 3;
 
-/// The most words of a list that is printed: those of the longest segment.
-pub const MOST_PRINTED: usize = 32715;
+/// The edition of the images that [`build`] makes. It stands in an image's second word.
+pub const EDITION: u16 = 1;
 
-/// How a run ended.
-#[derive(Clone, Copy, Debug, PartialEq, Eq)]
-pub struct Ran {
-    /// How many events were taken; the image holds exactly these.
-    pub taken: usize,
-    /// 0 where all were taken, else the number of the refusal that stopped the run.
-    pub number: u16,
-}
+/// The most tasks of an image.
+pub const MOST_TASKS: u16 = 16;
 
-/// The two texts of a translation.
-#[derive(Clone, Copy, Debug, PartialEq, Eq)]
-pub enum Text {
-    /// The list of names.
-    Names,
-    /// The script.
-    Script,
-}
+/// The most words of an image.
+pub const MOST_WORDS: usize = 32768;
 
-/// Why a script is not translated.
-#[derive(Clone, Copy, Debug, PartialEq, Eq)]
-pub struct Untranslated {
-    /// 13 to 16.
-    pub number: u16,
-    /// The text that the refused line stands in.
-    pub text: Text,
-}
+/// The registers of a task.
+pub const REGISTERS: u16 = 8;
 
-// Why every call below is safe: a slice's pointer leads to as many words, or bytes, as its length says, of an empty one
-// to none, which the archive allows; a slice lent for writing shares no word with another slice; and the archive's
-// functions read and write nothing but what they are lent, on any words and bytes.
+/// Where an image that passes the check has the number of its tasks.
+pub const AT_TASKS: usize = 2;
 
-/// `value` where `number` is 0, else the number.
-fn unless_refused<T>(number: u16, value: T) -> Result<T, u16> {
+/// Where it has the slice.
+pub const AT_SLICE: usize = 3;
+
+/// Where it has the place of its segment table: for each task in turn the place of its segment's first word, and how
+/// many words it has.
+pub const AT_SEGMENTS: usize = 14;
+
+/// Where it has the clock.
+pub const AT_CLOCK: usize = 17;
+
+// Why every call of the archive is safe, in all modules: a slice's pointer leads to as many words, or bytes, as its
+// length says, of an empty one to none, which the archive allows; a slice lent for writing shares no word with another
+// slice; and the archive's functions read and write nothing but what they are lent, on any words and bytes.
+
+/// `value` where `number` is 0, else the refusal with the number.
+fn unless_refused<T>(number: u16, value: T) -> Result<T, Refusal> {
     match number {
         0 => Ok(value),
-        refused => Err(refused),
+        refused => Err(known(Refusal::with_number(refused))),
     }
+}
+
+/// A case that the archive's number stands for. It answers no number but those of the enums.
+fn known<T>(case: Option<T>) -> T {
+    case.expect("the archive is of the package's version")
 }
 
 /// A count of the archive's. It counts words, bytes or events of slices that this machine holds, so it fits.
@@ -81,8 +138,8 @@ fn count(number: u64) -> usize {
 ///
 /// # Errors
 ///
-/// 1 to 6, as the image is refused.
-pub fn check(image: &[u16]) -> Result<(), u16> {
+/// The first of [`Refusal::TooShort`] to [`Refusal::RuleBroken`], 1 to 6, that applies.
+pub fn check(image: &[u16]) -> Result<(), Refusal> {
     // SAFETY: above.
     let number = unsafe { c::kernel_check(image.as_ptr(), image.len()) };
     unless_refused(number, ())
@@ -92,8 +149,8 @@ pub fn check(image: &[u16]) -> Result<(), u16> {
 ///
 /// # Errors
 ///
-/// 3 or 11, as the plan is refused.
-pub fn size(plan: &[u16]) -> Result<usize, u16> {
+/// [`Refusal::OutOfRange`] or [`Refusal::BadPlan`].
+pub fn size(plan: &[u16]) -> Result<usize, Refusal> {
     // SAFETY: above.
     let size = unsafe { c::kernel_size(plan.as_ptr(), plan.len()) };
     unless_refused(size.number, count(size.words))
@@ -104,95 +161,39 @@ pub fn size(plan: &[u16]) -> Result<usize, u16> {
 ///
 /// # Errors
 ///
-/// 3 or 11, as the plan is refused; 12 where the target has another length. No word of the target is changed then.
-pub fn build(plan: &[u16], target: &mut [u16]) -> Result<(), u16> {
+/// [`Refusal::OutOfRange`] or [`Refusal::BadPlan`], as [`size`] is refused; [`Refusal::WrongTarget`] where the target
+/// has another length. No word of the target is changed then.
+pub fn build(plan: &[u16], target: &mut [u16]) -> Result<(), Refusal> {
     // SAFETY: above.
     let number = unsafe { c::kernel_build(plan.as_ptr(), plan.len(), target.as_mut_ptr(), target.len()) };
     unless_refused(number, ())
 }
 
-/// One event on an image. Answers its kind and its task: 0 idle, 1 error stop, 2 turn passed, 3 service done,
-/// 4 service waits, 5 service faulted, 6 order done, 7 order faulted, 8 input, 9 output done.
+/// One event on an image: [`TICK`], 0 and 0; [`INPUT`], a device and its character; or [`OUTPUT_DONE`], a device and
+/// 0. The device of a task has the task's number.
 ///
 /// # Errors
 ///
-/// 1 to 6, as the image is refused; 7 to 10, as the event is. No word of the image is changed then.
-pub fn event(image: &mut [u16], kind: u16, device: u16, character: u16) -> Result<(u16, u16), u16> {
+/// 1 to 6, as [`check`] refuses the image; then [`Refusal::MalformedEvent`], [`Refusal::InputFull`],
+/// [`Refusal::PortIdle`] or [`Refusal::ReadyFull`]. No word of the image is changed then.
+pub fn event(image: &mut [u16], kind: u16, device: u16, character: u16) -> Result<Answer, Refusal> {
     // SAFETY: above.
     let told = unsafe { c::kernel_event(image.as_mut_ptr(), image.len(), kind, device, character) };
-    unless_refused(told.number, (told.kind, told.task))
+    unless_refused(told.number, ())?;
+    let kind = known(Kind::with_number(told.kind));
+    Ok(Answer { kind, task: (kind != Kind::Idle).then_some(told.task) })
 }
 
-/// A list of events, one after another, up to the first that is refused. A bad image (1 to 6), or a list that is not a
-/// multiple of three words (7), is refused before any event is taken.
-pub fn run(image: &mut [u16], events: &[u16]) -> Ran {
+/// A list of events, three words each, one after another. Answers how many there are, where all are taken.
+///
+/// # Errors
+///
+/// The first refusal, and how many events were taken before it; the image holds exactly these. A bad image (1 to 6),
+/// or a list that is not a multiple of three words ([`Refusal::MalformedEvent`]), is refused before any event is
+/// taken.
+pub fn run(image: &mut [u16], events: &[u16]) -> Result<usize, Stopped> {
     // SAFETY: above.
     let ran = unsafe { c::kernel_run(image.as_mut_ptr(), image.len(), events.as_ptr(), events.len()) };
-    Ran { taken: count(ran.taken), number: ran.number }
-}
-
-/// Translates a script with its list of names to words in the target, from its first on; the words past them stay as they
-/// are. Answers how many words the script has.
-///
-/// # Errors
-///
-/// 13 to 16, and the text of the refused line, which is the one that [`refused_line`] gives. No word of the target is
-/// changed then.
-pub fn translate(names: &[u8], script: &[u8], target: &mut [u16]) -> Result<usize, Untranslated> {
-    // SAFETY: above.
-    let told = unsafe {
-        c::kernel_translate(
-            names.as_ptr(),
-            names.len(),
-            script.as_ptr(),
-            script.len(),
-            target.as_mut_ptr(),
-            target.len(),
-        )
-    };
-    let text = if told.text == c::NAMES { Text::Names } else { Text::Script };
-    unless_refused(told.number, count(told.words)).map_err(|number| Untranslated { number, text })
-}
-
-/// Prints a list of words in the buffer, from its first byte on, as the script that [`translate`] gives these words for,
-/// without names; the bytes past it stay as they are. Answers how many bytes the text has.
-///
-/// # Errors
-///
-/// 16 where the list has over [`MOST_PRINTED`] words, or its text more bytes than the buffer. No byte of the buffer is
-/// changed then.
-pub fn print(words: &[u16], text: &mut [u8]) -> Result<usize, u16> {
-    // SAFETY: above.
-    let told = unsafe { c::kernel_print(words.as_ptr(), words.len(), text.as_mut_ptr(), text.len()) };
-    unless_refused(told.number, count(told.bytes))
-}
-
-/// How many bytes [`print`] needs for a list of words.
-///
-/// # Errors
-///
-/// 16 where the list has over [`MOST_PRINTED`] words.
-pub fn print_size(words: &[u16]) -> Result<usize, u16> {
-    // SAFETY: above.
-    let told = unsafe { c::kernel_print_size(words.as_ptr(), words.len()) };
-    unless_refused(told.number, count(told.bytes))
-}
-
-/// The line that [`translate`] refuses with a target of so many words, as the part of its text, without the byte 10 that
-/// ends it. Where no line is refused, the empty part at the script's start.
-pub fn refused_line<'a>(names: &'a [u8], script: &'a [u8], room: usize) -> &'a [u8] {
-    // SAFETY: above.
-    let line =
-        unsafe { c::kernel_refused_line(names.as_ptr(), names.len(), script.as_ptr(), script.len(), room as u64) };
-    let start = count(line.start);
-    &text_at_fault(names, script)[start..start + count(line.bytes)]
-}
-
-/// The text of the refused line. Without room every text that is refused at all is, and a line of the names whatever the
-/// room is.
-fn text_at_fault<'a>(names: &'a [u8], script: &'a [u8]) -> &'a [u8] {
-    match translate(names, script, &mut []) {
-        Err(Untranslated { text: Text::Names, .. }) => names,
-        _ => script,
-    }
+    let taken = count(ran.taken);
+    unless_refused(ran.number, taken).map_err(|refusal| Stopped { taken, refusal })
 }

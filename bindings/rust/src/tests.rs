@@ -1,7 +1,10 @@
 //! Each call on the paper's example or the example of the text form, on what is refused, and on empty slices.
 
+mod looking;
+mod texts;
+
 use crate::{build, c, check, event, print, print_size, refused_line, run, size, translate};
-use crate::{Ran, Text, Untranslated, INPUT, MOST_PRINTED, OUTPUT_DONE, TICK};
+use crate::{Answer, Kind, Refusal, Stopped, Text, Untranslated, INPUT, MOST_PRINTED, OUTPUT_DONE, TICK};
 
 const PLAN: [u16; 9] = [1, 2, 1, 1, 1, 4, 2, 4656, 4672];
 
@@ -33,16 +36,16 @@ fn a_cut_image_is_refused_by_each_call_and_kept() {
     let mut image = fresh();
     image.pop();
     let before = image.clone();
-    assert_eq!(check(&image), Err(5));
-    assert_eq!(event(&mut image, TICK, 0, 0), Err(5));
-    assert_eq!(run(&mut image, &[TICK, 0, 0]), Ran { taken: 0, number: 5 });
+    assert_eq!(check(&image), Err(Refusal::WrongSegments));
+    assert_eq!(event(&mut image, TICK, 0, 0), Err(Refusal::WrongSegments));
+    assert_eq!(run(&mut image, &[TICK, 0, 0]), Err(Stopped { taken: 0, refusal: Refusal::WrongSegments }));
     assert_eq!(image, before);
 }
 
 #[test]
 fn a_target_of_another_length_is_12_and_kept() {
     let mut target = [UNTOUCHED; 56];
-    assert_eq!(build(&PLAN, &mut target), Err(12));
+    assert_eq!(build(&PLAN, &mut target), Err(Refusal::WrongTarget));
     assert_eq!(target, [UNTOUCHED; 56]);
 }
 
@@ -50,28 +53,37 @@ fn a_target_of_another_length_is_12_and_kept() {
 fn a_refused_plan_is_told_by_size_and_by_build() {
     let mut tasks_17 = PLAN;
     tasks_17[0] = 17;
-    assert_eq!(size(&tasks_17), Err(3));
-    assert_eq!(build(&tasks_17, &mut [0; 57]), Err(3));
-    assert_eq!(size(&PLAN[..8]), Err(11));
-    assert_eq!(build(&PLAN[..8], &mut [0; 57]), Err(11));
+    assert_eq!(size(&tasks_17), Err(Refusal::OutOfRange));
+    assert_eq!(build(&tasks_17, &mut [0; 57]), Err(Refusal::OutOfRange));
+    assert_eq!(size(&PLAN[..8]), Err(Refusal::BadPlan));
+    assert_eq!(build(&PLAN[..8], &mut [0; 57]), Err(Refusal::BadPlan));
 }
 
 #[test]
 fn an_input_is_accepted_once_and_then_finds_the_buffer_full() {
     let mut image = fresh();
-    assert_eq!(event(&mut image, INPUT, 0, 65), Ok((8, 0)));
+    assert_eq!(event(&mut image, INPUT, 0, 65), Ok(Answer { kind: Kind::Input, task: Some(0) }));
     let before = image.clone();
-    assert_eq!(event(&mut image, INPUT, 0, 66), Err(8));
-    assert_eq!(event(&mut image, INPUT, 0, 256), Err(7));
-    assert_eq!(event(&mut image, OUTPUT_DONE, 0, 0), Err(9));
+    assert_eq!(event(&mut image, INPUT, 0, 66), Err(Refusal::InputFull));
+    assert_eq!(event(&mut image, INPUT, 0, 256), Err(Refusal::MalformedEvent));
+    assert_eq!(event(&mut image, OUTPUT_DONE, 0, 0), Err(Refusal::PortIdle));
     assert_eq!(image, before);
+}
+
+#[test]
+fn an_idle_machine_tells_no_task() {
+    let mut image = fresh();
+    let tick = |image: &mut [u16]| event(image, TICK, 0, 0).unwrap();
+    assert_eq!(tick(&mut image), Answer { kind: Kind::OrderDone, task: Some(0) });
+    assert_eq!(tick(&mut image), Answer { kind: Kind::ServiceWaits, task: Some(0) });
+    assert_eq!(tick(&mut image), Answer { kind: Kind::Idle, task: None });
 }
 
 #[test]
 fn a_run_is_the_events_one_by_one() {
     let events = [TICK, 0, 0, TICK, 0, 0, TICK, 0, 0, INPUT, 0, 65, OUTPUT_DONE, 0, 0, TICK, 0, 0];
     let (mut by_run, mut by_events) = (fresh(), fresh());
-    assert_eq!(run(&mut by_run, &events), Ran { taken: 4, number: 9 });
+    assert_eq!(run(&mut by_run, &events), Err(Stopped { taken: 4, refusal: Refusal::PortIdle }));
     for word in events.chunks(3).take(4) {
         assert!(event(&mut by_events, word[0], word[1], word[2]).is_ok());
     }
@@ -81,20 +93,20 @@ fn a_run_is_the_events_one_by_one() {
 #[test]
 fn a_list_of_four_words_is_7_and_no_event_is_taken() {
     let mut image = fresh();
-    assert_eq!(run(&mut image, &[TICK, 0, 0, TICK]), Ran { taken: 0, number: 7 });
+    assert_eq!(run(&mut image, &[TICK, 0, 0, TICK]), Err(Stopped { taken: 0, refusal: Refusal::MalformedEvent }));
     assert_eq!(image, fresh());
 }
 
 #[test]
 fn empty_slices_are_refused_or_do_nothing() {
     let mut image = fresh();
-    assert_eq!(check(&[]), Err(1));
-    assert_eq!(size(&[]), Err(11));
-    assert_eq!(build(&[], &mut []), Err(11));
-    assert_eq!(build(&PLAN, &mut []), Err(12));
-    assert_eq!(event(&mut [], TICK, 0, 0), Err(1));
-    assert_eq!(run(&mut [], &[]), Ran { taken: 0, number: 1 });
-    assert_eq!(run(&mut image, &[]), Ran { taken: 0, number: 0 });
+    assert_eq!(check(&[]), Err(Refusal::TooShort));
+    assert_eq!(size(&[]), Err(Refusal::BadPlan));
+    assert_eq!(build(&[], &mut []), Err(Refusal::BadPlan));
+    assert_eq!(build(&PLAN, &mut []), Err(Refusal::WrongTarget));
+    assert_eq!(event(&mut [], TICK, 0, 0), Err(Refusal::TooShort));
+    assert_eq!(run(&mut [], &[]), Err(Stopped { taken: 0, refusal: Refusal::TooShort }));
+    assert_eq!(run(&mut image, &[]), Ok(0));
     assert_eq!(image, fresh());
 }
 
@@ -112,50 +124,53 @@ fn the_words_of_a_script_stand_first_and_the_others_stay() {
     let mut target = [UNTOUCHED; 9];
     assert_eq!(translate(NAMES, SCRIPT, &mut target), Ok(7));
     assert_eq!(target, [4656, 336, 19, 3856, 0, 4, 2, UNTOUCHED, UNTOUCHED]);
-    assert_eq!(refused_line(NAMES, SCRIPT, 7), b"");
+    assert_eq!(refused_line(NAMES, SCRIPT, 7), None);
 }
 
 #[test]
 fn a_target_with_a_word_less_is_16_at_the_last_line_and_kept() {
     let mut target = [UNTOUCHED; 6];
-    let refused = Untranslated { number: 16, text: Text::Script };
+    let refused = Untranslated { refusal: Refusal::NoRoom, text: Text::Script };
     assert_eq!(translate(NAMES, SCRIPT, &mut target), Err(refused));
     assert_eq!(target, [UNTOUCHED; 6]);
-    assert_eq!(refused_line(NAMES, SCRIPT, 6), b"  loop + 2");
+    assert_eq!(refused_line(NAMES, SCRIPT, 6), Some(&b"  loop + 2"[..]));
 }
 
 #[test]
 fn a_refused_line_of_either_text_is_named() {
-    let in_names = |number| Err(Untranslated { number, text: Text::Names });
-    let in_script = |number| Err(Untranslated { number, text: Text::Script });
-    assert_eq!(translated(NAMES, b"1\nload r5\n"), in_script(13));
-    assert_eq!(refused_line(NAMES, b"1\nload r5\n", 16), b"load r5");
-    assert_eq!(translated(b"a = 1\nb = c\n", SCRIPT), in_names(14));
-    assert_eq!(refused_line(b"a = 1\nb = c\n", SCRIPT, 16), b"b = c");
-    assert_eq!(translated(b"a = 65536", b"1"), in_names(15));
-    assert_eq!(refused_line(b"a = 65536", b"1", 0), b"a = 65536");
+    let in_names = |refusal| Err(Untranslated { refusal, text: Text::Names });
+    let in_script = |refusal| Err(Untranslated { refusal, text: Text::Script });
+    assert_eq!(translated(NAMES, b"1\nload r5\n"), in_script(Refusal::OutsideGrammar));
+    assert_eq!(refused_line(NAMES, b"1\nload r5\n", 16), Some(&b"load r5"[..]));
+    assert_eq!(translated(b"a = 1\nb = c\n", SCRIPT), in_names(Refusal::NameFault));
+    assert_eq!(refused_line(b"a = 1\nb = c\n", SCRIPT, 16), Some(&b"b = c"[..]));
+    assert_eq!(translated(b"a = 65536", b"1"), in_names(Refusal::ValueOutOfRange));
+    assert_eq!(refused_line(b"a = 65536", b"1", 0), Some(&b"a = 65536"[..]));
 }
 
 #[test]
 fn a_refused_line_is_a_part_of_its_text() {
     let names = b"a = b";
-    assert_eq!(refused_line(names, SCRIPT, 16).as_ptr(), names.as_ptr());
-    assert_eq!(refused_line(NAMES, SCRIPT, 16).as_ptr(), SCRIPT.as_ptr());
+    assert_eq!(refused_line(names, SCRIPT, 16).unwrap().as_ptr(), names.as_ptr());
+    assert_eq!(refused_line(NAMES, b"a", 16), Some(&b"a"[..]));
+    // The last line is empty, and refused all the same.
+    assert_eq!(refused_line(NAMES, b"1\n\n", 0), Some(&b""[..]));
+    assert_eq!(refused_line(NAMES, b"1\n\n", 1), None);
 }
 
 #[test]
 fn empty_texts_have_no_words_and_are_not_refused() {
     assert_eq!(translate(&[], &[], &mut []), Ok(0));
-    assert_eq!(refused_line(&[], &[], 0), b"");
+    assert_eq!(refused_line(&[], &[], 0), None);
 }
 
 #[test]
 fn there_may_be_8192_names_and_one_more_is_13() {
     let lines = |count| (0..count).map(|k| format!("a{k} = {k}\n")).collect::<String>();
     assert_eq!(translated(lines(8192).as_bytes(), b"a8191"), Ok(1));
-    let refused = Untranslated { number: 13, text: Text::Names };
+    let refused = Untranslated { refusal: Refusal::OutsideGrammar, text: Text::Names };
     assert_eq!(translated(lines(8193).as_bytes(), b"a8191"), Err(refused));
-    assert_eq!(refused_line(lines(8193).as_bytes(), b"", 0), b"a8192 = 8192");
+    assert_eq!(refused_line(lines(8193).as_bytes(), b"", 0), Some(&b"a8192 = 8192"[..]));
 }
 
 /// The words of the text form's example, and their text as its page has it.
@@ -180,7 +195,7 @@ fn the_text_of_a_list_stands_first_and_the_other_bytes_stay() {
 fn a_buffer_of_the_measured_size_is_enough_and_a_byte_less_is_16_and_kept() {
     assert_eq!(print_size(&WORDS), Ok(PRINTED.len()));
     let mut text = vec![UNTOUCHED_BYTE; PRINTED.len()];
-    assert_eq!(print(&WORDS, &mut text[1..]), Err(16));
+    assert_eq!(print(&WORDS, &mut text[1..]), Err(Refusal::NoRoom));
     assert!(text.iter().all(|byte| *byte == UNTOUCHED_BYTE));
     assert_eq!(print(&WORDS, &mut text), Ok(PRINTED.len()));
     assert_eq!(text, PRINTED);
@@ -200,8 +215,8 @@ fn a_printed_list_is_translated_to_the_list() {
 fn the_longest_list_is_printed_and_one_word_more_is_16() {
     let words = vec![2423; MOST_PRINTED + 1];
     let mut text = vec![UNTOUCHED_BYTE; 16 * words.len()];
-    assert_eq!(print_size(&words), Err(16));
-    assert_eq!(print(&words, &mut text), Err(16));
+    assert_eq!(print_size(&words), Err(Refusal::NoRoom));
+    assert_eq!(print(&words, &mut text), Err(Refusal::NoRoom));
     assert!(text.iter().all(|byte| *byte == UNTOUCHED_BYTE));
     assert_eq!(print_size(&words[1..]), Ok(16 * MOST_PRINTED));
     assert_eq!(print(&words[1..], &mut text), Ok(16 * MOST_PRINTED));
@@ -212,7 +227,7 @@ fn the_longest_list_is_printed_and_one_word_more_is_16() {
 fn an_empty_list_has_the_empty_text() {
     assert_eq!(print_size(&[]), Ok(0));
     assert_eq!(print(&[], &mut []), Ok(0));
-    assert_eq!(print(&[0], &mut []), Err(16));
+    assert_eq!(print(&[0], &mut []), Err(Refusal::NoRoom));
 }
 
 /// The most of the stack that a call on texts takes, by include/kernel.h.
@@ -225,7 +240,7 @@ fn a_call_on_texts_needs_little_of_the_stack() {
         (translated(NAMES, b"((((((((last))))))))"), refused_line(NAMES, b"b", 16), printed)
     };
     let thread = std::thread::Builder::new().stack_size(MOST_STACK).spawn(call).unwrap();
-    assert_eq!(thread.join().unwrap(), (Ok(1), &b"b"[..], Ok(PRINTED.len())));
+    assert_eq!(thread.join().unwrap(), (Ok(1), Some(&b"b"[..]), Ok(PRINTED.len())));
 }
 
 /// A plan of three tasks, its image's words, and events of which the last but one is refused.

@@ -4,7 +4,7 @@ use crate::call::{Answer, Call};
 use crate::expected::refused_event;
 use crate::lent::{Lent, Rooms};
 use kernel::c::{NAMES, NO_TEXT, SCRIPT};
-use kernel::{Text, Untranslated};
+use kernel::{Refusal, Stopped, Text, Untranslated};
 
 /// Makes the call with its words and bytes in the rooms that are lent.
 pub fn answer(call: &Call, lent: &mut Rooms) -> Answer {
@@ -16,8 +16,8 @@ pub fn answer(call: &Call, lent: &mut Rooms) -> Answer {
         }
         (Call::Event { event, .. }, [image], []) => one_event(image, *event),
         (Call::Run { .. }, [image, events], []) => {
-            let ran = kernel::run(image.words(), events.words());
-            Answer::Run { number: ran.number, taken: ran.taken as u64 }
+            let (number, taken) = ended(kernel::run(image.words(), events.words()));
+            Answer::Run { number, taken }
         }
         (Call::Translate { .. }, [target], [names, script]) => translate(names, script, target),
         (Call::RefusedLine { room, .. }, [], [names, script]) => refused_line(names, script, *room),
@@ -35,15 +35,23 @@ pub fn answer(call: &Call, lent: &mut Rooms) -> Answer {
 }
 
 /// The number of a result, 0 where nothing is refused.
-fn number(result: Result<(), u16>) -> u16 {
-    result.err().unwrap_or(0)
+fn number(result: Result<(), Refusal>) -> u16 {
+    result.err().map_or(0, Refusal::number)
 }
 
 /// The number of a result, and its count, 0 where it is refused.
-fn counted(result: Result<usize, u16>) -> (u16, u64) {
+fn counted(result: Result<usize, Refusal>) -> (u16, u64) {
     match result {
         Ok(count) => (0, count as u64),
-        Err(number) => (number, 0),
+        Err(refusal) => (refusal.number(), 0),
+    }
+}
+
+/// The number of a run, and how many events it took.
+fn ended(result: Result<usize, Stopped>) -> (u16, u64) {
+    match result {
+        Ok(taken) => (0, taken as u64),
+        Err(Stopped { taken, refusal }) => (refusal.number(), taken as u64),
     }
 }
 
@@ -54,15 +62,17 @@ fn size(plan: &mut Lent<u16>) -> Answer {
 
 fn one_event(image: &mut Lent<u16>, [kind, device, character]: [u16; 3]) -> Answer {
     match kernel::event(image.words(), kind, device, character) {
-        Ok((kind, task)) => Answer::Event { number: 0, kind, task },
-        Err(number) => refused_event(number),
+        Ok(kernel::Answer { kind, task }) => Answer::Event { number: 0, kind: kind.number(), task: task.unwrap_or(0) },
+        Err(refusal) => refused_event(refusal.number()),
     }
 }
 
 fn translate(names: &mut Lent<u8>, script: &mut Lent<u8>, target: &mut Lent<u16>) -> Answer {
     match kernel::translate(names.words(), script.words(), target.words()) {
         Ok(words) => Answer::Translate { number: 0, text: NO_TEXT, words: words as u64 },
-        Err(Untranslated { number, text }) => Answer::Translate { number, text: text_number(text), words: 0 },
+        Err(Untranslated { refusal, text }) => {
+            Answer::Translate { number: refusal.number(), text: text_number(text), words: 0 }
+        }
     }
 }
 
@@ -80,7 +90,7 @@ fn round_trip(words: &mut Lent<u16>, text: &mut Lent<u8>, target: &mut Lent<u16>
         return Answer::RoundTrip { printed, number, words: 0 };
     }
     let script = &text.words()[..printed as usize];
-    let back = kernel::translate(&[], script, target.words()).map_err(|refused| refused.number);
+    let back = kernel::translate(&[], script, target.words()).map_err(|refused| refused.refusal);
     let (number, words) = counted(back);
     Answer::RoundTrip { printed, number, words }
 }
@@ -88,7 +98,9 @@ fn round_trip(words: &mut Lent<u16>, text: &mut Lent<u8>, target: &mut Lent<u16>
 fn refused_line(names: &mut Lent<u8>, script: &mut Lent<u8>, room: u64) -> Answer {
     let room = usize::try_from(room).expect("the package is for machines of 64 bits");
     let (names, script) = (names.words(), script.words());
-    let line = kernel::refused_line(names, script, room);
+    let Some(line) = kernel::refused_line(names, script, room) else {
+        return Answer::RefusedLine { start: 0, bytes: 0 };
+    };
     let start = start_in(names, line).or(start_in(script, line)).expect("a part of a text");
     Answer::RefusedLine { start: start as u64, bytes: line.len() as u64 }
 }
