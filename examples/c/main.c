@@ -23,7 +23,7 @@ static void print_events(uint16_t *image, size_t words)
     for (size_t k = 0; k < COUNT(events) / KERNEL_EVENT_WORDS; k++) {
         const uint16_t *event = &events[k * KERNEL_EVENT_WORDS];
         struct kernel_told told = kernel_event(image, words, event[0], event[1], event[2]);
-        if (told.number != 0) {
+        if (told.number != KERNEL_NOT_REFUSED) {
             printf("%zu refused %u\n", k + 1, told.number);
             return;
         }
@@ -42,13 +42,13 @@ static void print_run(uint16_t *image, size_t words)
 static uint16_t with_image(void (*show)(uint16_t *, size_t))
 {
     struct kernel_size size = kernel_size(plan, COUNT(plan));
-    if (size.number != 0)
+    if (size.number != KERNEL_NOT_REFUSED)
         return size.number;
     uint16_t *image = calloc(size.words, sizeof *image);
     if (image == NULL)
         abort();
     uint16_t number = kernel_build(plan, COUNT(plan), image, size.words);
-    if (number == 0)
+    if (number == KERNEL_NOT_REFUSED)
         show(image, size.words);
     free(image);
     return number;
@@ -56,5 +56,11 @@ static uint16_t with_image(void (*show)(uint16_t *, size_t))
 
 int main(void)
 {
-    return with_image(print_events) == 0 && with_image(print_run) == 0 ? EXIT_SUCCESS : EXIT_FAILURE;
+    uint16_t number = with_image(print_events);
+    if (number == KERNEL_NOT_REFUSED)
+        number = with_image(print_run);
+    if (number == KERNEL_NOT_REFUSED)
+        return EXIT_SUCCESS;
+    fprintf(stderr, "plan: refused %u: %s\n", number, kernel_number_text(number));
+    return EXIT_FAILURE;
 }

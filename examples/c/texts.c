@@ -40,7 +40,10 @@ static void print_back(const uint16_t *words, size_t count)
 {
     uint8_t text[MOST_BYTES];
     struct kernel_printed told = kernel_print(words, count, text, MOST_BYTES);
-    printf("%.*s", (int)told.bytes, (const char *)text);
+    if (told.number != KERNEL_NOT_REFUSED)
+        printf("refused %u\n", told.number);
+    else
+        printf("%.*s", (int)told.bytes, (const char *)text);
 }
 
 /* Translates the script with some names to at most so many words, and prints them and their text, or what is refused. */
@@ -49,7 +52,7 @@ static void print_translated(const char *with, size_t room)
     uint16_t target[MOST_WORDS];
     struct kernel_translated told =
         kernel_translate(bytes(with), strlen(with), bytes(script), strlen(script), target, room);
-    if (told.number != 0) {
+    if (told.number != KERNEL_NOT_REFUSED) {
         print_refused(with, told, room);
         return;
     }
