@@ -1,5 +1,6 @@
 /* What include/kernel.h says of each call and of each field of its answer, of NULL, of refused answers and of words that
-   are not lent, tried on the archive. No two arguments of a call are the same, and no two fields of an accepted answer. */
+   are not lent, tried on the archive. No two arguments of a call are the same, and no two fields of an accepted answer,
+   where it has room for that: of a task's fields each two differ in one of three tasks. */
 #include <stdio.h>
 #include <stdlib.h>
 #include <string.h>
@@ -10,6 +11,13 @@
 #define EXPECT(truth) expect(truth, #truth, __LINE__)
 
 enum { IMAGE_WORDS = 57, CROWD_WORDS = 184, GUARD_WORDS = 64, GUARD_BYTE = 0xA5, GUARD_WORD = 0xA5A5 };
+
+/* What the fields hold where there is nothing to tell. */
+enum { NONE = 65535 };
+
+/* Where the parts of the image of three tasks stand, worked by hand. */
+enum { TASK_TABLE = 18, READY_QUEUE = 45, STATUS_TABLE = 52, INPUT_OF_1 = 64, OUTPUT_OF_1 = 81, PORTS = 163 };
+enum { FROM_0_TO_1 = 99, FROM_1_TO_0 = 115, FROM_1_TO_2 = 131, TASK_WORDS = 9 };
 
 /* The plan of the paper's example. */
 static const uint16_t plan[] = {1, 2, 1, 1, 1, 4, 2, 4656, 4672};
@@ -81,6 +89,42 @@ static int is_line(struct kernel_line line, uint64_t start, uint64_t bytes)
 static int is_printed(struct kernel_printed told, uint64_t bytes, uint16_t number)
 {
     return told.bytes == bytes && told.number == number;
+}
+
+static int is_task(struct kernel_task told, uint16_t status, uint16_t peer, uint16_t cc, uint16_t error,
+                   uint16_t pending)
+{
+    return told.number == 0 && told.status == status && told.peer == peer && told.cc == cc && told.error == error &&
+           told.pending == pending;
+}
+
+/* Whether a task was not seen, for this number. */
+static int no_task(struct kernel_task told, uint16_t number)
+{
+    return told.number == number && told.status == NONE && told.peer == NONE && told.cc == NONE && told.error == NONE &&
+           told.pending == NONE;
+}
+
+static int is_port(struct kernel_port told, uint16_t number, uint16_t busy, uint16_t character)
+{
+    return told.number == number && told.busy == busy && told.character == character;
+}
+
+static int is_word(struct kernel_word told, uint16_t number, uint16_t word)
+{
+    return told.number == number && told.word == word;
+}
+
+static int is_broken(struct kernel_broken told, uint16_t rule, uint16_t queue, uint16_t i, uint16_t j)
+{
+    return told.number == KERNEL_REFUSED_RULE_BROKEN && told.rule == rule && told.queue == queue && told.i == i &&
+           told.j == j;
+}
+
+/* Whether the check answered this number, and so no rule is told. */
+static int no_rule(struct kernel_broken told, uint16_t number)
+{
+    return told.number == number && told.rule == NONE && told.queue == NONE && told.i == NONE && told.j == NONE;
 }
 
 static const uint8_t *bytes(const char *text)
@@ -187,6 +231,130 @@ static void try_prints(void)
     EXPECT(memcmp(text, printed, PRINTED) == 0 && guarded(PRINTED / 2));
 }
 
+/* No image, at NULL. */
+static void try_no_image(void)
+{
+    EXPECT(no_task(kernel_task(NULL, 0, 0), 1));
+    EXPECT(is_port(kernel_port(NULL, 0, 0), 1, NONE, NONE));
+    EXPECT(is_word(kernel_register(NULL, 0, 0, 0), 1, NONE));
+    EXPECT(is_word(kernel_queue_length(NULL, 0, KERNEL_QUEUE_READY, 0, 0), 1, NONE));
+    EXPECT(is_word(kernel_queue_word(NULL, 0, KERNEL_QUEUE_READY, 0, 0, 0), 1, NONE));
+    EXPECT(no_rule(kernel_broken_rule(NULL, 0), 1));
+}
+
+/* Puts words into the image from a place on. */
+static void put(size_t at, const uint16_t *words, size_t count)
+{
+    memcpy(image + at, words, count * sizeof *words);
+}
+
+#define PUT(at, ...) put(at, (const uint16_t[]){__VA_ARGS__}, COUNT(((const uint16_t[]){__VA_ARGS__})))
+
+/* Makes the image of three tasks: task 0 is ready with an output pending, task 1 is stopped by its output, and task 2 waits
+   to receive from task 1. Some queues go round their end. */
+static void people(void)
+{
+    clear();
+    EXPECT(kernel_build(crowd, COUNT(crowd), image, CROWD_WORDS) == KERNEL_NOT_REFUSED);
+    PUT(TASK_TABLE, 100, 101, 102, 103, 104, 105, 106, 107, 2 + 32 * 4);
+    PUT(TASK_TABLE + TASK_WORDS, 110, 111, 112, 113, 114, 115, 116, 117, 1 + 4 * 6);
+    PUT(TASK_TABLE + 2 * TASK_WORDS, 120, 121, 1, 123, 124, 125, 126, 127, 32 * 2);
+    PUT(READY_QUEUE, 2, 0, 1, 3, 9, 9, 0);
+    PUT(STATUS_TABLE, 0, 0, 5, 0, 2, 1);
+    PUT(INPUT_OF_1, 1, 1, 2, 2, 67, 66);
+    PUT(OUTPUT_OF_1, 0, 0, 1, 1, 68);
+    PUT(FROM_0_TO_1, 3, 1, 2, 4, 800, 9, 9, 700);
+    PUT(FROM_1_TO_0, 0, 1, 1, 4, 65535, 9, 9, 9);
+    PUT(PORTS, 0, 0, 1, 69);
+    EXPECT(kernel_check(image, CROWD_WORDS) == KERNEL_NOT_REFUSED);
+}
+
+/* What is there. */
+static void try_looking(void)
+{
+    people();
+    EXPECT(is_task(kernel_task(image, CROWD_WORDS, 0), 0, 0, 2, 0, 4));
+    EXPECT(is_task(kernel_task(image, CROWD_WORDS, 1), 5, 0, 1, 6, 0));
+    EXPECT(is_task(kernel_task(image, CROWD_WORDS, 2), 2, 1, 0, 0, 2));
+    EXPECT(is_port(kernel_port(image, CROWD_WORDS, 0), 0, 0, 0));
+    EXPECT(is_port(kernel_port(image, CROWD_WORDS, 1), 0, 1, 69));
+    EXPECT(is_word(kernel_register(image, CROWD_WORDS, 1, 0), 0, 110));
+    EXPECT(is_word(kernel_register(image, CROWD_WORDS, 2, 7), 0, 127));
+    EXPECT(is_word(kernel_queue_length(image, CROWD_WORDS, KERNEL_QUEUE_READY, 0, 0), 0, 1));
+    EXPECT(is_word(kernel_queue_length(image, CROWD_WORDS, KERNEL_QUEUE_INPUT, 1, 0), 0, 2));
+    EXPECT(is_word(kernel_queue_length(image, CROWD_WORDS, KERNEL_QUEUE_OUTPUT, 1, 0), 0, 1));
+    EXPECT(is_word(kernel_queue_length(image, CROWD_WORDS, KERNEL_QUEUE_MESSAGES, 0, 1), 0, 2));
+    EXPECT(is_word(kernel_queue_length(image, CROWD_WORDS, KERNEL_QUEUE_MESSAGES, 1, 2), 0, 0));
+    EXPECT(is_word(kernel_queue_word(image, CROWD_WORDS, KERNEL_QUEUE_READY, 0, 0, 0), 0, 0));
+    EXPECT(is_word(kernel_queue_word(image, CROWD_WORDS, KERNEL_QUEUE_INPUT, 1, 0, 0), 0, 66));
+    EXPECT(is_word(kernel_queue_word(image, CROWD_WORDS, KERNEL_QUEUE_OUTPUT, 1, 0, 0), 0, 68));
+    EXPECT(is_word(kernel_queue_word(image, CROWD_WORDS, KERNEL_QUEUE_MESSAGES, 0, 1, 0), 0, 700));
+    EXPECT(is_word(kernel_queue_word(image, CROWD_WORDS, KERNEL_QUEUE_MESSAGES, 0, 1, 1), 0, 800));
+    EXPECT(is_word(kernel_queue_word(image, CROWD_WORDS, KERNEL_QUEUE_MESSAGES, 1, 0, 0), 0, 65535));
+    EXPECT(guarded(CROWD_WORDS));
+}
+
+/* What is not there, and an image without its last word. */
+static void try_not_there(void)
+{
+    people();
+    EXPECT(no_task(kernel_task(image, CROWD_WORDS, 3), KERNEL_NOT_THERE));
+    EXPECT(is_port(kernel_port(image, CROWD_WORDS, 3), KERNEL_NOT_THERE, NONE, NONE));
+    EXPECT(is_word(kernel_register(image, CROWD_WORDS, 3, 0), KERNEL_NOT_THERE, NONE));
+    EXPECT(is_word(kernel_register(image, CROWD_WORDS, 0, KERNEL_REGISTERS), KERNEL_NOT_THERE, NONE));
+    EXPECT(is_word(kernel_queue_length(image, CROWD_WORDS, 4, 0, 0), KERNEL_NOT_THERE, NONE));
+    EXPECT(is_word(kernel_queue_length(image, CROWD_WORDS, KERNEL_QUEUE_READY, 1, 0), KERNEL_NOT_THERE, NONE));
+    EXPECT(is_word(kernel_queue_length(image, CROWD_WORDS, KERNEL_QUEUE_INPUT, 3, 0), KERNEL_NOT_THERE, NONE));
+    EXPECT(is_word(kernel_queue_length(image, CROWD_WORDS, KERNEL_QUEUE_OUTPUT, 0, 1), KERNEL_NOT_THERE, NONE));
+    EXPECT(is_word(kernel_queue_length(image, CROWD_WORDS, KERNEL_QUEUE_MESSAGES, 0, 3), KERNEL_NOT_THERE, NONE));
+    EXPECT(is_word(kernel_queue_word(image, CROWD_WORDS, KERNEL_QUEUE_INPUT, 1, 0, 2), KERNEL_NOT_THERE, NONE));
+    EXPECT(no_task(kernel_task(image, CROWD_WORDS - 1, 3), 5));
+    EXPECT(is_port(kernel_port(image, CROWD_WORDS - 1, 0), 5, NONE, NONE));
+    EXPECT(is_word(kernel_register(image, CROWD_WORDS - 1, 2, 7), 5, NONE));
+    EXPECT(is_word(kernel_queue_length(image, CROWD_WORDS - 1, KERNEL_QUEUE_READY, 0, 0), 5, NONE));
+    EXPECT(is_word(kernel_queue_word(image, CROWD_WORDS - 1, KERNEL_QUEUE_READY, 0, 0, 0), 5, NONE));
+    EXPECT(guarded(CROWD_WORDS));
+}
+
+/* A good image, a cut one, and a broken rule of a queue, of the clock and of a task, each before the last. */
+static void try_broken_rules(void)
+{
+    people();
+    EXPECT(no_rule(kernel_broken_rule(image, CROWD_WORDS), 0));
+    EXPECT(no_rule(kernel_broken_rule(image, CROWD_WORDS - 1), 5));
+    image[STATUS_TABLE + 3] = 1;
+    EXPECT(is_broken(kernel_broken_rule(image, CROWD_WORDS), KERNEL_RULE_PEERLESS, NONE, 1, NONE));
+    image[KERNEL_AT_CLOCK] = 6;
+    EXPECT(is_broken(kernel_broken_rule(image, CROWD_WORDS), KERNEL_RULE_CLOCK_RANGE, NONE, NONE, NONE));
+    image[FROM_1_TO_2] = 4;
+    EXPECT(is_broken(kernel_broken_rule(image, CROWD_WORDS), KERNEL_RULE_HEAD_TAIL, KERNEL_QUEUE_MESSAGES, 1, 2));
+    EXPECT(no_task(kernel_task(image, CROWD_WORDS, 0), KERNEL_REFUSED_RULE_BROKEN));
+    EXPECT(guarded(CROWD_WORDS));
+}
+
+static int same(const char *text, const char *other)
+{
+    return strcmp(text, other) == 0;
+}
+
+/* The first and the last text of each kind, and the values beside them. */
+static void try_words(void)
+{
+    EXPECT(same(kernel_number_text(KERNEL_NOT_REFUSED), "nothing is refused"));
+    EXPECT(same(kernel_number_text(1), "image under 18 words") && same(kernel_number_text(17), "unknown"));
+    EXPECT(same(kernel_number_text(16), "more words or bytes than there is room for"));
+    EXPECT(same(kernel_number_text(KERNEL_NOT_THERE), "not there"));
+    EXPECT(same(kernel_kind_text(0), "idle") && same(kernel_kind_text(9), "output done"));
+    EXPECT(same(kernel_kind_text(10), "unknown") && same(kernel_kind_text(KERNEL_NO_ANSWER), "unknown"));
+    EXPECT(same(kernel_status_text(0), "ready") && same(kernel_status_text(5), "stopped by error"));
+    EXPECT(same(kernel_error_text(0), "no error") && same(kernel_error_text(6), "output of more than 255"));
+    EXPECT(same(kernel_service_text(1), "send") && same(kernel_service_text(4), "output"));
+    EXPECT(same(kernel_rule_text(1), "cc, error or pending out of range") && same(kernel_rule_text(0), "unknown"));
+    EXPECT(same(kernel_rule_text(20), "a peer though it waits for no task") && same(kernel_rule_text(21), "unknown"));
+    EXPECT(same(kernel_status_text(6), "unknown") && same(kernel_error_text(7), "unknown"));
+    EXPECT(same(kernel_service_text(5), "unknown") && same(kernel_service_text(65535), "unknown"));
+}
+
 int main(void)
 {
     try_no_words();
@@ -196,5 +364,10 @@ int main(void)
     try_texts();
     try_no_prints();
     try_prints();
+    try_no_image();
+    try_looking();
+    try_not_there();
+    try_broken_rules();
+    try_words();
     return EXIT_SUCCESS;
 }
