@@ -1,5 +1,6 @@
-//! The functions of the archive, as `include/kernel.h` declares them, which says what each is lent and what comes back.
-//! A pointer must lead to as many words, or bytes, as the length beside it says, to none where that is 0.
+//! The functions of the archive themselves, in numbers and pointers. The crate's own calls say what each does; they are
+//! safe, and are what a program wants. A pointer must lead to as many words, or bytes, as the length beside it says, to
+//! none where that is 0, and nobody else may write them during the call, nor read what is lent for writing.
 
 /// How many words a plan's image has.
 #[repr(C)]

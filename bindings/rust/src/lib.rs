@@ -10,7 +10,7 @@
 //!   that a device has put its character out. [`event`] takes one and [`run`] a list of them.
 //! - [`task`], [`port`], [`register`], [`queue_length`] and [`queue_word`] look into an image, and [`broken_rule`]
 //!   says why one is refused with [`Refusal::RuleBroken`].
-//! - A *script* is a program as text, in one order a line. [`translate`] gives its words, [`print()`] gives the text
+//! - A *script* is a program as text, one order a line. [`translate`] gives its words, [`print()`] gives the text
 //!   back.
 //!
 //! docs/MACHINE.md in the repository says what each order, service and word of an image means, and docs/GRAMMAR.md how
@@ -20,6 +20,13 @@
 //! or it refuses, says why with a [`Refusal`], and changes no word and no byte. No call allocates, keeps a reference
 //! or remembers earlier calls. [`translate`] and [`refused_line`] take at most 256 KiB of the stack, every other call
 //! 4 KiB.
+//!
+//! Where a program is killed in the middle of [`build`], [`event`] or [`run`], the image may hold a part of the change,
+//! and may pass the check all the same. Keep the last image that was saved whole and the events since: they give the
+//! same image again.
+//!
+//! The enums may get more cases, so a `match` on one needs a last arm `_`. An image carries its edition, [`EDITION`]
+//! today; one of an edition that is not known is [`Refusal::NotMarked`].
 //!
 //! # Example
 //!
