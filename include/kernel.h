@@ -47,23 +47,23 @@ extern "C" {
 #define KERNEL_EDITION 1
 
 /* The numbers that come back. kernel_number_text says each in words. */
-#define KERNEL_NOT_REFUSED 0                /* nothing is refused */
-#define KERNEL_REFUSED_TOO_SHORT 1          /* an image of under 18 words */
-#define KERNEL_REFUSED_NOT_MARKED 2         /* its mark or edition is wrong */
-#define KERNEL_REFUSED_OUT_OF_RANGE 3       /* the number of tasks, the slice or a capacity, of an image or a plan */
-#define KERNEL_REFUSED_NOT_PACKED 4         /* an offset is not the packed one */
-#define KERNEL_REFUSED_WRONG_SEGMENTS 5     /* a segment or the total is wrong, or the image has another length */
-#define KERNEL_REFUSED_RULE_BROKEN 6        /* another rule of the image is broken: kernel_broken_rule says which */
-#define KERNEL_REFUSED_MALFORMED_EVENT 7    /* also a list of events that is not a multiple of three words */
-#define KERNEL_REFUSED_INPUT_FULL 8         /* input for a full input buffer */
-#define KERNEL_REFUSED_PORT_IDLE 9          /* output done on an idle port */
-#define KERNEL_REFUSED_READY_FULL 10        /* a wake finds the ready queue full */
-#define KERNEL_REFUSED_BAD_PLAN 11          /* the plan is malformed, or its image would have over 32768 words */
-#define KERNEL_REFUSED_WRONG_TARGET 12      /* the target has another length than the plan's image */
-#define KERNEL_REFUSED_OUTSIDE_GRAMMAR 13   /* a line, or one that gives a name or label more than KERNEL_MOST_NAMES */
-#define KERNEL_REFUSED_NAME_FAULT 14        /* a name or label is given twice, or one that is used is not given */
+#define KERNEL_NOT_REFUSED 0                 /* nothing is refused */
+#define KERNEL_REFUSED_TOO_SHORT 1           /* an image of under 18 words */
+#define KERNEL_REFUSED_NOT_MARKED 2          /* its mark or edition is wrong */
+#define KERNEL_REFUSED_OUT_OF_RANGE 3        /* the number of tasks, the slice or a capacity, of an image or a plan */
+#define KERNEL_REFUSED_NOT_PACKED 4          /* an offset is not the packed one */
+#define KERNEL_REFUSED_WRONG_SEGMENTS 5      /* a segment or the total is wrong, or the image has another length */
+#define KERNEL_REFUSED_RULE_BROKEN 6         /* another rule of the image is broken: kernel_broken_rule says which */
+#define KERNEL_REFUSED_MALFORMED_EVENT 7     /* also a list of events that is not a multiple of three words */
+#define KERNEL_REFUSED_INPUT_FULL 8          /* input for a full input buffer */
+#define KERNEL_REFUSED_PORT_IDLE 9           /* output done on an idle port */
+#define KERNEL_REFUSED_READY_FULL 10         /* a wake finds the ready queue full */
+#define KERNEL_REFUSED_BAD_PLAN 11           /* the plan is malformed, or its image would have over 32768 words */
+#define KERNEL_REFUSED_WRONG_TARGET 12       /* the target has another length than the plan's image */
+#define KERNEL_REFUSED_OUTSIDE_GRAMMAR 13    /* a line is, or gives one name or label over KERNEL_MOST_NAMES */
+#define KERNEL_REFUSED_NAME_FAULT 14         /* a name or label is given twice, or one that is used is not given */
 #define KERNEL_REFUSED_VALUE_OUT_OF_RANGE 15 /* a value in a text */
-#define KERNEL_REFUSED_NO_ROOM 16           /* a script of more words than the target; a list or its text too long */
+#define KERNEL_REFUSED_NO_ROOM 16            /* a script of more words than the target; a list or its text too long */
 
 /* The number where the task, device, register, queue or place asked for is not there; and what the other fields of
    a look into an image hold where its number is not 0. 0 is a good value of each of them and never means none. */
