@@ -12,15 +12,21 @@ pub fn check(words: &[u16]) -> u16 {
 
 /// The kernel that a good image stands for, or the number that refuses it.
 pub fn accept(words: &[u16]) -> Result<Kernel, u16> {
+    let layout = lay_out(words)?;
+    let kernel = Kernel::decode(words, &layout).ok_or(numbers::OTHER_RULE)?;
+    require(rules::hold(&kernel), numbers::OTHER_RULE)?;
+    Ok(kernel)
+}
+
+/// Where the parts of an image stand, or the number, 1 to 5, that refuses it.
+pub fn lay_out(words: &[u16]) -> Result<Layout, u16> {
     require(words.len() >= HEADER_WORDS, numbers::UNDER_HEADER)?;
     require(words[..2] == [MARK, EDITION], numbers::MARK_OR_EDITION)?;
     let frame = Frame::read(&words[2..7]).ok_or(numbers::OUT_OF_RANGE)?;
     let layout = Layout::new(frame);
     require(words[7..16] == layout.offsets(), numbers::OFFSET)?;
     require(segments_fill_the_image(words, &layout), numbers::SEGMENT_OR_TOTAL)?;
-    let kernel = Kernel::decode(words, &layout).ok_or(numbers::OTHER_RULE)?;
-    require(rules::hold(&kernel), numbers::OTHER_RULE)?;
-    Ok(kernel)
+    Ok(layout)
 }
 
 /// Whether the segments stand packed from the first one's offset to T, and

@@ -6,6 +6,7 @@
 
 #![forbid(unsafe_code)]
 
+pub mod breaches;
 pub mod building;
 pub mod cases;
 pub mod changes;
@@ -34,4 +35,6 @@ pub mod runs;
 pub mod texts;
 pub mod translate;
 pub mod vectors;
+pub mod views;
+pub mod which;
 pub mod wrong;

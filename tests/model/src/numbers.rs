@@ -35,6 +35,8 @@ pub const NAME: u16 = 14;
 pub const VALUE: u16 = 15;
 /// A script gives more words than its target has.
 pub const ROOM: u16 = 16;
+/// The task, device, register, queue or place that is looked for is not there.
+pub const NOT_THERE: u16 = 65535;
 
 /// Gives the number where the condition does not hold.
 pub fn require(holds: bool, number: u16) -> Result<(), u16> {
