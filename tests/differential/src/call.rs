@@ -1,5 +1,7 @@
 //! The calls of the library, and what comes back from them.
 
+use model::looking::{Look, Seen};
+
 /// One call, with the words and the bytes that it is lent. A round trip is two: the words are printed to the text, and the
 /// printed text is translated to the target.
 pub enum Call {
@@ -13,6 +15,7 @@ pub enum Call {
     Print { words: Vec<u16>, text: Vec<u8> },
     PrintSize { words: Vec<u16> },
     RoundTrip { words: Vec<u16>, text: Vec<u8>, target: Vec<u16> },
+    Look { image: Vec<u16>, look: Look },
 }
 
 /// What a call answers.
@@ -28,10 +31,11 @@ pub enum Answer {
     Print { number: u16, bytes: u64 },
     PrintSize { number: u16, bytes: u64 },
     RoundTrip { printed: u64, number: u16, words: u64 },
+    Look(Seen),
 }
 
 /// The names of the calls, in the order of their cases.
-pub const NAMES: [&str; 10] = [
+pub const NAMES: [&str; 16] = [
     "kernel_check",
     "kernel_size",
     "kernel_build",
@@ -42,7 +46,16 @@ pub const NAMES: [&str; 10] = [
     "kernel_print",
     "kernel_print_size",
     "kernel_print and kernel_translate",
+    "kernel_task",
+    "kernel_port",
+    "kernel_register",
+    "kernel_queue_length",
+    "kernel_queue_word",
+    "kernel_broken_rule",
 ];
+
+/// The place among the names of the first call that looks into an image.
+pub const LOOKS: usize = 10;
 
 /// The most bytes of a text, or words of a list, that are shown.
 const MOST_SHOWN: usize = 500;
@@ -54,7 +67,7 @@ impl Call {
     /// Each buffer of words that the call is lent, with its words before the call.
     pub fn buffers(&self) -> Vec<Buffer<'_, u16>> {
         match self {
-            Call::Check { image } | Call::Event { image, .. } => vec![("image", image)],
+            Call::Check { image } | Call::Event { image, .. } | Call::Look { image, .. } => vec![("image", image)],
             Call::Size { plan } => vec![("plan", plan)],
             Call::Build { plan, target } => vec![("plan", plan), ("target", target)],
             Call::Run { image, events } => vec![("image", image), ("events", events)],
@@ -80,6 +93,7 @@ impl Call {
     pub fn title(&self) -> String {
         let own = match self {
             Call::Event { event, .. } => format!(", event {event:?}"),
+            Call::Look { look, .. } => format!(", {look:?}"),
             Call::RefusedLine { room, .. } => format!(", room of {room} words"),
             Call::Print { words, .. } | Call::PrintSize { words } | Call::RoundTrip { words, .. } => {
                 format!(", list {:?}", &words[..words.len().min(MOST_SHOWN)])
@@ -109,6 +123,7 @@ impl Call {
             Call::Print { .. } => 7,
             Call::PrintSize { .. } => 8,
             Call::RoundTrip { .. } => 9,
+            Call::Look { look, .. } => LOOKS + look.call(),
         }
     }
 }

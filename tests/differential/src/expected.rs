@@ -56,6 +56,10 @@ pub fn outcome(call: &Call) -> Outcome {
             Outcome::new(number, answer, vec![words.clone()])
         }
         Call::RoundTrip { words, text, target } => round_trip(words, text, target),
+        Call::Look { image, look } => {
+            let seen = look.into(image);
+            Outcome::new(seen.number, Answer::Look(seen), vec![image.clone()])
+        }
     }
 }
 

@@ -1,7 +1,8 @@
-//! The calls of the C library itself, as the Rust package declares them.
+//! The calls of the C library itself, as the Rust package declares them, and those that look as `looks` does.
 
 use crate::call::{Answer, Call};
 use crate::lent::{Lent, Rooms};
+use crate::looks;
 use kernel::c::{self, Line, Printed, Ran, Size, Told, Translated};
 use model::numbers::GOOD;
 
@@ -21,6 +22,7 @@ pub fn answer(call: &Call, lent: &mut Rooms) -> Answer {
         }
         (Call::PrintSize { .. }, [words], []) => print_size(words),
         (Call::RoundTrip { .. }, [words, target], [text]) => round_trip(words, text, target),
+        (Call::Look { look, .. }, [image], []) => Answer::Look(looks::seen(*look, image)),
         _ => unreachable!("a call has the buffers of its own"),
     }
 }

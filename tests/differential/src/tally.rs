@@ -1,25 +1,45 @@
-//! How many cases of each call, each number and each kind of answer were compared.
+//! How many cases of each call, each number, each kind of answer and each broken rule were compared.
 
-use crate::call::{Answer, Call, NAMES};
+use crate::call::{Answer, Call, LOOKS, NAMES};
 use crate::expected::Outcome;
+use model::looking::{Seen, RULES};
+use model::numbers::{NOT_THERE, OTHER_RULE};
+use std::collections::BTreeMap;
 
 /// The numbers that must occur. 10 is not among them: on a good image no wake finds the ready queue full.
-const NUMBERS: [u16; 16] = [0, 1, 2, 3, 4, 5, 6, 7, 8, 9, 11, 12, 13, 14, 15, 16];
-/// The calls on texts by their places among the names, each with the numbers that must occur in it.
-const OF_TEXTS: [(usize, &[u16]); 5] =
-    [(5, &TEXT_NUMBERS), (6, &TEXT_NUMBERS), (7, &PRINT_NUMBERS), (8, &PRINT_NUMBERS), (9, &[0])];
+const NUMBERS: [u16; 17] = [0, 1, 2, 3, 4, 5, 6, 7, 8, 9, 11, 12, 13, 14, 15, 16, NOT_THERE];
+/// Calls by their places among the names, each with the numbers that must occur in it.
+const OF_CALLS: [(usize, &[u16]); 11] = [
+    (5, &TEXT_NUMBERS),
+    (6, &TEXT_NUMBERS),
+    (7, &PRINT_NUMBERS),
+    (8, &PRINT_NUMBERS),
+    (9, &[0]),
+    (LOOKS, &LOOK_NUMBERS),
+    (LOOKS + 1, &LOOK_NUMBERS),
+    (LOOKS + 2, &LOOK_NUMBERS),
+    (LOOKS + 3, &LOOK_NUMBERS),
+    (LOOKS + 4, &LOOK_NUMBERS),
+    (BROKEN, &BROKEN_NUMBERS),
+];
 const TEXT_NUMBERS: [u16; 5] = [0, 13, 14, 15, 16];
 const PRINT_NUMBERS: [u16; 2] = [0, 16];
+const LOOK_NUMBERS: [u16; 8] = [0, 1, 2, 3, 4, 5, 6, NOT_THERE];
+const BROKEN_NUMBERS: [u16; 7] = [0, 1, 2, 3, 4, 5, 6];
+/// The place among the names of the call that tells the first broken rule.
+const BROKEN: usize = LOOKS + 5;
 /// The kinds of answer, all of which must occur.
 const KINDS: [u16; 10] = [0, 1, 2, 3, 4, 5, 6, 7, 8, 9];
 
 /// The counts of what was compared.
 #[derive(Default)]
 pub struct Tally {
-    /// Of each call the cases of each number, 0 to 16.
-    numbers: [[usize; 17]; NAMES.len()],
+    /// Of each call the cases of each number.
+    numbers: [BTreeMap<u16, usize>; NAMES.len()],
     /// The accepted events of each kind of answer.
     kinds: [usize; KINDS.len()],
+    /// The images of each first broken rule.
+    rules: BTreeMap<u16, usize>,
     /// The events that the runs took.
     taken: u64,
     /// The words of all buffers, and the bytes of all texts.
@@ -30,12 +50,15 @@ pub struct Tally {
 impl Tally {
     /// Counts a call with what the model says of it.
     pub fn count(&mut self, call: &Call, outcome: &Outcome) {
-        self.numbers[call.place()][usize::from(outcome.number)] += 1;
+        *self.numbers[call.place()].entry(outcome.number).or_insert(0) += 1;
         self.words += call.buffers().iter().map(|(_, words)| words.len()).sum::<usize>();
         self.bytes += call.texts().iter().map(|(_, bytes)| bytes.len()).sum::<usize>();
         match outcome.answer {
             Answer::Event { number: 0, kind, .. } => self.kinds[usize::from(kind)] += 1,
             Answer::Run { taken, .. } => self.taken += taken,
+            Answer::Look(Seen { number: OTHER_RULE, fields }) if call.place() == BROKEN => {
+                *self.rules.entry(fields[0]).or_insert(0) += 1
+            }
             _ => {}
         }
     }
@@ -43,11 +66,11 @@ impl Tally {
     /// Prints the counts.
     pub fn print(&self) {
         for (name, numbers) in NAMES.iter().zip(&self.numbers) {
-            let occurred = (0..).zip(numbers.iter().copied()).filter(|(_, cases)| *cases > 0);
-            print_line(name, "number", occurred);
+            print_line(name, "number", numbers.clone());
         }
         print_line("all calls", "number", NUMBERS.map(|number| (number, self.of_number(number))));
         print_line("accepted events", "kind", KINDS.into_iter().zip(self.kinds));
+        print_line("images that break a rule", "rule", self.rules.clone());
         let Tally { taken, words, bytes, .. } = self;
         println!("{taken} events taken by runs, {words} words and {bytes} bytes lent");
     }
@@ -58,19 +81,21 @@ impl Tally {
         let kind = KINDS.into_iter().find(|&kind| self.kinds[usize::from(kind)] == 0);
         let number = number.map(|number| format!("number {number} did not occur"));
         let kind = kind.map(|kind| format!("kind {kind} did not occur"));
-        number.or(kind).or(self.missing_of_texts())
+        let rule = (1..=RULES).find(|rule| !self.rules.contains_key(rule));
+        let rule = rule.map(|rule| format!("rule {rule} was never the first that is broken"));
+        number.or(kind).or(rule).or(self.missing_of_a_call())
     }
 
-    /// The call on texts and its number that did not occur, if there is one.
-    fn missing_of_texts(&self) -> Option<String> {
-        let mut pairs = OF_TEXTS.into_iter().flat_map(|(call, numbers)| numbers.iter().map(move |&n| (call, n)));
-        let (call, number) = pairs.find(|&(call, n)| self.numbers[call][usize::from(n)] == 0)?;
+    /// The call and its number that did not occur, if there is one.
+    fn missing_of_a_call(&self) -> Option<String> {
+        let mut pairs = OF_CALLS.into_iter().flat_map(|(call, numbers)| numbers.iter().map(move |&n| (call, n)));
+        let (call, number) = pairs.find(|&(call, n)| !self.numbers[call].contains_key(&n))?;
         Some(format!("{}: number {number} did not occur", NAMES[call]))
     }
 
     /// The cases of a number, over all calls.
     fn of_number(&self, number: u16) -> usize {
-        self.numbers.iter().map(|numbers| numbers[usize::from(number)]).sum()
+        self.numbers.iter().filter_map(|numbers| numbers.get(&number)).sum()
     }
 }
 

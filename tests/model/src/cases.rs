@@ -47,7 +47,7 @@ pub fn collect(seed: u64, count: usize) -> Vec<Case> {
         lists.extend(family(&mut rng, &kernel, &damages));
     }
     for damage in &damages {
-        lists.extend([named(&mut rng, damage), named(&mut rng, damage)]);
+        lists.extend([damage.applied(&mut rng), damage.applied(&mut rng)]);
     }
     lists.extend((0..count.div_ceil(8)).map(|_| good::fresh(&mut rng).encode()));
     for degree in junk::DEGREES {
@@ -69,16 +69,6 @@ pub fn family(rng: &mut Rng, kernel: &Kernel, damages: &[Damage]) -> Vec<Vec<u16
         damage::guess(rng, kernel),
         damage::guess(rng, kernel),
     ]
-}
-
-/// A named damage on the first good image to which it applies.
-fn named(rng: &mut Rng, damage: &Damage) -> Vec<u16> {
-    loop {
-        let kernel = good::kernel(rng);
-        if let Some(words) = damage.apply(rng, &kernel) {
-            return words;
-        }
-    }
 }
 
 /// Images at the largest T, one word past it, and with the largest tables.

@@ -20,6 +20,7 @@ pub mod junk;
 pub mod layout;
 pub mod lists;
 pub mod lively;
+pub mod looking;
 pub mod numbers;
 pub mod ordering;
 pub mod orders;

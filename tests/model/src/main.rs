@@ -5,14 +5,15 @@
 use model::events::Answer;
 use model::happening::many::{self, Sights};
 use model::rng::Rng;
-use model::{building, cases, happening, lists, ordering, runner_files, running, texts, vectors, wrong};
+use model::{building, cases, happening, lists, looking, ordering, runner_files, running, texts, vectors, wrong};
 use std::fs::{self, File};
 use std::io::{BufWriter, Write};
 use std::path::Path;
 use std::process::ExitCode;
 
 const USAGE: &str = "usage: model check-vectors|build-vectors|order-vectors|event-vectors|\
-                     run-vectors|text-vectors|print-vectors|many-events SEED COUNT FILE\n       model runner-cases FOLDER";
+                     run-vectors|text-vectors|print-vectors|look-vectors|broken-vectors|\
+                     many-events SEED COUNT FILE\n       model runner-cases FOLDER";
 
 /// The numbers that an event in a file can have. 10 is not among them: on a
 /// good image no wake finds the ready queue full.
@@ -23,6 +24,9 @@ const RUN_NUMBERS: [u16; 10] = [0, 1, 2, 3, 4, 5, 6, 7, 8, 9];
 const TEXT_NUMBERS: [u16; 5] = [0, 13, 14, 15, 16];
 /// The numbers that a print can have.
 const PRINT_NUMBERS: [u16; 2] = [0, 16];
+/// The numbers that a look can have, and those of the first broken rule.
+const LOOK_NUMBERS: [u16; 8] = [0, 1, 2, 3, 4, 5, 6, 65535];
+const BROKEN_NUMBERS: [u16; 7] = [0, 1, 2, 3, 4, 5, 6];
 /// The kinds of answer.
 const ANSWER_KINDS: [u16; 10] = [0, 1, 2, 3, 4, 5, 6, 7, 8, 9];
 
@@ -69,6 +73,8 @@ fn make_file(command: &str, seed: u64, count: usize, file: &str) -> Result<(), S
         "run-vectors" => run_vectors(seed, count, file),
         "text-vectors" => text_vectors(seed, count, file),
         "print-vectors" => print_vectors(seed, count, file),
+        "look-vectors" => look_vectors(seed, count, file),
+        "broken-vectors" => broken_vectors(seed, count, file),
         "many-events" => many_events(seed, count, file),
         _ => Err(USAGE.into()),
     }
@@ -147,6 +153,34 @@ fn print_vectors(seed: u64, count: usize, file: &str) -> Result<(), String> {
     report("number", &numbers);
     total(cases.len());
     require_each("number", &numbers, SOME)
+}
+
+/// Writes the vectors of looks and prints how many there are of each number;
+/// fails where there are too few of one.
+fn look_vectors(seed: u64, count: usize, file: &str) -> Result<(), String> {
+    let groups = looking::collect(seed, count);
+    write(file, &groups, vectors::look_records, &wrong::looks())?;
+    let cases = groups.iter().flat_map(|group| &group.cases);
+    let numbers = tally(&LOOK_NUMBERS, cases.clone().map(|case| (case.seen.number, 1)));
+    report("number", &numbers);
+    total(cases.count());
+    require_each("number", &numbers, SOME)
+}
+
+/// Writes the vectors of broken rules and prints how many there are of each
+/// number and of each rule; fails where there is none of one.
+fn broken_vectors(seed: u64, count: usize, file: &str) -> Result<(), String> {
+    let groups = looking::collect_broken(seed, count);
+    write(file, &groups, vectors::look_records, &wrong::broken())?;
+    let seen = groups.iter().flat_map(|group| &group.cases).map(|case| case.seen);
+    let numbers = tally(&BROKEN_NUMBERS, seen.clone().map(|seen| (seen.number, 1)));
+    let all: Vec<u16> = (1..=looking::RULES).collect();
+    let rules = tally(&all, seen.clone().map(|seen| (seen.fields[0], 1)));
+    report("number", &numbers);
+    report("rule", &rules);
+    total(seen.count());
+    require_each("number", &numbers, 1)?;
+    require_each("rule", &rules, 1)
 }
 
 /// Writes at least `count` random events and prints how many there are of each

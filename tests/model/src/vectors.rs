@@ -113,10 +113,20 @@
 //!
 //! What is stored of a list or of a text is all of it, or a first part that
 //! gives all of it when it is repeated.
+//!
+//! A record of kind 9, a look into the image that stands, which may be bad:
+//!
+//! | word of a record | holds |
+//! |---|---|
+//! | 0 | kind of the record, 9 |
+//! | 1 | expected number: 0 to 6, or 65535 |
+//! | 2, 3 | the call: 0 task, 1 port, 2 register, 3 length and 4 word of a queue, 5 broken rule |
+//! | 4..7 | what it is asked with, in the call's order, then 0 |
+//! | 8..12 | the expected fields beside the number, in the call's order, then 0 |
 
 use crate::changes::Change;
 use crate::layout::word;
-use crate::{building, cases, happening, lists, numbers, ordering, running, texts};
+use crate::{building, cases, happening, lists, looking, numbers, ordering, running, texts};
 
 /// The kind of record that holds a list of words and the check's number.
 pub const CHECK: u16 = 1;
@@ -134,6 +144,8 @@ pub const RUN: u16 = 6;
 pub const TEXT: u16 = 7;
 /// The kind of record that holds a list and what it is printed to.
 pub const PRINT: u16 = 8;
+/// The kind of record that holds a look into an image and what it gives.
+pub const LOOK: u16 = 9;
 
 /// Added to the kind of a record that is wrong on purpose.
 const WRONG: u16 = 256;
@@ -215,6 +227,13 @@ pub fn run_records(course: &running::Course) -> Vec<u16> {
     words
 }
 
+/// The words of a record of kind 3 and of its records of kind 9.
+pub fn look_records(group: &looking::Group) -> Vec<u16> {
+    let mut words = image_record(&group.image);
+    words.extend(group.cases.iter().flat_map(look_record));
+    words
+}
+
 /// The words of a record of kind 3.
 fn image_record(image: &[u16]) -> Vec<u16> {
     let mut words = vec![IMAGE, 0];
@@ -275,6 +294,15 @@ pub fn print_record(case: &lists::Case) -> Vec<u16> {
     words.extend([case.needed, case.text.len(), text.len()].map(count).concat());
     words.extend(list);
     words.extend(packed(text));
+    words
+}
+
+/// The words of a record of kind 9.
+pub fn look_record(case: &looking::Case) -> Vec<u16> {
+    let mut words = vec![LOOK, case.seen.number];
+    words.extend(count(case.look.call()));
+    words.extend(case.look.asked());
+    words.extend(case.seen.fields);
     words
 }
 
@@ -466,5 +494,17 @@ mod tests {
         assert_eq!(repeated_part(&[5, 5, 5]), [5]);
         assert_eq!(repeated_part(&[5, 5, 6]), [5, 5, 6]);
         assert_eq!(repeated_part(&[5, 6, 5]), [5, 6]);
+    }
+
+    #[test]
+    fn the_looks_of_an_image_follow_it() {
+        let looks = vec![looking::Look::QueueWord { queue: 3, i: 1, j: 65535, at: 9 }, looking::Look::BrokenRule];
+        let words = look_records(&looking::Group::judged(vec![50, 60], looks));
+        let by_hand: [&[u16]; 3] = [
+            &[3, 0, 2, 0, 50, 60],
+            &[9, 1, 4, 0, 3, 1, 65535, 9, 65535, 0, 0, 0, 0],
+            &[9, 1, 5, 0, 0, 0, 0, 0, 65535, 65535, 65535, 65535, 0],
+        ];
+        assert_eq!(words, by_hand.concat());
     }
 }

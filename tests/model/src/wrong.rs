@@ -5,6 +5,7 @@ use crate::changes::Change;
 use crate::events::Answer;
 use crate::happening::scene::Scene;
 use crate::image::Kernel;
+use crate::looking::{self, Look};
 use crate::numbers;
 use crate::printing::MOST_WORDS;
 use crate::translate::SCRIPT;
@@ -262,6 +263,52 @@ pub fn prints() -> Vec<Vec<u16>> {
     wrong.iter().flatten().map(|case| marked(vectors::print_record(case))).collect()
 }
 
+/// Looks at what is there in the paper's image and at what is not, and how many
+/// fields each gives.
+const LOOKS: [(Look, usize); 10] = [
+    (Look::Task { task: 0 }, 5),
+    (Look::Task { task: 1 }, 5),
+    (Look::Port { device: 0 }, 2),
+    (Look::Port { device: 1 }, 2),
+    (Look::Register { task: 0, register: 1 }, 1),
+    (Look::Register { task: 0, register: 8 }, 1),
+    (Look::QueueLength { queue: 0, i: 0, j: 0 }, 1),
+    (Look::QueueLength { queue: 4, i: 0, j: 0 }, 1),
+    (Look::QueueWord { queue: 0, i: 0, j: 0, at: 0 }, 1),
+    (Look::QueueWord { queue: 0, i: 0, j: 0, at: 1 }, 1),
+];
+const RULE_FIELDS: usize = 4;
+
+/// The records of looks that tell no rule, each after its image: the number and
+/// each field, of what is there, of what is not, and of a bad image.
+pub fn looks() -> Vec<Vec<u16>> {
+    let there = LOOKS.map(|(look, fields)| each_field(&papers().encode(), look, fields));
+    let bad = LOOKS.map(|(look, fields)| each_field(&[], look, fields));
+    [there, bad].concat().concat()
+}
+
+/// The records of broken rules, each after its image: the number and each field
+/// of a good image, of one that is refused before its rules, and of rules of a
+/// task, of a queue and of the clock.
+pub fn broken() -> Vec<Vec<u16>> {
+    let changed = |place: usize, word: u16| {
+        let mut image = Scene::of(2).kernel().encode();
+        image[place] = word;
+        image
+    };
+    // The last three: cc of task 1, the capacity from task 1 to task 0, the clock.
+    let images = [papers().encode(), vec![], changed(35, 3), changed(85, 1), changed(17, 6)];
+    images.map(|image| each_field(&image, Look::BrokenRule, RULE_FIELDS)).concat()
+}
+
+/// A look into an image with its number and each of its fields said otherwise.
+fn each_field(image: &[u16], look: Look, fields: usize) -> Vec<Vec<u16>> {
+    let right = looking::Case { look, seen: look.into(image) };
+    let mut wrong = vec![slipped(&right, |case| case.seen.number ^= 1)];
+    wrong.extend((0..fields).map(|field| slipped(&right, |case| case.seen.fields[field] ^= 1)));
+    wrong.iter().map(|case| vectors::after_image(image, marked(vectors::look_record(case)))).collect()
+}
+
 #[cfg(test)]
 mod tests {
     use super::*;
@@ -274,6 +321,9 @@ mod tests {
         }
         for (kind, records) in [(4, orders()), (5, events())] {
             assert!(records.iter().all(|words| (words[0], words[4 + image]) == (3, 256 + kind)));
+        }
+        for records in [looks(), broken()] {
+            assert!(records.iter().all(|words| (words[0], words[4 + usize::from(words[2])]) == (3, 256 + 9)));
         }
         assert!(runs().iter().all(|words| (words[0], words[4 + usize::from(words[2])]) == (3, 256 + 6)));
     }

@@ -1,6 +1,7 @@
 //! The random calls of a seed, in a mix.
 
 mod images;
+mod looks;
 mod plans;
 mod prints;
 mod texts;
@@ -15,6 +16,7 @@ use model::good;
 use model::happening::{self, many};
 use model::image::Kernel;
 use model::junk;
+use model::looking::Damages;
 use model::numbers;
 use model::rng::Rng;
 use model::running;
@@ -22,7 +24,7 @@ use model::runs::run;
 use model::texts::faults as text_faults;
 
 /// Of so many batches one is near the largest image; each other kind of call has more of them.
-const BATCHES: usize = 130;
+const BATCHES: usize = 150;
 
 /// The most events, or runs, that follow one another from an image.
 const MOST_STEPS: usize = 20;
@@ -35,6 +37,8 @@ const FEW_EVENTS: usize = 8;
 pub struct Source {
     rng: Rng,
     damages: Vec<Damage>,
+    /// The damages that give number 6.
+    of_rules: Damages,
     faults: Vec<Fault>,
     /// The faults that give number 11.
     of_plan: Vec<Fault>,
@@ -61,6 +65,7 @@ impl Source {
         Source {
             rng: Rng::new(seed),
             damages: damage::all(),
+            of_rules: Damages::new(),
             faults: faults::all(),
             of_plan: faults::of_number(numbers::PLAN),
             text_faults: text_faults::all(),
@@ -80,7 +85,9 @@ impl Source {
             75..=94 => runs(&mut self.rng),
             95..=99 => self.runs_on_any(),
             100..=119 => texts::calls(&mut self.rng, &self.text_faults, &self.later_faults),
-            _ => prints::calls(&mut self.rng),
+            120..=129 => prints::calls(&mut self.rng),
+            130..=139 => looks::calls(&mut self.rng, &self.damages),
+            _ => looks::broken(&mut self.rng, &self.of_rules),
         }
     }
 
@@ -117,6 +124,7 @@ impl Source {
         for image in images {
             calls.push(Call::Event { image: image.clone(), event: event(rng, &kernel) });
             calls.push(short_run(rng, &kernel, image.clone()));
+            calls.extend(looks::into(rng, &kernel, &image));
             calls.push(Call::Check { image });
         }
         calls

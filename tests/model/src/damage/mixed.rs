@@ -3,7 +3,7 @@
 use super::{any, Damage};
 use crate::good;
 use crate::image::{Flags, Kernel};
-use crate::layout::word;
+use crate::layout::{word, CLOCK};
 use crate::rng::Rng;
 
 /// The image with two or three damages, so that the lowest number must win.
@@ -12,6 +12,30 @@ pub fn several(rng: &mut Rng, kernel: &Kernel, damages: &[Damage]) -> Vec<u16> {
     let mut words = good.clone();
     for _ in 0..rng.between(2, 3) {
         overlay(&mut words, &good, &any(rng, kernel, damages));
+    }
+    words
+}
+
+/// A good image with one damage two or three times, most often to another task
+/// or queue each time, so that the first of them must win.
+pub fn repeated(rng: &mut Rng, damage: &Damage) -> Vec<u16> {
+    let (kernel, mut words) = damage.on_some_kernel(rng);
+    let good = kernel.encode();
+    for _ in 0..rng.between(1, 2) {
+        if let Some(damaged) = damage.apply(rng, &kernel) {
+            overlay(&mut words, &good, &damaged);
+        }
+    }
+    words
+}
+
+/// The image with two to five words before the segments changed.
+pub fn scattered(rng: &mut Rng, kernel: &Kernel) -> Vec<u16> {
+    let mut words = kernel.encode();
+    let layout = kernel.layout();
+    for _ in 0..rng.between(2, 5) {
+        let place = rng.between(CLOCK, layout.segment_table - 1);
+        words[place] = rng.changed(words[place], 6);
     }
     words
 }

@@ -9,10 +9,11 @@ mod segments;
 mod tasks;
 
 pub use header::sweep;
-pub use mixed::{guess, noise, several};
+pub use mixed::{guess, noise, repeated, scattered, several};
 pub use segments::{every_cut, fit_only_mod_65536, lengthened, total_over_the_largest};
 
 use crate::check::check;
+use crate::good;
 use crate::image::{Kernel, Task};
 use crate::rng::Rng;
 
@@ -48,6 +49,21 @@ impl Damage {
         let words = (self.make)(rng, kernel)?;
         assert_eq!(check(&words), self.expected, "damage \"{}\" of {words:?}", self.name);
         Some(words)
+    }
+
+    /// The first random good kernel to which it applies, and the damaged words.
+    fn on_some_kernel(&self, rng: &mut Rng) -> (Kernel, Vec<u16>) {
+        loop {
+            let kernel = good::kernel(rng);
+            if let Some(words) = self.apply(rng, &kernel) {
+                return (kernel, words);
+            }
+        }
+    }
+
+    /// The damaged words of some good kernel.
+    pub fn applied(&self, rng: &mut Rng) -> Vec<u16> {
+        self.on_some_kernel(rng).1
     }
 }
 
@@ -105,7 +121,6 @@ fn choose(rng: &mut Rng, kernel: &Kernel, fits: impl Fn(&Task) -> bool) -> Optio
 #[cfg(test)]
 mod tests {
     use super::*;
-    use crate::good;
 
     #[test]
     fn every_damage_applies_to_some_image_and_gives_its_number() {
