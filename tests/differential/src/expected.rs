@@ -57,7 +57,7 @@ pub fn outcome(call: &Call) -> Outcome {
         }
         Call::RoundTrip { words, text, target } => round_trip(words, text, target),
         Call::Look { image, look } => {
-            let seen = look.into(image);
+            let seen = look.seen_in(image);
             Outcome::new(seen.number, Answer::Look(seen), vec![image.clone()])
         }
     }

@@ -303,7 +303,7 @@ pub fn broken() -> Vec<Vec<u16>> {
 
 /// A look into an image with its number and each of its fields said otherwise.
 fn each_field(image: &[u16], look: Look, fields: usize) -> Vec<Vec<u16>> {
-    let right = looking::Case { look, seen: look.into(image) };
+    let right = looking::Case { look, seen: look.seen_in(image) };
     let mut wrong = vec![slipped(&right, |case| case.seen.number ^= 1)];
     wrong.extend((0..fields).map(|field| slipped(&right, |case| case.seen.fields[field] ^= 1)));
     wrong.iter().map(|case| vectors::after_image(image, marked(vectors::look_record(case)))).collect()

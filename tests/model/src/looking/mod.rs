@@ -61,7 +61,7 @@ pub struct Group {
 
 impl Look {
     /// What the look gives by the model.
-    pub fn into(self, image: &[u16]) -> Seen {
+    pub fn seen_in(self, image: &[u16]) -> Seen {
         match self {
             Look::Task { task } => Seen::of(views::task(image, task)),
             Look::Port { device } => Seen::of(views::port(image, device)),
@@ -124,7 +124,7 @@ fn filled<const N: usize>(fields: [u16; N]) -> [u16; MOST_FIELDS] {
 impl Group {
     /// The looks into an image, with what the model gives.
     pub fn judged(image: Vec<u16>, looks: Vec<Look>) -> Group {
-        let cases = looks.into_iter().map(|look| Case { look, seen: look.into(&image) }).collect();
+        let cases = looks.into_iter().map(|look| Case { look, seen: look.seen_in(&image) }).collect();
         Group { image, cases }
     }
 }
@@ -221,7 +221,7 @@ mod tests {
     #[test]
     fn what_is_not_there_fills_the_fields_of_its_call_alone() {
         let look = Look::Port { device: 0 };
-        assert_eq!(look.into(&[]), Seen { number: 1, fields: [65535, 65535, 0, 0, 0] });
-        assert_eq!(Look::BrokenRule.into(&[]), Seen { number: 1, fields: [65535, 65535, 65535, 65535, 0] });
+        assert_eq!(look.seen_in(&[]), Seen { number: 1, fields: [65535, 65535, 0, 0, 0] });
+        assert_eq!(Look::BrokenRule.seen_in(&[]), Seen { number: 1, fields: [65535, 65535, 65535, 65535, 0] });
     }
 }
