@@ -4,8 +4,14 @@ ghost use mathlib.Core.Bool.{true};
 ghost use Rattle.vectors.specs.declared.tally.Answer.the-variants.{Same};
 use libc::STDOUT_FILENO;
 
-// An expected number is less than this.
+// The number of what is not there.
+pub const NOT_THERE: u16 = 65535;
+
+// An expected number is less than this, but for that of what is not there.
 const NUMBERS: usize = 17;
+
+// How many counts of cases there are: one for each number, and one for what is not there.
+const COUNTS: usize = 18;
 
 // How many numbers a check may give.
 pub const CHECK_COUNT: usize = 7;
@@ -49,6 +55,12 @@ pub const PRINT_COUNT: usize = 2;
 // The numbers that a print may give.
 pub const PRINT_NUMBERS: [u16; PRINT_COUNT] = [0, 16];
 
+// How many numbers a look into an image may give.
+pub const LOOK_COUNT: usize = 8;
+
+// The numbers that a look into an image may give.
+pub const LOOK_NUMBERS: [u16; LOOK_COUNT] = [0, 1, 2, 3, 4, 5, 6, 65535];
+
 // How what the code under test says compares with a record, or that the record is bad.
 pub enum Answer {
     Same,
@@ -58,7 +70,7 @@ pub enum Answer {
 
 // The cases replayed so far, by expected number; those that differ; the records that are wrong on purpose, and those of them that were told to differ; whether a record was bad.
 pub struct Tally {
-    pub cases: [u64; NUMBERS],
+    pub cases: [u64; COUNTS],
     pub differ: u64,
     pub wrong: u64,
     pub told: u64,
@@ -102,7 +114,7 @@ pub fn worse(a: Answer, b: Answer) -> Answer {
 // The tally of no cases.
 pub fn empty() -> Tally {
     Tally {
-        cases: [0; NUMBERS],
+        cases: [0; COUNTS],
         differ: 0,
         wrong: 0,
         told: 0,
@@ -116,10 +128,19 @@ pub fn spoiled(mut tally: Tally) -> Tally {
     tally
 }
 
+// The place of a number's count, past all counts where it has none.
+fn place_of(number: u16) -> usize {
+    if number == NOT_THERE {
+        return NUMBERS;
+    }
+    let place = number as usize;
+    if place < NUMBERS { place } else { COUNTS }
+}
+
 // The tally with one more case of a number.
 fn counted(mut tally: Tally, number: u16, differs: bool) -> Tally {
-    let place = number as usize;
-    if place >= NUMBERS {
+    let place = place_of(number);
+    if place >= COUNTS {
         return spoiled(tally);
     }
     tally.cases[place] = more(tally.cases[place]);
@@ -152,8 +173,8 @@ pub fn with_wrong(mut tally: Tally, alone: Tally) -> Tally {
 
 // How many cases a number has.
 fn cases_of(tally: Tally, number: u16) -> u64 {
-    let place = number as usize;
-    if place < NUMBERS {
+    let place = place_of(number);
+    if place < COUNTS {
         tally.cases[place]
     } else {
         0
