@@ -65,17 +65,17 @@ pub fn seen(look: Look, image: &mut Lent<u16>) -> Seen {
 }
 
 fn of_task(task: Task) -> Seen {
-    Seen { number: task.number, fields: [task.status, task.peer, task.cc, task.error, task.pending] }
+    Seen::new(task.number, [task.status, task.peer, task.cc, task.error, task.pending])
 }
 
 fn of_port(port: Port) -> Seen {
-    Seen { number: port.number, fields: [port.busy, port.character, 0, 0, 0] }
+    Seen::new(port.number, [port.busy, port.character])
 }
 
 fn of_word(word: Word) -> Seen {
-    Seen { number: word.number, fields: [word.word, 0, 0, 0, 0] }
+    Seen::new(word.number, [word.word])
 }
 
 fn of_rule(broken: Broken) -> Seen {
-    Seen { number: broken.number, fields: [broken.rule, broken.queue, broken.i, broken.j, 0] }
+    Seen::new(broken.number, [broken.rule, broken.queue, broken.i, broken.j])
 }

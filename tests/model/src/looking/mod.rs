@@ -74,7 +74,7 @@ impl Look {
             }
             Look::BrokenRule => {
                 let [number, fields @ ..] = broken_rule(image);
-                Seen { number, fields: filled(fields) }
+                Seen::new(number, fields)
             }
         }
     }
@@ -104,21 +104,21 @@ impl Look {
 }
 
 impl Seen {
+    /// A number and the fields of a call.
+    pub fn new<const N: usize>(number: u16, fields: [u16; N]) -> Seen {
+        let mut all = [0; MOST_FIELDS];
+        all[..N].copy_from_slice(&fields);
+        Seen { number, fields: all }
+    }
+
     /// The fields of a look, or the number that refuses it and in each field
     /// that nothing is there.
-    fn of<const N: usize>(fields: Result<[u16; N], u16>) -> Seen {
+    pub fn of<const N: usize>(fields: Result<[u16; N], u16>) -> Seen {
         match fields {
-            Ok(fields) => Seen { number: GOOD, fields: filled(fields) },
-            Err(number) => Seen { number, fields: filled([NOT_THERE; N]) },
+            Ok(fields) => Seen::new(GOOD, fields),
+            Err(number) => Seen::new(number, [NOT_THERE; N]),
         }
     }
-}
-
-/// The fields, and 0 for those that are lacking.
-fn filled<const N: usize>(fields: [u16; N]) -> [u16; MOST_FIELDS] {
-    let mut all = [0; MOST_FIELDS];
-    all[..N].copy_from_slice(&fields);
-    all
 }
 
 impl Group {
