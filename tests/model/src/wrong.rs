@@ -304,9 +304,18 @@ pub fn broken() -> Vec<Vec<u16>> {
 /// A look into an image with its number and each of its fields said otherwise.
 fn each_field(image: &[u16], look: Look, fields: usize) -> Vec<Vec<u16>> {
     let right = looking::Case { look, seen: look.seen_in(image) };
-    let mut wrong = vec![slipped(&right, |case| case.seen.number ^= 1)];
+    let mut wrong = vec![slipped(&right, |case| case.seen.number = another_number(case.seen.number))];
     wrong.extend((0..fields).map(|field| slipped(&right, |case| case.seen.fields[field] ^= 1)));
     wrong.iter().map(|case| vectors::after_image(image, marked(vectors::look_record(case)))).collect()
+}
+
+/// Another number that a look may have.
+fn another_number(number: u16) -> u16 {
+    match number {
+        numbers::NOT_THERE => numbers::GOOD,
+        numbers::OTHER_RULE => numbers::SEGMENT_OR_TOTAL,
+        _ => number + 1,
+    }
 }
 
 #[cfg(test)]
