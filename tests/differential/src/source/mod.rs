@@ -65,7 +65,7 @@ impl Source {
         Source {
             rng: Rng::new(seed),
             damages: damage::all(),
-            of_rules: Damages::new(),
+            of_rules: Damages::named(),
             faults: faults::all(),
             of_plan: faults::of_number(numbers::PLAN),
             text_faults: text_faults::all(),

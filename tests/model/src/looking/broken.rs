@@ -21,7 +21,7 @@ pub struct Damages {
 impl Damages {
     /// All of them. A damage is one of the rule that it breaks first in some
     /// image, and each rule has one.
-    pub fn new() -> Damages {
+    pub fn named() -> Damages {
         let mut rng = Rng::new(0);
         let mut by_rule: Vec<Vec<Damage>> = (0..RULES).map(|_| Vec::new()).collect();
         for damage in damage::of_number(OTHER_RULE) {

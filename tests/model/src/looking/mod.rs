@@ -154,7 +154,7 @@ pub fn collect(seed: u64, count: usize) -> Vec<Group> {
 /// changed, of each named damage twice, and of images made from `count` random ones.
 pub fn collect_broken(seed: u64, count: usize) -> Vec<Group> {
     let mut rng = Rng::new(seed);
-    let damages = Damages::new();
+    let damages = Damages::named();
     let mut images = sweep::every_word(&mut rng);
     images.extend(damages.large(&mut rng));
     images.extend(damage::all().iter().flat_map(|damage| [damage.applied(&mut rng), damage.applied(&mut rng)]));
