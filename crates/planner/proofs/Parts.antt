@@ -45,6 +45,3 @@ module _ (p : List ℕ) (n end : ℕ) (r : Joined) (l : length p ≡ most-plan) 
 
   pub plan-count : end ≡ length (take end p)
   plan-count = sym (length-take-le end p plan-end)
-
-  pub plan-whole : leading + pair * n ≤ length (take end p)
-  plan-whole = omega (arith, plan-count, end-low (leading + pair * n) (most-program * n) end r e h)

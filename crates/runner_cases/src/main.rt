@@ -32,7 +32,7 @@ fn run_case(folder: &[u8])
     let mut events = [0u8; PATH_BYTES];
     let plan_end = join(folder, b"/plan.bin", &mut plan);
     let events_end = join(folder, b"/events.bin", &mut events);
-    run_files(&plan[..plan_end], &events[..events_end]);
+    run_files(&plan[..plan_end], &events[..events_end], b"", b"");
 }
 
 fn main() {

@@ -6,8 +6,8 @@ use mathlib.Core.Logic.{_≢_}
 use Prim.Native.Nat.{ℕ, suc, _+_, _%_, _<_, _≤_}
 use native.Mathlib.Nat.{add-zero, zero-add}
 use native.Mathlib.Omega.{arith}
-use borrow.Author.Tests.{ltb-true, ltb-false}
-use lib.Dec.{ltb}
+use borrow.Author.Tests.{eqb-true, eqb-false}
+use lib.Dec.{eqb}
 use lib.ListN.{length, getD, drop, length-append, length-drop}
 use lib.Seq.{drop-cons}
 use Rattle.paper.specs.Events.{event-of, happening}
@@ -176,16 +176,15 @@ refusal-ends s im n (x ∷ y ∷ z ∷ u ∷ v ∷ w ∷ a) b e ne =
     go (Reply.Accepted x) next h f = ap (after-line (line n (Reply.Accepted x))) (h next f)
     go (Reply.Refused r) next h f = refl
 
-pub any-rest : (s : Shape) (im : List ℕ) (n asked : ℕ) (bytes o out after : List ℕ) (text taken : ℕ) (stop : Verdict) → asked % event-bytes ≡ 0
-    → length bytes ≤ asked → Prints o out text taken stop after (printed-from s im n bytes) → ForAnyRest s im n asked bytes after taken stop
-any-rest s im n asked bytes o out after text taken stop whole h p rest ended =
+pub any-rest : (s : Shape) (im : List ℕ) (n : ℕ) (bytes o out after : List ℕ) (text taken : ℕ) (stop : Verdict)
+    → Prints o out text taken stop after (printed-from s im n bytes) → ForAnyRest s im n bytes after taken stop
+any-rest s im n bytes o out after text taken stop p rest ended =
     record {
       goes-on = λ e. rw (p .leaves, p .number) (buffers-follow s im n bytes rest (sym (p .stops) ∙ e));
-      ends = λ ne. go (ltb (length bytes) asked) refl (λ e. ne (p .stops ∙ e));
+      ends = λ ne. go (eqb (length bytes % event-bytes) 0) refl (λ e. ne (p .stops ∙ e));
     }
   where
-    go : (b : Bool) → ltb (length bytes) asked ≡ b → (printed-from s im n bytes .stop ≢ Verdict.Fine) → printed-from s im n (bytes ++ rest) ≡ printed-from s im n bytes
-    go true l ne = rw (ended (ltb-true (length bytes) asked l), append-nil bytes)
-    go false l ne =
-        let e : length bytes ≡ asked = omega (arith, ltb-false (length bytes) asked l) in
-        refusal-ends s im n bytes rest (rw e whole) ne
+    go : (b : Bool) → eqb (length bytes % event-bytes) 0 ≡ b → (printed-from s im n bytes .stop ≢ Verdict.Fine)
+        → printed-from s im n (bytes ++ rest) ≡ printed-from s im n bytes
+    go true l ne = refusal-ends s im n bytes rest (eqb-true (length bytes % event-bytes) 0 l) ne
+    go false l ne = rw (ended (eqb-false (length bytes % event-bytes) 0 l), append-nil bytes)

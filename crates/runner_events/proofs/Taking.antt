@@ -136,6 +136,6 @@ module _ (buffer : List ℕ) (found n : ℕ) (out : List ℕ) (b : Buffered buff
   found-room = rw found-length (omega (arith, b .inside, b .room))
 
   pub found-rest : (s : Shape) (first im after : List ℕ) (text taken : ℕ) (stop : Verdict) → Feeds s first n (take found buffer) out im after text taken stop
-      → ForAnyRest s first n (length buffer) (take found buffer) im taken stop
+      → ForAnyRest s first n (take found buffer) im taken stop
   found-rest s first im after text taken stop f =
-      any-rest s first n (length buffer) (take found buffer) out after im text taken stop (b .whole) (rw found-length (b .inside)) (f .prints)
+      any-rest s first n (take found buffer) out after im text taken stop (f .prints)

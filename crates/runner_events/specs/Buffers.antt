@@ -1,10 +1,8 @@
 -- A buffer of events: what is asked of it, and what is promised of it and of the file that it is a part of.
 use mathlib.Core.Path.{_≡_}
 use mathlib.Core.List.{List, [], _++_}
-use mathlib.Core.Bool.{Bool, false}
 use mathlib.Core.Logic.{_≢_}
 use Prim.Native.Nat.{ℕ, _+_, _%_, _<_, _≤_, _*_, _/_}
-use lib.Dec.{leb}
 use lib.ListN.{length, getD}
 use Rattle.paper.specs.Events.{event-of}
 use Rattle.paper.specs.Runner.{word, line, Printed, printed-from}
@@ -58,11 +56,6 @@ pub record Feeds (s : Shape) (first : List ℕ) (n : ℕ) (bytes o im out : List
   pub fits : text ≤ length o
   pub few : event-bytes * taken ≤ length bytes
 
--- a buffer is followed by more of its file where it was filled and no event of it was refused
-abbrev pub is-followed : ℕ → ℕ → Verdict → Bool
-is-followed found asked Verdict.Fine = leb asked found
-is-followed found asked (Verdict.Refused r) = false
-
 -- what is printed for one buffer, followed by what is printed for the next
 abbrev pub followed : Printed → Printed → Printed
 followed p q = record { text = p .text ++ q .text; taken = p .taken + q .taken; stop = q .stop; image = q .image }
@@ -74,13 +67,19 @@ pub record Continues (s : Shape) (im : List ℕ) (n : ℕ) (bytes rest after : L
       → printed-from s im n (bytes ++ rest) ≡ followed (printed-from s im n bytes) (printed-from s after (n + taken) rest)
   pub ends : stop ≢ Verdict.Fine → printed-from s im n (bytes ++ rest) ≡ printed-from s im n bytes
 
--- so many bytes are asked for at a time, and where fewer are found nothing follows
-abbrev pub ForAnyRest : Shape → List ℕ → ℕ → ℕ → List ℕ → List ℕ → ℕ → Verdict → Type 0
-ForAnyRest s im n asked bytes after taken stop = (rest : List ℕ) → (length bytes < asked → rest ≡ []) → Continues s im n bytes rest after taken stop
+-- the bytes of a buffer are those of whole events, or nothing follows them
+abbrev pub ForAnyRest : Shape → List ℕ → ℕ → List ℕ → List ℕ → ℕ → Verdict → Type 0
+ForAnyRest s im n bytes after taken stop =
+    (rest : List ℕ) → (length bytes % event-bytes ≢ 0 → rest ≡ []) → Continues s im n bytes rest after taken stop
 
--- a buffer for whole events, of which some bytes were found, with room for the lines
+-- of so many bytes, how many are those of whole events
+pub record Whole (found whole : ℕ) : Type 0 where
+  pub inside : whole ≤ found
+  pub most : found < whole + event-bytes
+  pub events : whole % event-bytes ≡ 0
+
+-- a buffer of which some bytes were found, with room for the lines
 pub record Buffered (buffer : List ℕ) (found n : ℕ) (out : List ℕ) : Type 0 where
   pub inside : found ≤ length buffer
-  pub whole : length buffer % event-bytes ≡ 0
   pub numbers : n + length buffer < number-end
   pub room : text-room buffer ≤ length out

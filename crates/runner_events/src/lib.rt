@@ -7,7 +7,7 @@ ghost use Rattle.paper.specs.Events.{happening};
 ghost use Rattle.laws.specs.Events.{Lawful};
 ghost use Rattle.order_table.specs.Entries.{OrderTable};
 ghost use Rattle.runner_lines.specs.Lines.{most-line};
-ghost use Rattle.runner_events.specs.Buffers.{event-bytes, event-at, number-end, text-room, FeedsShort, Feeds, is-followed, ForAnyRest, Buffered};
+ghost use Rattle.runner_events.specs.Buffers.{event-bytes, event-at, number-end, text-room, FeedsShort, Feeds, ForAnyRest, Whole, Buffered};
 use files::word;
 use happening::step;
 use paper::EVENT_WORDS;
@@ -116,17 +116,14 @@ pub fn feed_buffer(
     requires { ⌜ OrderTable (now table) ⌝ }
     requires { ⌜ Buffered (now buffer) found n (now out) ⌝ }
     ensures { λ r. ⌜ Feeds s (now (im .entry)) n (take found (now (buffer .entry))) (now (out .entry)) (now (im .exit)) (now (out .exit)) (r .text) (r .taken) (r .stop) ⌝ }
-    ensures { λ r. ⌜ ForAnyRest s (now (im .entry)) n (length (now (buffer .entry))) (take found (now (buffer .entry))) (now (im .exit)) (r .taken) (r .stop) ⌝ }
+    ensures { λ r. ⌜ ForAnyRest s (now (im .entry)) n (take found (now (buffer .entry))) (now (im .exit)) (r .taken) (r .stop) ⌝ }
 {
     feed(s, im, table, &buffer[..found], n, out)
 }
 
-// Whether more of a file is to be read after a buffer: all that was asked for was found, and no event was refused.
-pub fn is_followed(found: usize, asked: usize, stop: Verdict) -> bool
-    ensures { λ r. ⌜ r ≡ is-followed found asked stop ⌝ }
+// How many of the bytes that were found are those of whole events.
+pub fn whole_events(found: usize) -> usize
+    ensures { λ r. ⌜ Whole found r ⌝ }
 {
-    match stop {
-        Verdict::Fine => found >= asked,
-        Verdict::Refused(_) => false,
-    }
+    found - found % EVENT_BYTES
 }

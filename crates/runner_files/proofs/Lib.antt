@@ -1,1 +1,2 @@
 mod Built
+mod Turning

@@ -1,18 +1,39 @@
-// One run: reads a plan's file and a file of events, and prints a line for each event.
+// One run: takes a plan's file or an image's, and a file of events; prints a line for each event, says what became of them, and
+// saves the image where that is asked for.
+mod events;
+
 ghost use mathlib.Core.Path.{_≡_};
-ghost use mathlib.Core.Bool.{true};
-ghost use Prim.Native.Nat.{_≤_};
 ghost use lib.ListN.{length};
 ghost use Rattle.paper.specs.Image.{total};
 ghost use Rattle.paper.specs.Numbers.{check-plan};
 ghost use Rattle.paper.specs.declared.Verdict.the-variants.{Fine};
 ghost use Rattle.laws.specs.Events.{Lawful};
 ghost use Rattle.fresh_parts.specs.Accepted.{Plan};
+ghost use Rattle.disk.specs.Bytes.{Starts};
+ghost use Rattle.runner_files.specs.Turns.{LoadedPlan};
 use builds::build;
+use causes::PlanCause;
+use causes::plan_cause;
+use disk::IMAGE_BYTES;
+use disk::IMAGE_WORDS;
+use disk::Outcome;
+use disk::Source;
+use disk::Start;
+use disk::Words;
+use disk::ended;
+use disk::load_image;
+use disk::load_start;
+use disk::open_source;
+use disk::put_text;
+use disk::save;
+use disk::say;
+use disk::standard_error;
+use disk::standard_output;
+use events::run_events;
 use files::is_odd;
 use files::read_plan;
-use libc::STDOUT_FILENO;
-use order_table::laid_out;
+use inspect::inspect;
+use numbers::number_of;
 use paper::MOST_WORDS;
 use paper::Refusal;
 use paper::Reply;
@@ -21,132 +42,195 @@ use paper::Verdict;
 use paper::WORD_BYTES;
 use plans::shape_of_plan;
 use plans::total_of;
-use runner_events::EVENT_BYTES;
-use runner_events::feed_buffer;
-use runner_events::is_followed;
 use runner_lines::MOST_LINE;
 use runner_lines::put_line;
+use saying::put_plan_cause;
+use saying::put_refused;
+use saying::say_refused_image;
 
 // The words that are read of a plan: more than any has that is accepted.
 const PLAN_WORDS: usize = 32806;
 
 const PLAN_BYTES: usize = WORD_BYTES * PLAN_WORDS;
 
-// The events that are read at a time.
-const EVENTS: usize = 4096;
+// The number that a refused plan or image has in place of an event's.
+const REFUSED_START: u64 = 0;
 
-const EVENTS_BYTES: usize = EVENT_BYTES * EVENTS;
-
-// A line for each event, and one for a short last one.
-const TEXT_BYTES: usize = MOST_LINE * (EVENTS + 1);
-
-// More buffers than any file fills.
-const BUFFERS_END: u64 = 1125899906842624;
-
-// The number of the first event, and that of a refused plan.
-const FIRST_EVENT: u64 = 1;
-
-const REFUSED_PLAN: u64 = 0;
-
-// Prints the line of a refused plan.
-fn print_refused(r: Refusal) {
-    let mut text = [0u8; MOST_LINE];
-    let end = put_line(&mut text, 0, REFUSED_PLAN, Reply::Refused(r));
-    io::write_all(STDOUT_FILENO, &text[..end]);
+// Says that a file is missing.
+fn say_missing(path: &[u8]) {
+    say(path);
+    say(b": missing, it counts as empty\n");
 }
 
-// Reads events a buffer at a time and prints their lines, up to the end or a refusal.
-fn run_events(s: Shape, im: &mut [u16], fd: i32)
+// Prints the line of a refused plan or image.
+fn print_refused(r: Refusal) -> Outcome {
+    let mut text = [0u8; MOST_LINE];
+    let end = put_line(&mut text, 0, REFUSED_START, Reply::Refused(r));
+    let printed = ended(put_text(standard_output(), &text[..end]));
+    if let Outcome::Done = printed {
+        return Outcome::Refused;
+    }
+    printed
+}
+
+// Why a plan's file is refused, of which the first words are given, and whether it has an odd count of bytes.
+fn file_cause(plan: &[u16], odd: bool) -> PlanCause {
+    if odd {
+        return PlanCause::OddBytes;
+    }
+    plan_cause(plan)
+}
+
+// Refuses a plan's file.
+fn refuse_plan(path: &[u8], plan: &[u16], odd: bool, r: Refusal) -> Outcome {
+    let refused = print_refused(r);
+    let named = put_text(standard_error(), path);
+    let numbered = put_refused(named, number_of(r));
+    let told = put_plan_cause(numbered, file_cause(plan, odd));
+    put_text(told, b"\n");
+    refused
+}
+
+// Refuses an image's file.
+fn refuse_image(path: &[u8], im: &[u16], r: Refusal) -> Outcome {
+    let refused = print_refused(r);
+    say_refused_image(path, im, r);
+    refused
+}
+
+// Runs the events of a file on an image; a missing file counts as empty.
+fn run_events_file(s: Shape, im: &mut [u16], path: &[u8]) -> Outcome
     requires { ⌜ Lawful s (now im) ⌝ }
 {
-    let table = laid_out();
-    let mut buffer = [0u8; EVENTS_BYTES];
-    let mut text = [0u8; TEXT_BYTES];
-    let mut n = FIRST_EVENT;
-    let mut turns = BUFFERS_END;
-    while turns > 0 {
-        let found = io::read_full(fd, &mut buffer);
-        let fed = feed_buffer(s, im, &table, &buffer, found, n, &mut text);
-        let end = fed.text;
-        let stop = fed.stop;
-        if !io::write_all(STDOUT_FILENO, &text[..end]) {
-            return;
+    match open_source(path) {
+        Source::File(fd) => {
+            let ran = run_events(path, fd, s, im);
+            libc::close(fd);
+            ran
         }
-        if !is_followed(found, EVENTS_BYTES, stop) {
-            return;
+        Source::Missing => {
+            say_missing(path);
+            Outcome::Done
         }
-        n += fed.taken as u64;
-        turns -= 1;
+        Source::Nothing => Outcome::Unread,
     }
 }
 
-// Builds the image of an accepted plan in its place and runs the events of a file on it.
-fn run_fresh(s: Shape, plan: &[u16], im: &mut [u16], fd: i32)
+// Saves the image after a run whose lines are all printed, and answers what became of both.
+fn save_after(ran: Outcome, im: &[u16], path: &[u8]) -> Outcome {
+    if let Outcome::Unwritten = ran {
+        return ran;
+    }
+    let saved = save(path, im);
+    if let Outcome::Done = saved {
+        return ran;
+    }
+    saved
+}
+
+// Runs the events of a file on an image, and saves it where a path is given.
+fn run_image(s: Shape, im: &mut [u16], events: &[u8], saved: &[u8]) -> Outcome
+    requires { ⌜ Lawful s (now im) ⌝ }
+{
+    let ran = run_events_file(s, im, events);
+    if saved.len() == 0 {
+        return ran;
+    }
+    save_after(ran, im, saved)
+}
+
+// Builds the image of an accepted plan in its place and runs on it.
+fn run_fresh(s: Shape, plan: &[u16], im: &mut [u16], events: &[u8], saved: &[u8]) -> Outcome
     requires { ⌜ Plan s (now plan) ⌝ }
     requires { ⌜ length (now im) ≡ total s ⌝ }
 {
     build(plan, im);
-    run_events(s, im, fd);
+    run_image(s, im, events, saved)
 }
 
-// Runs the events of a file on an accepted plan.
-fn run_plan(plan: &[u16], fd: i32)
+// Runs on the image of an accepted plan.
+fn run_plan(plan: &[u16], events: &[u8], saved: &[u8]) -> Outcome
     requires { ⌜ check-plan (now plan) ≡ Fine ⌝ }
 {
     let s = shape_of_plan(plan);
     let size = total_of(s);
     let mut image = [0u16; MOST_WORDS];
-    run_fresh(s, plan, &mut image[..size], fd);
+    run_fresh(s, plan, &mut image[..size], events, saved)
 }
 
-// Whether a file has an odd count of bytes left, read to its end; it has ended where fewer bytes were found than asked for.
-fn rest_is_odd(fd: i32, found: usize, asked: usize) -> bool
-    ensures { λ r. ⌜ (r ≡ true → asked ≤ found) ⌝ }
+// Reads a plan's file to its end; a missing one counts as empty.
+fn load_plan(path: &[u8], buffer: &mut [u8]) -> Start
+    ensures { λ r. ⌜ Starts (now (buffer .exit)) r ⌝ }
 {
-    if found < asked {
-        return false;
-    }
-    let mut buffer = io::large_buffer();
-    let mut odd = false;
-    let mut turns = BUFFERS_END;
-    while turns > 0 {
-        let more = io::read_full(fd, &mut buffer);
-        odd = is_odd(odd, more);
-        if more < buffer.len() {
-            return odd;
+    match open_source(path) {
+        Source::File(fd) => {
+            let start = load_start(path, fd, buffer);
+            libc::close(fd);
+            start
         }
-        turns -= 1;
+        Source::Missing => {
+            say_missing(path);
+            Start::Bytes(0, false)
+        }
+        Source::Nothing => Start::Nothing,
     }
-    odd
 }
 
-// Runs the events of one open file on the plan of another.
-fn run(plan_fd: i32, events_fd: i32) {
-    let mut buffer = [0u8; PLAN_BYTES];
-    let found = io::read_full(plan_fd, &mut buffer);
-    let odd = rest_is_odd(plan_fd, found, PLAN_BYTES);
+// Runs on the plan of a file, of which so many bytes are in a buffer, with an odd count of bytes after them or not.
+fn run_loaded_plan(
+    path: &[u8],
+    buffer: &[u8],
+    found: usize,
+    odd: bool,
+    events: &[u8],
+    saved: &[u8],
+) -> Outcome
+    requires { ⌜ LoadedPlan (now buffer) found odd ⌝ }
+{
     let mut words = [0u16; PLAN_WORDS];
-    let plan = read_plan(&buffer, found, odd, &mut words);
+    let plan = read_plan(buffer, found, odd, &mut words);
     let count = plan.words;
     let verdict = plan.verdict;
     match verdict {
-        Verdict::Fine => run_plan(&words[..count], events_fd),
-        Verdict::Refused(r) => print_refused(r),
+        Verdict::Fine => run_plan(&words[..count], events, saved),
+        Verdict::Refused(r) => refuse_plan(path, &words[..count], is_odd(odd, found), r),
     }
 }
 
-// Closes a file that was opened.
-fn close(fd: i32) {
-    if fd >= 0 {
-        libc::close(fd);
+// Runs on the plan of a file.
+fn run_plan_file(path: &[u8], events: &[u8], saved: &[u8]) -> Outcome {
+    let mut buffer = [0u8; PLAN_BYTES];
+    let Start::Bytes(found, odd) = load_plan(path, &mut buffer) else {
+        return Outcome::Unread;
+    };
+    run_loaded_plan(path, &buffer, found, odd, events, saved)
+}
+
+// Runs on the words of an image's file.
+fn run_loaded_image(path: &[u8], im: &mut [u16], events: &[u8], saved: &[u8]) -> Outcome {
+    let found = inspect(im);
+    let verdict = found.verdict;
+    match verdict {
+        Verdict::Fine => run_image(found.shape, im, events, saved),
+        Verdict::Refused(r) => refuse_image(path, im, r),
     }
 }
 
-// Runs the events of a file on the plan of another; a missing file counts as empty.
-pub fn run_files(plan_path: &[u8], events_path: &[u8]) {
-    let plan_fd = os::open_read(plan_path);
-    let events_fd = os::open_read(events_path);
-    run(plan_fd, events_fd);
-    close(plan_fd);
-    close(events_fd);
+// Runs on the image of a file.
+fn run_image_file(path: &[u8], events: &[u8], saved: &[u8]) -> Outcome {
+    let mut buffer = [0u8; IMAGE_BYTES];
+    let mut words = [0u16; IMAGE_WORDS];
+    let Words::Count(count) = load_image(path, &mut buffer, &mut words) else {
+        return Outcome::Unread;
+    };
+    run_loaded_image(path, &mut words[..count], events, saved)
+}
+
+// Runs the events of a file on the plan of another, or on the image of a file where a path is given for one; the image after the
+// run is saved where a path is given for it.
+pub fn run_files(plan: &[u8], events: &[u8], image: &[u8], saved: &[u8]) -> Outcome {
+    if image.len() == 0 {
+        return run_plan_file(plan, events, saved);
+    }
+    run_image_file(image, events, saved)
 }

@@ -1,6 +1,6 @@
 -- The parts of a plan lie in it.
 use mathlib.Core.Path.{refl}
-use Rattle.planner.proofs.Parts.{plan-end, plan-count, plan-whole}
+use Rattle.planner.proofs.Parts.{plan-end, plan-count}
 use borrow.Author.Needs.{needs}
 use Rattle.planner.proofs.join.Statement.{statement}
 use Rattle.planner.proofs.join.Tie as tie
@@ -14,13 +14,10 @@ array-share-prefix-plan c = search plan-end
 slice-aggregate-write-plan : tie.Need-slice-aggregate-write-plan
 slice-aggregate-write-plan c = search plan-count
 
-write-plan-requires : tie.Need-write-plan-requires
-write-plan-requires c κs = (search needs, search plan-whole)
-
 pub join-spec : {M : Type 1} → statement M
 join-spec =
     tie.close
     (tie.spec
     (λ c. search needs) put-leading-requires (λ c. search needs) (λ c. search needs) (λ c κs. search needs)
     (λ c. search needs) (λ c. search needs) (λ c. search needs) array-share-prefix-plan slice-aggregate-write-plan
-    write-plan-requires (λ c. search needs))
+    (λ c κs. search needs) (λ c. search needs))

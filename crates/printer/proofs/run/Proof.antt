@@ -11,4 +11,9 @@ print-file-requires-2 : tie.Need-print-file-requires-2
 print-file-requires-2 c κs = lit< tt
 
 pub run-spec : {M : Type 1} → statement M
-run-spec = tie.close (tie.spec (λ c κs. search needs) (λ c. search needs) (λ c. search needs) print-file-requires (λ c. search needs) (λ c. search needs) print-file-requires-2 (λ c. search needs) (λ c κs. search needs) (λ c. search needs) (λ c. search needs) (λ c. search needs))
+run-spec =
+    tie.close
+    (tie.spec
+    (λ c κs. search needs) (λ c. search needs) (λ c. search needs) print-file-requires (λ c. search needs)
+    (λ c. search needs) print-file-requires-2 (λ c κs. search needs) (λ c. search needs) (λ c. search needs)
+    (λ c. search needs))

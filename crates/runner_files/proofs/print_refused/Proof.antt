@@ -5,12 +5,12 @@ use borrow.Author.Needs.{needs}
 use Rattle.runner_files.proofs.print_refused.Statement.{statement}
 use Rattle.runner_files.proofs.print_refused.Tie as tie
 
-slice-aggregate-write-all : tie.Need-slice-aggregate-write-all
-slice-aggregate-write-all c = sym (length-take-le _ _ (search needs))
+slice-aggregate-put-text : tie.Need-slice-aggregate-put-text
+slice-aggregate-put-text c = sym (length-take-le _ _ (search needs))
 
 pub print-refused-spec : {M : Type 1} → statement M
 print-refused-spec =
     tie.close
     (tie.spec
-    (λ c. search needs) (λ c κs. search needs) (λ c. search needs) slice-aggregate-write-all (λ c κs. search needs)
-    (λ c. search needs))
+    (λ c. search needs) (λ c κs. search needs) (λ c κs. search needs) (λ c. search needs) slice-aggregate-put-text
+    (λ c κs. search needs) (λ c κs. search needs) (λ c. search needs) (λ c. search needs) (λ c. search needs))

@@ -4,13 +4,13 @@ use borrow.Author.Needs.{needs}
 use Rattle.runner_files.proofs.run_fresh.Statement.{statement}
 use Rattle.runner_files.proofs.run_fresh.Tie as tie
 
-run-events-requires : tie.Need-run-events-requires
-run-events-requires c κs =
-    let c5 = c .before .before .before .before .before in
-    built-lawful _ _ (c5 .before .before .pre .0) _ _ _ (c5 .before .before .pre .1) (c .before .before .before .build .ensures)
+run-image-requires : tie.Need-run-image-requires
+run-image-requires c κs =
+    let p = c .before .before .before .before .before .before .before .before .before .pre in
+    built-lawful _ _ (p .0) _ _ _ (p .1) (c .before .before .before .build .ensures)
 
 pub run-fresh-spec : {M : Type 1} → statement M
 run-fresh-spec =
     tie.close
     (tie.spec
-    (λ c κs. search needs) run-events-requires (λ c. search needs) (λ c. search needs))
+    (λ c κs. search needs) run-image-requires (λ c. search needs) (λ c. search needs))

@@ -9,21 +9,21 @@ use Rattle.runner_files.proofs.run_plan.Statement.{statement}
 use Rattle.runner_files.proofs.run_plan.Tie as tie
 
 shape-of-plan-requires : tie.Need-shape-of-plan-requires
-shape-of-plan-requires c κs = fine-ranged _ (c .before .pre)
+shape-of-plan-requires c κs = fine-ranged _ (c .before .before .before .pre)
 
 array-borrow-prefix-image : tie.Need-array-borrow-prefix-image
 array-borrow-prefix-image c =
-    let p = accepted _ _ (c .before .shape-of-plan .ensures .0) (c .before .before .before .pre) in
+    let p = accepted _ _ (c .before .shape-of-plan .ensures .0) (c .before .before .before .before .before .pre) in
     image-fits _ _ p _ (c .total-of .ensures)
 
 slice-aggregate-run-fresh : tie.Need-slice-aggregate-run-fresh
 slice-aggregate-run-fresh c =
-    let p = accepted _ _ (c .before .before .shape-of-plan .ensures .0) (c .before .before .before .before .pre) in
+    let p = accepted _ _ (c .before .before .shape-of-plan .ensures .0) (c .before .before .before .before .before .before .pre) in
     sym (length-take-le _ _ (image-fits _ _ p _ (c .before .total-of .ensures)))
 
 run-fresh-requires : tie.Need-run-fresh-requires
 run-fresh-requires c κs =
-    let p = accepted _ _ (c .before .before .shape-of-plan .ensures .0) (c .before .before .before .before .pre) in
+    let p = accepted _ _ (c .before .before .shape-of-plan .ensures .0) (c .before .before .before .before .before .before .pre) in
     let t = c .before .total-of .ensures in
     (p, length-take-le _ _ (image-fits _ _ p _ t) ∙ t)
 

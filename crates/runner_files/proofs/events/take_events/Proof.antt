@@ -1,0 +1,42 @@
+-- The events that are taken lie in the buffer, and their lines in theirs.
+use mathlib.Core.Path.{sym}
+use native.Mathlib.Omega.{arith}
+use lib.Seq.{length-take-le}
+use borrow.Author.Needs.{needs}
+use Rattle.runner_files.proofs.Turning.{served, taken-inside, taken-few}
+use Rattle.runner_files.proofs.events.take_events.Statement.{statement}
+use Rattle.runner_files.proofs.events.take_events.Tie as tie
+
+feed-buffer-requires : tie.Need-feed-buffer-requires
+feed-buffer-requires c κs = (c .before .before .before .before .before .before .pre .0, (c .before .before .before .before .before .before .pre .1 .0, served _ _ _ _ (c .before .before .before .before .before .before .pre .1 .1 .0) (c .before .before .before .before .before .before .pre .1 .1 .1)))
+
+mul-from : tie.Need-mul-from
+mul-from c = omega (arith, taken-few _ _ _ _ (c .before .before .before .before .before .before .before .before .before .before .before .before .pre .1 .1 .0) (c .before .before .before .before .before .before .before .before .before .before .before .before .pre .1 .1 .1) _ _ _ _ _ _ _ (c .before .before .before .before .before .feed-buffer .ensures .0))
+
+slice-aggregate-put-text : tie.Need-slice-aggregate-put-text
+slice-aggregate-put-text c = sym (length-take-le _ _ (omega (arith, c .before .before .before .before .before .before .before .feed-buffer .ensures .0 .fits)))
+
+add-say-refused-event : tie.Need-add-say-refused-event
+add-say-refused-event c = omega (arith, c .before .before .before .before .before .before .before .before .before .before .before .before .before .before .before .before .before .before .before .before .pre .1 .1 .0 .numbers, taken-few _ _ _ _ (c .before .before .before .before .before .before .before .before .before .before .before .before .before .before .before .before .before .before .before .before .pre .1 .1 .0) (c .before .before .before .before .before .before .before .before .before .before .before .before .before .before .before .before .before .before .before .before .pre .1 .1 .1) _ _ _ _ _ _ _ (c .before .before .before .before .before .before .before .before .before .before .before .before .before .feed-buffer .ensures .0))
+
+sub-say-refused-event : tie.Need-sub-say-refused-event
+sub-say-refused-event c = omega (arith, taken-inside _ _ _ _ (c .before .before .before .before .before .before .before .before .before .before .before .before .before .before .before .before .before .before .before .before .pre .1 .1 .0) (c .before .before .before .before .before .before .before .before .before .before .before .before .before .before .before .before .before .before .before .before .pre .1 .1 .1) _ _ _ _ _ _ _ (c .before .before .before .before .before .before .before .before .before .before .before .before .before .feed-buffer .ensures .0))
+
+part-say-refused-event-start : tie.Need-part-say-refused-event-start
+part-say-refused-event-start c = omega (arith, taken-inside _ _ _ _ (c .before .before .before .before .before .before .before .before .before .before .before .before .before .before .before .before .before .before .before .before .pre .1 .1 .0) (c .before .before .before .before .before .before .before .before .before .before .before .before .before .before .before .before .before .before .before .before .pre .1 .1 .1) _ _ _ _ _ _ _ (c .before .before .before .before .before .before .before .before .before .before .before .before .before .feed-buffer .ensures .0))
+
+part-say-refused-event-end : tie.Need-part-say-refused-event-end
+part-say-refused-event-end c = omega (arith, c .before .before .before .before .before .before .before .before .before .before .before .before .before .before .before .before .before .before .before .before .pre .1 .1 .1, taken-inside _ _ _ _ (c .before .before .before .before .before .before .before .before .before .before .before .before .before .before .before .before .before .before .before .before .pre .1 .1 .0) (c .before .before .before .before .before .before .before .before .before .before .before .before .before .before .before .before .before .before .before .before .pre .1 .1 .1) _ _ _ _ _ _ _ (c .before .before .before .before .before .before .before .before .before .before .before .before .before .feed-buffer .ensures .0))
+
+returns-2 : tie.Need-returns-2
+returns-2 c = (taken-few _ _ _ _ (c .before .before .before .before .before .before .before .before .before .before .before .before .before .before .before .before .before .before .before .pre .1 .1 .0) (c .before .before .before .before .before .before .before .before .before .before .before .before .before .before .before .before .before .before .before .pre .1 .1 .1) _ _ _ _ _ _ _ (c .before .before .before .before .before .before .before .before .before .before .before .before .feed-buffer .ensures .0), c .before .before .before .before .before .before .before .before .before .before .before .before .feed-buffer .ensures .0 .good)
+
+pub take-events-spec : {M : Type 1} → statement M
+take-events-spec =
+    tie.close
+    (tie.spec
+    feed-buffer-requires mul-from (λ c κs. search needs) (λ c. search needs) slice-aggregate-put-text
+    (λ c κs. search needs) (λ c κs. search needs) (λ c. search needs) (λ c. search needs) (λ c. search needs)
+    (λ c. search needs) (λ c. search needs) (λ c. search needs) add-say-refused-event sub-say-refused-event
+    part-say-refused-event-start part-say-refused-event-end (λ c κs. search needs) (λ c. search needs)
+    (λ c. search needs) returns-2 (λ c. search needs) (λ c. search needs) (λ c. search needs))
