@@ -6,6 +6,7 @@ mod lent;
 mod library;
 mod looks;
 mod package;
+mod package_looks;
 mod source;
 mod tally;
 
@@ -21,11 +22,11 @@ use tally::Tally;
 const USAGE: &str = "usage: differential SEED COUNT";
 
 /// How a call is made, by name.
-type Way = (&'static str, fn(&Call, &mut Rooms) -> Answer);
+type Way = (&'static str, fn(&Call, &mut Rooms) -> Option<Answer>);
 
-/// The C library itself, and the Rust package.
-const LIBRARY: Way = ("C library", library::answer);
-const PACKAGE: Way = ("Rust package", package::answer);
+/// Each case is a call of the C library itself, and then of the Rust package where that can be asked.
+const WAYS: [Way; 2] =
+    [("C library", |call, lent| Some(library::answer(call, lent))), ("Rust package", package::answer)];
 
 fn main() -> ExitCode {
     match arguments().ok_or(USAGE.into()).and_then(|(seed, count)| compare(seed, count)) {
@@ -53,8 +54,8 @@ fn compare(seed: u64, count: usize) -> Result<(), String> {
     let mut tally = Tally::default();
     for (case, call) in (1..=count).zip(Source::new(seed)) {
         let outcome = expected::outcome(&call);
-        for way in ways(&call) {
-            let told = differences(&mut guards, &call, &outcome, *way);
+        for way in WAYS {
+            let told = differences(&mut guards, &call, &outcome, way);
             require(told.is_empty(), || format!("seed {seed}, case {case}: {}\n{}", call.title(), told.join("\n")))?;
         }
         tally.count(&call, &outcome);
@@ -65,21 +66,13 @@ fn compare(seed: u64, count: usize) -> Result<(), String> {
     Ok(())
 }
 
-/// How a call is made: of the C library, and all but the looks then through the Rust package.
-fn ways(call: &Call) -> &'static [Way] {
-    match call {
-        Call::Look { .. } => &[LIBRARY],
-        _ => &[LIBRARY, PACKAGE],
-    }
-}
-
 /// Makes a call in one way, and says what differs from the model's outcome: the answer, and the first word of each buffer
 /// and byte of each text.
 fn differences(rng: &mut Rng, call: &Call, outcome: &Outcome, (way, make): Way) -> Vec<String> {
     let mut lent = Rooms::new(rng, call);
     let answer = make(call, &mut lent);
     let mut told = Vec::new();
-    if answer != outcome.answer {
+    if let Some(answer) = answer.filter(|&answer| answer != outcome.answer) {
         told.push(format!("{way}: the answer is {answer:?}, the model's {:?}", outcome.answer));
     }
     for (((name, _), room), expected) in call.buffers().iter().zip(&lent.words).zip(&outcome.buffers) {

@@ -3,12 +3,13 @@
 use crate::call::{Answer, Call};
 use crate::expected::refused_event;
 use crate::lent::{Lent, Rooms};
+use crate::package_looks;
 use kernel::c::{NAMES, NO_TEXT, SCRIPT};
 use kernel::{Refusal, Stopped, Text, Untranslated};
 
-/// Makes the call with its words and bytes in the rooms that are lent.
-pub fn answer(call: &Call, lent: &mut Rooms) -> Answer {
-    match (call, &mut lent.words[..], &mut lent.texts[..]) {
+/// Makes the call with its words and bytes in the rooms that are lent, if the package can be asked to.
+pub fn answer(call: &Call, lent: &mut Rooms) -> Option<Answer> {
+    Some(match (call, &mut lent.words[..], &mut lent.texts[..]) {
         (Call::Check { .. }, [image], []) => Answer::Check { number: number(kernel::check(image.words())) },
         (Call::Size { .. }, [plan], []) => size(plan),
         (Call::Build { .. }, [plan, target], []) => {
@@ -30,8 +31,9 @@ pub fn answer(call: &Call, lent: &mut Rooms) -> Answer {
             Answer::PrintSize { number, bytes }
         }
         (Call::RoundTrip { .. }, [words, target], [text]) => round_trip(words, text, target),
+        (Call::Look { look, .. }, [image], []) => Answer::Look(package_looks::seen(*look, image.words())?),
         _ => unreachable!("a call has the buffers of its own"),
-    }
+    })
 }
 
 /// The number of a result, 0 where nothing is refused.
