@@ -11,6 +11,7 @@ use Rattle.paper.specs.declared.Verdict.{Verdict}
 use Rattle.disk.specs.Bytes.{Starts}
 use Rattle.disk.specs.declared.Start.{Start}
 use Rattle.disk.proofs.Bytes.{started-end, started-full}
+use Rattle.files.specs.PlanFiles.{enough}
 use Rattle.runner_events.specs.Buffers.{event-bytes, Feeds, Buffered}
 use Rattle.runner_files.specs.Turns.{most-events, Buffers, Holds, Tooks, Turns, LoadedPlan}
 use Rattle.runner_files.specs.declared.events.Held.{Held}
@@ -23,7 +24,7 @@ module _ (buffer text : List ℕ) (n end : ℕ) (b : Buffers buffer text n) (h :
   served =
       record {
         inside = h;
-        numbers = omega (arith, b .bytes, b .numbers);
+        numbers = b .numbers;
         room = omega (arith, b .bytes, b .lines);
       }
 
@@ -39,7 +40,7 @@ module _ (buffer text : List ℕ) (n end : ℕ) (b : Buffers buffer text n) (h :
 pub serve-again : (buffer buffer′ text text′ : List ℕ) (n : ℕ) → length buffer′ ≡ length buffer → length text′ ≡ length text → Buffers buffer text n
     → Buffers buffer′ text′ n
 serve-again buffer buffer′ text text′ n eb et b =
-    record { bytes = eb ∙ b .bytes; lines = et ∙ b .lines; numbers = b .numbers }
+    record { bytes = eb ∙ b .bytes; lines = et ∙ b .lines; numbers = rw eb (b .numbers) }
 
 -- what a buffer holds
 module _ (most : ℕ) (r : Held) (k : ℕ) (h : Holds most r) where
@@ -61,5 +62,5 @@ module _ (r : Turn) (k kept : ℕ) (e : r ≡ Turn.On k kept) (h : Turns r) wher
   turned-kept = (rw e at h) .1
 
 -- the start of a plan's file
-pub plan-loaded : (b : List ℕ) (r : Start) (n : ℕ) (odd : Bool) → length b ≡ 65612 → r ≡ Start.Bytes n odd → Starts b r → LoadedPlan b n odd
+pub plan-loaded : (b : List ℕ) (r : Start) (n : ℕ) (odd : Bool) → length b ≡ enough → r ≡ Start.Bytes n odd → Starts b r → LoadedPlan b n odd
 plan-loaded b r n odd l e h = record { bytes = l; inside = started-end b r n odd e h; full = started-full b r n odd e h }

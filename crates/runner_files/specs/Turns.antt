@@ -2,8 +2,10 @@
 use mathlib.Core.Path.{_≡_}
 use mathlib.Core.Bool.{Bool, true}
 use mathlib.Core.List.{List}
-use Prim.Native.Nat.{ℕ, _+_, _<_, _≤_}
+use Prim.Native.Nat.{ℕ, _+_, _*_, _<_, _≤_}
 use lib.ListN.{length}
+use Rattle.files.specs.PlanFiles.{enough}
+use Rattle.runner_lines.specs.Lines.{most-line}
 use Rattle.runner_events.specs.Buffers.{event-bytes, number-end}
 use Rattle.runner_files.specs.declared.events.Held.{Held}
 use Rattle.runner_files.specs.declared.events.Took.{Took}
@@ -15,9 +17,9 @@ most-events = 4096
 
 -- the buffers of events and of their lines, and numbers enough for those events
 pub record Buffers (buffer text : List ℕ) (n : ℕ) : Type 0 where
-  pub bytes : length buffer ≡ 24576
-  pub lines : length text ≡ 131104
-  pub numbers : n + 24576 < number-end
+  pub bytes : length buffer ≡ event-bytes * most-events
+  pub lines : length text ≡ most-line * (most-events + 1)
+  pub numbers : n + length buffer < number-end
 
 -- what a buffer of so many bytes holds
 abbrev pub Holds : ℕ → Held → Type 0
@@ -37,6 +39,6 @@ Turns (Turn.Ended outcome) = Unit {0}
 
 -- a buffer for a plan's file, of which so many bytes were found
 pub record LoadedPlan (buffer : List ℕ) (found : ℕ) (odd : Bool) : Type 0 where
-  pub bytes : length buffer ≡ 65612
+  pub bytes : length buffer ≡ enough
   pub inside : found ≤ length buffer
   pub full : odd ≡ true → length buffer ≤ found

@@ -7,7 +7,9 @@ use Rattle.runner_files.proofs.run_loaded_plan.Statement.{statement}
 use Rattle.runner_files.proofs.run_loaded_plan.Tie as tie
 
 read-plan-requires : tie.Need-read-plan-requires
-read-plan-requires c κs = (c .before .before .before .before .before .pre .inside, (omega (arith, c .before .before .before .before .before .pre .bytes), (omega (arith, c .before .before .before .before .before .pre .bytes), c .before .before .before .before .before .pre .full)))
+read-plan-requires c κs =
+    let p = c .before .before .before .before .before .pre in
+    (p .inside, (omega (arith, p .bytes), (omega (arith, p .bytes), p .full)))
 
 array-share-prefix-words : tie.Need-array-share-prefix-words
 array-share-prefix-words c = c .before .before .before .read-plan .ensures .inside

@@ -19,13 +19,21 @@ loop-holds : tie.Need-loop-holds Inv-loop μ-loop
 loop-holds c = ((c .before .before .before .pre, refl), (search needs, search needs), (omega arith, omega arith))
 
 run-turn-requires : tie.Need-run-turn-requires Inv-loop μ-loop
-run-turn-requires c κs = let l = c .before .before .before .before .before .loop .inv in (l .0 .0, (c .before .before .before .before .before .before .laid-out .ensures, (record { bytes = l .1 .0; lines = l .1 .1; numbers = omega (arith, l .2 .1) }, omega (arith, l .1 .0, l .2 .0))))
+run-turn-requires c κs =
+    let l = c .before .before .before .before .before .loop .inv in
+    (l .0 .0, (c .before .before .before .before .before .before .laid-out .ensures, (record { bytes = l .1 .0; lines = l .1 .1; numbers = omega (arith, l .1 .0, l .2 .1) }, omega (arith, l .1 .0, l .2 .0))))
 
 add-n : tie.Need-add-n Inv-loop μ-loop
-add-n c = omega (arith, turned-few _ _ _ (c .before .taken .given .1) (c .before .before .before .before .before .before .before .run-turn .ensures .0), c .before .before .before .before .before .before .before .before .before .before .before .before .before .loop .inv .2 .1)
+add-n c =
+    let c7 = c .before .before .before .before .before .before .before in
+    omega (arith, turned-few _ _ _ (c .before .taken .given .1) (c7 .run-turn .ensures .0), c7 .before .before .before .before .before .before .loop .inv .2 .1)
 
 loop-again : tie.Need-loop-again Inv-loop μ-loop
-loop-again c = let l = c .before .before .before .before .before .before .before .before .before .before .before .before .before .loop .inv in let e = c .before .before .before .before .before .before .before .run-turn .ensures in ((e .1, search needs), (search needs, search needs), (search turned-kept, omega (arith, turned-few _ _ _ (c .before .taken .given .1) (e .0), l .2 .1)))
+loop-again c =
+    let c7 = c .before .before .before .before .before .before .before in
+    let l = c7 .before .before .before .before .before .before .loop .inv in
+    let e = c7 .run-turn .ensures in
+    ((e .1, search needs), (search needs, search needs), (search turned-kept, omega (arith, turned-few _ _ _ (c .before .taken .given .1) (e .0), l .2 .1)))
 
 pub run-events-spec : {M : Type 1} → statement M
 run-events-spec =

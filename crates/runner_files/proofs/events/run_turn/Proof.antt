@@ -5,10 +5,16 @@ use Rattle.runner_files.proofs.events.run_turn.Statement.{statement}
 use Rattle.runner_files.proofs.events.run_turn.Tie as tie
 
 take-whole-requires : tie.Need-take-whole-requires
-take-whole-requires c κs = (c .before .before .before .before .before .before .before .before .before .before .before .before .before .before .pre .0, (c .before .before .before .before .before .before .before .before .before .before .before .before .before .before .pre .1 .0, (search (needs, serve-again), search held-inside)))
+take-whole-requires c κs =
+    let c5 = c .before .before .before .before .before in
+    let p = c5 .before .before .before .before .before .before .before .before .before .pre in
+    (p .0, (p .1 .0, (search (needs, serve-again), search held-inside)))
 
 take-last-requires : tie.Need-take-last-requires
-take-last-requires c κs = (c .before .before .before .before .before .before .before .before .before .before .before .before .before .before .pre .0, (c .before .before .before .before .before .before .before .before .before .before .before .before .before .before .pre .1 .0, (search (needs, serve-again), search last-inside)))
+take-last-requires c κs =
+    let c5 = c .before .before .before .before .before in
+    let p = c5 .before .before .before .before .before .before .before .before .before .pre in
+    (p .0, (p .1 .0, (search (needs, serve-again), search last-inside)))
 
 pub run-turn-spec : {M : Type 1} → statement M
 run-turn-spec =

@@ -8,28 +8,67 @@ use Rattle.runner_files.proofs.events.take_events.Statement.{statement}
 use Rattle.runner_files.proofs.events.take_events.Tie as tie
 
 feed-buffer-requires : tie.Need-feed-buffer-requires
-feed-buffer-requires c κs = (c .before .before .before .before .before .before .pre .0, (c .before .before .before .before .before .before .pre .1 .0, served _ _ _ _ (c .before .before .before .before .before .before .pre .1 .1 .0) (c .before .before .before .before .before .before .pre .1 .1 .1)))
+feed-buffer-requires c κs =
+    let p = c .before .before .before .before .before .before .pre in
+    (p .0, (p .1 .0, served _ _ _ _ (p .1 .1 .0) (p .1 .1 .1)))
 
 mul-from : tie.Need-mul-from
-mul-from c = omega (arith, taken-few _ _ _ _ (c .before .before .before .before .before .before .before .before .before .before .before .before .pre .1 .1 .0) (c .before .before .before .before .before .before .before .before .before .before .before .before .pre .1 .1 .1) _ _ _ _ _ _ _ (c .before .before .before .before .before .feed-buffer .ensures .0))
+mul-from c =
+    let c5 = c .before .before .before .before .before in
+    let c10 = c5 .before .before .before .before .before in
+    let p = c10 .before .before .pre .1 .1 in
+    let f = c .before .before .before .before .before .feed-buffer .ensures .0 in
+    omega (arith, taken-few _ _ _ _ (p .0) (p .1) _ _ _ _ _ _ _ f)
 
 slice-aggregate-put-text : tie.Need-slice-aggregate-put-text
-slice-aggregate-put-text c = sym (length-take-le _ _ (omega (arith, c .before .before .before .before .before .before .before .feed-buffer .ensures .0 .fits)))
+slice-aggregate-put-text c =
+    let f = c .before .before .before .before .before .before .before .feed-buffer .ensures .0 in
+    sym (length-take-le _ _ (omega (arith, f .fits)))
 
 add-say-refused-event : tie.Need-add-say-refused-event
-add-say-refused-event c = omega (arith, c .before .before .before .before .before .before .before .before .before .before .before .before .before .before .before .before .before .before .before .before .pre .1 .1 .0 .numbers, taken-few _ _ _ _ (c .before .before .before .before .before .before .before .before .before .before .before .before .before .before .before .before .before .before .before .before .pre .1 .1 .0) (c .before .before .before .before .before .before .before .before .before .before .before .before .before .before .before .before .before .before .before .before .pre .1 .1 .1) _ _ _ _ _ _ _ (c .before .before .before .before .before .before .before .before .before .before .before .before .before .feed-buffer .ensures .0))
+add-say-refused-event c =
+    let c5 = c .before .before .before .before .before in
+    let c10 = c5 .before .before .before .before .before in
+    let c15 = c10 .before .before .before .before .before in
+    let p = c15 .before .before .before .before .before .pre .1 .1 in
+    let f = c10 .before .before .before .feed-buffer .ensures .0 in
+    omega (arith, p .0 .numbers, p .0 .bytes, taken-few _ _ _ _ (p .0) (p .1) _ _ _ _ _ _ _ f)
 
 sub-say-refused-event : tie.Need-sub-say-refused-event
-sub-say-refused-event c = omega (arith, taken-inside _ _ _ _ (c .before .before .before .before .before .before .before .before .before .before .before .before .before .before .before .before .before .before .before .before .pre .1 .1 .0) (c .before .before .before .before .before .before .before .before .before .before .before .before .before .before .before .before .before .before .before .before .pre .1 .1 .1) _ _ _ _ _ _ _ (c .before .before .before .before .before .before .before .before .before .before .before .before .before .feed-buffer .ensures .0))
+sub-say-refused-event c =
+    let c5 = c .before .before .before .before .before in
+    let c10 = c5 .before .before .before .before .before in
+    let c15 = c10 .before .before .before .before .before in
+    let p = c15 .before .before .before .before .before .pre .1 .1 in
+    let f = c10 .before .before .before .feed-buffer .ensures .0 in
+    omega (arith, taken-inside _ _ _ _ (p .0) (p .1) _ _ _ _ _ _ _ f)
 
 part-say-refused-event-start : tie.Need-part-say-refused-event-start
-part-say-refused-event-start c = omega (arith, taken-inside _ _ _ _ (c .before .before .before .before .before .before .before .before .before .before .before .before .before .before .before .before .before .before .before .before .pre .1 .1 .0) (c .before .before .before .before .before .before .before .before .before .before .before .before .before .before .before .before .before .before .before .before .pre .1 .1 .1) _ _ _ _ _ _ _ (c .before .before .before .before .before .before .before .before .before .before .before .before .before .feed-buffer .ensures .0))
+part-say-refused-event-start c =
+    let c5 = c .before .before .before .before .before in
+    let c10 = c5 .before .before .before .before .before in
+    let c15 = c10 .before .before .before .before .before in
+    let p = c15 .before .before .before .before .before .pre .1 .1 in
+    let f = c10 .before .before .before .feed-buffer .ensures .0 in
+    omega (arith, taken-inside _ _ _ _ (p .0) (p .1) _ _ _ _ _ _ _ f)
 
 part-say-refused-event-end : tie.Need-part-say-refused-event-end
-part-say-refused-event-end c = omega (arith, c .before .before .before .before .before .before .before .before .before .before .before .before .before .before .before .before .before .before .before .before .pre .1 .1 .1, taken-inside _ _ _ _ (c .before .before .before .before .before .before .before .before .before .before .before .before .before .before .before .before .before .before .before .before .pre .1 .1 .0) (c .before .before .before .before .before .before .before .before .before .before .before .before .before .before .before .before .before .before .before .before .pre .1 .1 .1) _ _ _ _ _ _ _ (c .before .before .before .before .before .before .before .before .before .before .before .before .before .feed-buffer .ensures .0))
+part-say-refused-event-end c =
+    let c5 = c .before .before .before .before .before in
+    let c10 = c5 .before .before .before .before .before in
+    let c15 = c10 .before .before .before .before .before in
+    let p = c15 .before .before .before .before .before .pre .1 .1 in
+    let f = c10 .before .before .before .feed-buffer .ensures .0 in
+    omega (arith, p .1, taken-inside _ _ _ _ (p .0) (p .1) _ _ _ _ _ _ _ f)
 
 returns-2 : tie.Need-returns-2
-returns-2 c = (taken-few _ _ _ _ (c .before .before .before .before .before .before .before .before .before .before .before .before .before .before .before .before .before .before .before .pre .1 .1 .0) (c .before .before .before .before .before .before .before .before .before .before .before .before .before .before .before .before .before .before .before .pre .1 .1 .1) _ _ _ _ _ _ _ (c .before .before .before .before .before .before .before .before .before .before .before .before .feed-buffer .ensures .0), c .before .before .before .before .before .before .before .before .before .before .before .before .feed-buffer .ensures .0 .good)
+returns-2 c =
+    let c5 = c .before .before .before .before .before in
+    let c10 = c5 .before .before .before .before .before in
+    let c15 = c10 .before .before .before .before .before in
+    let p = c15 .before .before .before .before .pre .1 .1 in
+    let f = c10 .before .before .feed-buffer .ensures .0 in
+    (taken-few _ _ _ _ (p .0) (p .1) _ _ _ _ _ _ _ f, f .good)
 
 pub take-events-spec : {M : Type 1} → statement M
 take-events-spec =
