@@ -1,11 +1,13 @@
 -- Laws of the buffers of a run. Assumes nothing.
-use mathlib.Core.Path.{_≡_, _∙_}
-use mathlib.Core.Bool.{Bool}
+use mathlib.Core.Path.{_≡_, refl, _∙_}
+use mathlib.Core.Bool.{Bool, true, false}
 use mathlib.Core.List.{List}
-use Prim.Native.Nat.{ℕ, _*_, _<_, _≤_}
+use Prim.Native.Nat.{ℕ, _+_, _*_, _<_, _≤_}
 use native.Mathlib.Omega.{arith}
-use lib.ListN.{length, take}
-use lib.Seq.{length-take-le}
+use borrow.Author.Tests.{ltb-true, ltb-false}
+use lib.Dec.{ltb}
+use lib.ListN.{length, take, getD, set, length-set}
+use lib.Seq.{length-take-le, getD-set-same, getD-set-other}
 use Rattle.paper.specs.declared.Shape.{Shape}
 use Rattle.paper.specs.declared.Verdict.{Verdict}
 use Rattle.disk.specs.Bytes.{Starts}
@@ -13,7 +15,7 @@ use Rattle.disk.specs.declared.Start.{Start}
 use Rattle.disk.proofs.Bytes.{started-end, started-full}
 use Rattle.files.specs.PlanFiles.{enough}
 use Rattle.runner_events.specs.Buffers.{event-bytes, Feeds, Buffered}
-use Rattle.runner_files.specs.Turns.{most-events, Buffers, Holds, Tooks, Turns, LoadedPlan}
+use Rattle.runner_files.specs.Turns.{most-events, Buffers, Holds, Moved, Tooks, Turns, LoadedPlan}
 use Rattle.runner_files.specs.declared.events.Held.{Held}
 use Rattle.runner_files.specs.declared.events.Took.{Took}
 use Rattle.runner_files.specs.declared.events.Turn.{Turn}
@@ -64,3 +66,22 @@ module _ (r : Turn) (k kept : ℕ) (e : r ≡ Turn.On k kept) (h : Turns r) wher
 -- the start of a plan's file
 pub plan-loaded : (b : List ℕ) (r : Start) (n : ℕ) (odd : Bool) → length b ≡ enough → r ≡ Start.Bytes n odd → Starts b r → LoadedPlan b n odd
 plan-loaded b r n odd l e h = record { bytes = l; inside = started-end b r n odd e h; full = started-full b r n odd e h }
+
+-- bytes that are moved one after another
+pub none-moved : (o : List ℕ) (from : ℕ) → Moved o o from 0
+none-moved o from = record { long = refl; moved = λ j h. absurd (omega arith); kept = λ j h. refl }
+
+module _ (o b : List ℕ) (from k : ℕ) (h : k < length b) (m : Moved o b from k) where
+  pub one-moved : Moved o (set b k (getD b (from + k) 0)) from (k + 1)
+  one-moved =
+      record {
+        long = length-set b k _ ∙ m .long;
+        moved = λ j l. by-place j (ltb j k) refl l;
+        kept = λ j l. getD-set-other b k j _ 0 (λ e. absurd (omega arith)) ∙ m .kept j (omega arith);
+      }
+    where
+      by-place : (j : ℕ) (t : Bool) → ltb j k ≡ t → j < k + 1 → getD (set b k (getD b (from + k) 0)) j 0 ≡ getD o (from + j) 0
+      by-place j true e l = getD-set-other b k j _ 0 (λ q. absurd (omega (arith, ltb-true j k e))) ∙ m .moved j (ltb-true j k e)
+      by-place j false e l =
+          let q : j ≡ k = omega (arith, ltb-false j k e) in
+          rw q (getD-set-same b k _ 0 h ∙ m .kept (from + k) (omega arith))

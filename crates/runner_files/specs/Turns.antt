@@ -3,7 +3,7 @@ use mathlib.Core.Path.{_≡_}
 use mathlib.Core.Bool.{Bool, true}
 use mathlib.Core.List.{List}
 use Prim.Native.Nat.{ℕ, _+_, _*_, _<_, _≤_}
-use lib.ListN.{length}
+use lib.ListN.{length, getD}
 use Rattle.files.specs.PlanFiles.{enough}
 use Rattle.runner_lines.specs.Lines.{most-line}
 use Rattle.runner_events.specs.Buffers.{event-bytes, number-end}
@@ -26,6 +26,12 @@ abbrev pub Holds : ℕ → Held → Type 0
 Holds most (Held.Bytes k) = k ≤ most
 Holds most (Held.Last k) = k ≤ most
 Holds most Held.Nothing = Unit {0}
+
+-- so many bytes from a place on are moved to the start of a buffer, and the bytes past them stay
+pub record Moved (before after : List ℕ) (from count : ℕ) : Type 0 where
+  pub long : length after ≡ length before
+  pub moved : (j : ℕ) → j < count → getD after j 0 ≡ getD before (from + j) 0
+  pub kept : (j : ℕ) → count ≤ j → getD after j 0 ≡ getD before j 0
 
 -- no more events are taken than are read at a time
 abbrev pub Tooks : Took → Type 0

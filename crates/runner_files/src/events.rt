@@ -4,7 +4,7 @@ ghost use Prim.Native.Nat.{_+_, _≤_};
 ghost use lib.ListN.{length};
 ghost use Rattle.laws.specs.Events.{Lawful};
 ghost use Rattle.order_table.specs.Entries.{OrderTable};
-ghost use Rattle.runner_files.specs.Turns.{Holds, Tooks, Turns, Buffers};
+ghost use Rattle.runner_files.specs.Turns.{Holds, Moved, Tooks, Turns, Buffers};
 use causes::EventCause;
 use causes::event_cause;
 use disk::Outcome;
@@ -81,7 +81,7 @@ fn read_more(path: &[u8], fd: i32, buffer: &mut [u8], kept: usize) -> Held
 // Moves the bytes from one place to another to the start of a buffer, and answers how many they are.
 fn keep(buffer: &mut [u8], from: usize, to: usize) -> usize
     requires { ⌜ (from ≤ to) × (to ≤ length (now buffer)) ⌝ }
-    ensures { λ r. ⌜ from + r ≡ to ⌝ }
+    ensures { λ r. ⌜ (from + r ≡ to) × Moved (now (buffer .entry)) (now (buffer .exit)) from r ⌝ }
 {
     let mut k: usize = 0;
     while k < to - from {
