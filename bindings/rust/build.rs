@@ -3,7 +3,7 @@
 use std::env;
 use std::path::{Path, PathBuf};
 
-/// The environment variable that names the archive, from the file system's root on.
+/// The environment variable that names the archive by an absolute path; empty is as good as not set.
 const NAMED: &str = "KERNEL_ARCHIVE";
 
 /// Where the archive is made, from this package on.
@@ -11,7 +11,8 @@ const MADE: &str = "../../target/library/libkernel_c.a";
 
 fn main() {
     println!("cargo:rerun-if-env-changed={NAMED}");
-    let named = env::var_os(NAMED).map_or_else(|| PathBuf::from(MADE), PathBuf::from);
+    let named = env::var_os(NAMED).filter(|path| !path.is_empty());
+    let named = named.map_or_else(|| PathBuf::from(MADE), PathBuf::from);
     let archive = named.canonicalize().unwrap_or_else(|error| {
         panic!("no archive {}: make it with tools/archive, or set {NAMED} ({error})", named.display())
     });

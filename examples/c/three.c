@@ -88,7 +88,7 @@ static void put_out(size_t words, uint16_t device)
     expect("kernel_event", kernel_event(image, words, KERNEL_OUTPUT_DONE, device, 0).number);
 }
 
-/* Prints how a task stands: of one that waits for another, for which, and of a stopped one, where and why. */
+/* Prints how a task stands: of one that waits for another, for which, and of a stopped one, its R0 and why. */
 static void print_task(size_t words, uint16_t number)
 {
     struct kernel_task task = kernel_task(image, words, number);
@@ -101,7 +101,7 @@ static void print_task(size_t words, uint16_t number)
     if (task.status == KERNEL_STATUS_WAITS_TO_RECEIVE)
         printf(" from task %u", (unsigned)task.peer);
     if (task.status == KERNEL_STATUS_STOPPED)
-        printf(" at address %u: %s", (unsigned)next.word, kernel_error_text(task.error));
+        printf(", R0 = %u: %s", (unsigned)next.word, kernel_error_text(task.error));
     printf("\n");
 }
 

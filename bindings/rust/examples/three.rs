@@ -71,14 +71,14 @@ fn put_out(image: &mut [u16], device: u16) -> Result<(), Refusal> {
     Ok(())
 }
 
-/// How a task stands: of one that waits for another, for which, and of a stopped one, where and why.
+/// How a task stands: of one that waits for another, for which, and of a stopped one, its R0 and why.
 fn standing(image: &[u16], number: u16) -> Result<String, Box<dyn Error>> {
     let task = kernel::task(image, number)?.ok_or("no such task")?;
     let next = kernel::register(image, number, 0)?.ok_or("no such register")?;
     Ok(match (task.status, task.peer, task.error) {
         (Status::WaitsToSend, Some(peer), _) => format!("{} to task {peer}", task.status),
         (Status::WaitsToReceive, Some(peer), _) => format!("{} from task {peer}", task.status),
-        (Status::Stopped, _, Some(error)) => format!("{} at address {next}: {error}", task.status),
+        (Status::Stopped, _, Some(error)) => format!("{}, R0 = {next}: {error}", task.status),
         _ => task.status.to_string(),
     })
 }

@@ -106,11 +106,23 @@ pub const MOST_WORDS: usize = 32768;
 /// The registers of a task.
 pub const REGISTERS: u16 = 8;
 
-/// Where an image that passes the check has the number of its tasks.
+/// Where an image that passes the check has its edition.
+pub const AT_EDITION: usize = 1;
+
+/// Where it has the number of its tasks.
 pub const AT_TASKS: usize = 2;
 
 /// Where it has the slice.
 pub const AT_SLICE: usize = 3;
+
+/// Where it has the capacity of input buffers.
+pub const AT_INPUT_CAPACITY: usize = 4;
+
+/// Where it has the capacity of output buffers.
+pub const AT_OUTPUT_CAPACITY: usize = 5;
+
+/// Where it has the capacity of message buffers.
+pub const AT_MESSAGE_CAPACITY: usize = 6;
 
 /// Where it has the place of its segment table: for each task in turn the place of its segment's first word, and how
 /// many words it has.

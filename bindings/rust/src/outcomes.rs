@@ -34,7 +34,7 @@ pub struct Stopped {
 
 impl fmt::Display for Stopped {
     fn fmt(&self, to: &mut fmt::Formatter<'_>) -> fmt::Result {
-        write!(to, "refused after {} events: {}", self.taken, self.refusal)
+        write!(to, "events taken: {}, the next refused: {}", self.taken, self.refusal)
     }
 }
 

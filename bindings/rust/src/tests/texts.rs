@@ -65,8 +65,12 @@ fn the_header_has_the_same_limits() {
     is("KERNEL_MOST_TASKS", crate::MOST_TASKS.into());
     is("KERNEL_MOST_WORDS", crate::MOST_WORDS);
     is("KERNEL_REGISTERS", crate::REGISTERS.into());
+    is("KERNEL_AT_EDITION", crate::AT_EDITION);
     is("KERNEL_AT_TASKS", crate::AT_TASKS);
     is("KERNEL_AT_SLICE", crate::AT_SLICE);
+    is("KERNEL_AT_INPUT_CAPACITY", crate::AT_INPUT_CAPACITY);
+    is("KERNEL_AT_OUTPUT_CAPACITY", crate::AT_OUTPUT_CAPACITY);
+    is("KERNEL_AT_MESSAGE_CAPACITY", crate::AT_MESSAGE_CAPACITY);
     is("KERNEL_AT_SEGMENTS", crate::AT_SEGMENTS);
     is("KERNEL_AT_CLOCK", crate::AT_CLOCK);
     is("KERNEL_MOST_NAMES", crate::MOST_NAMES);
@@ -91,7 +95,7 @@ fn errors_say_what_happened_and_why() {
     let stopped = Stopped { taken: 10, refusal };
     let untranslated = Untranslated { refusal: Refusal::NameFault, text: Text::Script };
     assert_eq!(refusal.to_string(), "output done on an idle port");
-    assert_eq!(stopped.to_string(), "refused after 10 events: output done on an idle port");
+    assert_eq!(stopped.to_string(), "events taken: 10, the next refused: output done on an idle port");
     assert_eq!(untranslated.to_string(), "script: a name given twice or not at all");
     is_error(refusal);
     is_error(stopped);
