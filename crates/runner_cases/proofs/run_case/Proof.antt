@@ -17,5 +17,5 @@ run-case-spec =
     (tie.spec
     (λ c κs. search needs) (λ c. search needs) (λ c κs. search needs) (λ c. search needs) (λ c. search needs)
     (λ c κs. search needs) (λ c. search needs) (λ c. search needs) (λ c κs. search needs) (λ c. search needs)
-    slice-aggregate-run-files (λ c. search needs) slice-aggregate-run-files-2 (λ c κs. search needs)
-    (λ c. search needs))
+    slice-aggregate-run-files (λ c. search needs) slice-aggregate-run-files-2 (λ c. search needs)
+    (λ c. search needs) (λ c κs. search needs) (λ c. search needs))
