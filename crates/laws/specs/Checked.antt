@@ -314,6 +314,7 @@ number-some Refusal.PortIdle = omega arith
 number-some Refusal.ReadyFull = omega arith
 number-some Refusal.BadPlan = omega arith
 number-some Refusal.WrongTarget = omega arith
+number-some Refusal.CountFull = omega arith
 
 -- a refusal is not fine
 pub never-fine : (r : Refusal) → Verdict.Refused r ≡ Verdict.Fine → ⊥

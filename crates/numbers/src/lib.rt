@@ -23,6 +23,7 @@ pub fn number_of(r: Refusal) -> u16
         Refusal::ReadyFull => 10,
         Refusal::BadPlan => 11,
         Refusal::WrongTarget => 12,
+        Refusal::CountFull => 17,
     }
 }
 

@@ -11,5 +11,6 @@ pub mod Plans
 pub mod Tests
 pub mod Numbers
 pub mod Calls
+pub mod Counts
 pub mod Runner
 pub mod Promises

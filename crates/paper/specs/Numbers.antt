@@ -28,6 +28,7 @@ number Refusal.PortIdle = 9
 number Refusal.ReadyFull = 10
 number Refusal.BadPlan = 11
 number Refusal.WrongTarget = 12
+number Refusal.CountFull = 17
 
 -- a check or a build that succeeds returns 0
 abbrev pub verdict-number : Verdict → ℕ

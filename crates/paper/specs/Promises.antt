@@ -4,8 +4,10 @@ use mathlib.Core.List.{List}
 use Prim.Native.Nat.{ℕ}
 use Rattle.paper.specs.Numbers.{verdict-number, reply-number, reply-values, check, check-build}
 use Rattle.paper.specs.Calls.{plan-size, size-number, size-value, built, event, run}
+use Rattle.paper.specs.Counts.{report, share}
 use Rattle.paper.specs.declared.Ended.{Ended}
 use Rattle.paper.specs.declared.Reply.{Reply}
+use Rattle.paper.specs.declared.Share.{Share}
 use Rattle.paper.specs.declared.Size.{Size}
 
 -- checking an image
@@ -36,3 +38,15 @@ pub record Runs (image events : List ℕ) (answer : Ended) (after : List ℕ) : 
   pub stopped : answer .stop ≡ run image events .stop
   pub numbered : verdict-number (answer .stop) ≡ verdict-number (run image events .stop)
   pub left : after ≡ run image events .image
+
+-- a run that counts
+pub record Reports (image events counts : List ℕ) (answer : Ended) (after more : List ℕ) : Type 0 where
+  pub counted : answer .taken ≡ report image events counts .taken
+  pub stopped : answer .stop ≡ report image events counts .stop
+  pub numbered : verdict-number (answer .stop) ≡ verdict-number (report image events counts .stop)
+  pub left : after ≡ report image events counts .image
+  pub tallied : more ≡ report image events counts .counts
+
+-- a task's share of all ticks
+pub record Shares (counts : List ℕ) (task : ℕ) (answer : Share) : Type 0 where
+  pub answered : answer ≡ share counts task

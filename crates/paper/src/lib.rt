@@ -328,6 +328,7 @@ pub enum Refusal {
     ReadyFull,
     BadPlan,
     WrongTarget,
+    CountFull,
 }
 
 // What a check or a build comes to.
@@ -355,6 +356,38 @@ pub enum Reply {
 pub struct Ended {
     pub taken: usize,
     pub stop: Verdict,
+}
+
+// What a task's ticks are counted under, in the order of its row of counts.
+pub enum Heading {
+    Orders,
+    Services,
+    Waits,
+    Faults,
+    ErrorStops,
+    PassedTurns,
+}
+
+// Where an answer is counted: nowhere, among the idle ticks of the whole, under a heading of a task.
+pub enum Tally {
+    Nowhere,
+    Idle,
+    Under(Task, Heading),
+}
+
+// How many headings a task has; the counts: the rows of sixteen tasks, then the idle ticks; what a count ends at.
+pub const HEADINGS: usize = 6;
+
+pub const IDLE_COUNT: usize = 96;
+
+pub const COUNTS: usize = 97;
+
+pub const MOST_COUNT: u32 = 4294967295;
+
+// A task's share of all ticks, or the word that none were counted.
+pub enum Share {
+    Of(f64),
+    NoTicks,
 }
 
 // The orders of the order code, and any other op.

@@ -52,6 +52,7 @@ number-small Refusal.PortIdle = omega arith
 number-small Refusal.ReadyFull = omega arith
 number-small Refusal.BadPlan = omega arith
 number-small Refusal.WrongTarget = omega arith
+number-small Refusal.CountFull = omega arith
 
 pub kind-short : (a : Answer) (k : ℕ) → k ≡ kind a → length (decimal k) ≡ 1
 kind-short a k e = rw e (one-long (kind a) (kind-small a))

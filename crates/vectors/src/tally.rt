@@ -8,10 +8,10 @@ use libc::STDOUT_FILENO;
 pub const NOT_THERE: u16 = 65535;
 
 // An expected number is less than this, but for that of what is not there.
-const NUMBERS: usize = 17;
+const NUMBERS: usize = 18;
 
 // How many counts of cases there are: one for each number, and one for what is not there.
-const COUNTS: usize = 18;
+const COUNTS: usize = 19;
 
 // How many numbers a check may give.
 pub const CHECK_COUNT: usize = 7;
