@@ -1,9 +1,10 @@
 -- The part of an image that is lent: from the first task's row on. Orders in a row there are ticks. Assumes nothing.
 use mathlib.Core.Path.{_≡_, sym, ap, _∙_}
 use mathlib.Core.List.{List, _++_, append-nil}
-use mathlib.Core.Bool.{false, cond}
-use Prim.Native.Nat.{ℕ, suc, _+_, _-_, _<_, _≤_}
+use mathlib.Core.Bool.{Bool, false, cond}
+use Prim.Native.Nat.{ℕ, zero, suc, _+_, _-_, _<_, _≤_}
 use native.Mathlib.Omega.{arith}
+use borrow.Author.Tests.{eq-eqb}
 use lib.Dec.{eqb}
 use lib.ListN.{length, getD, take, drop, take-append-drop, length-drop, drop-of-length-le}
 use lib.Seq.{length-take-le, take-all}
@@ -12,11 +13,14 @@ use Rattle.paper.specs.Queues.{first, empty}
 use Rattle.paper.specs.Flags.{error-of}
 use Rattle.paper.specs.Machines.{Machine, Lies, lies, own}
 use Rattle.paper.specs.Orders.{after, order, order-answer}
+use Rattle.paper.specs.Events.{tick}
+use Rattle.paper.specs.Counts.{count-place, grown}
 use Rattle.paper.specs.declared.Task.{Task}
 use Rattle.paper.specs.declared.Place.{Place}
 use Rattle.paper.specs.declared.Shape.{Shape}
 use Rattle.paper.specs.declared.Part.{Part}
 use Rattle.paper.specs.declared.Queue.{Queue}
+use Rattle.paper.specs.declared.Heading.{Heading}
 use Rattle.paper.specs.declared.Answer.{Answer}
 use Rattle.paper.specs.declared.Reply.{Reply}
 use Rattle.own.specs.Machines.{past-others}
@@ -30,7 +34,11 @@ use Rattle.machine.specs.RowLength.{row-some, row-few, row-quiet}
 use Rattle.ticks.specs.Seated.{Sits, Seated, First, part-of}
 use Rattle.ticks.proofs.Row.{row-part, row-flags, in-a-row, row-sound, row-table}
 use Rattle.ticks.proofs.Ticked.{ticks-row, row-told, past-clock, row-held, row-leads}
+use Rattle.ticks.proofs.Tallying.{last-counted}
+use Rattle.ticks.specs.Ticks.{ticked}
 use Rattle.ticks.specs.Told.{by-flags, Told}
+use Rattle.ticks.specs.Tallied.{counted-by, tallied, RowCounted}
+use Rattle.counting.specs.Growing.{grown-none, grown-twice}
 use Rattle.ticks.specs.declared.Seat.{Seat}
 
 -- a list with other words from a place on
@@ -177,3 +185,31 @@ module _ (s : Shape) (im : List ℕ) (x : Seat) (h : Sound s im) (f : First s im
           rw is (ticks-row s im t h (sits .rowed .known) some named c ec n (omega (arith, orders-few)) calm),
           rw same (row-told s im t h (sits .rowed .known) some named c ec k (omega (arith, orders-few)) (λ j hj. calm j (omega arith)) ∙ ap Reply.Accepted (row-answer k (calm k (omega arith)))),
         )
+
+    -- each but the last is done
+    row-done : most ≤ c → (k : ℕ) → suc k < n → tick s (ticked s im k) .reply ≡ Reply.Accepted (Answer.OrderDone t)
+    row-done within k hk =
+        let none : error-of (at s (in-a-row s im t (suc k)) (flags t)) ≡ 0 = omega (arith, calm (suc k) hk) in
+        row-told s im t h (sits .rowed .known) some named c ec k (omega (arith, orders-few)) (λ j hj. calm j (omega arith)) ∙
+        ap Reply.Accepted (row-answer k (calm k (omega arith)) ∙ ap (λ (b : Bool). cond b (Answer.OrderDone t) (Answer.OrderFaulted t)) (eq-eqb _ 0 none))
+
+    row-grown : most ≤ c → (counts : List ℕ) (k : ℕ) → k < n → tallied s im k counts ≡ grown counts (count-place t Heading.Orders) k
+    unfolding tallied
+    row-grown within counts zero hk = sym (grown-none counts (count-place t Heading.Orders))
+    row-grown within counts (suc k) hk =
+        let e : k + 1 ≡ suc k = omega arith in
+        ap (counted-by (tallied s im k counts)) (row-done within k hk) ∙
+        ap (λ (l : List ℕ). grown l (count-place t Heading.Orders) 1) (row-grown within counts k (omega arith)) ∙
+        grown-twice counts (count-place t Heading.Orders) k 1 ∙ ap (grown counts (count-place t Heading.Orders)) e
+
+    -- so a row is counted as orders, the last as its reply says
+    pub row-counted : 0 < most → most ≤ c → (p out : List ℕ) → p ≡ part-after (x .segment) (part-of r im) n → out ≡ put s (with-part r im p) clock (c - n)
+        → RowCounted s im n t (at s out (flags t))
+    unfolding Told RowCounted tallied
+    row-counted some-order within p out ep eo counts =
+        let told = orders-told some-order within p out ep eo in
+        let some-taken : 0 < n = told .0 in
+        let e : n ≡ suc (n - 1) = omega arith in
+        ap (λ (j : ℕ). tallied s im j counts) e ∙ ap (counted-by (tallied s im (n - 1) counts)) (told .2) ∙
+        ap (λ (l : List ℕ). counted-by l (by-flags (at s out (flags t)) t)) (row-grown within counts (n - 1) (omega arith)) ∙
+        last-counted counts t n (at s out (flags t)) some-taken

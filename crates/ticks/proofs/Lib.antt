@@ -3,3 +3,4 @@ mod Needs
 mod Row
 mod Ticked
 mod Telling
+pub mod Tallying

@@ -13,11 +13,13 @@ use Rattle.paper.specs.Flags.{error-of}
 use Rattle.paper.specs.Waking.{outcome, accepted}
 use Rattle.paper.specs.Rules.{Fit, Flagged}
 use Rattle.paper.specs.Events.{turned, turn-of, tick}
+use Rattle.paper.specs.Counts.{count-place, grown}
 use Rattle.paper.specs.declared.Task.{Task}
 use Rattle.paper.specs.declared.Place.{Place}
 use Rattle.paper.specs.declared.Shape.{Shape}
 use Rattle.paper.specs.declared.Part.{Part}
 use Rattle.paper.specs.declared.Queue.{Queue}
+use Rattle.paper.specs.declared.Heading.{Heading}
 use Rattle.paper.specs.declared.Answer.{Answer}
 use Rattle.paper.specs.declared.Refusal.{Refusal}
 use Rattle.paper.specs.declared.Reply.{Reply}
@@ -34,6 +36,8 @@ use Rattle.machine.specs.RowLength.{row-few}
 use Rattle.effects.specs.declared.Segment.{Segment}
 use Rattle.ticks.specs.Seated.{Seated, First, FirstIf, part-of}
 use Rattle.ticks.specs.Told.{by-flags, reply-of, stays-of, one-gone, gone, Told, AtMost}
+use Rattle.ticks.specs.Tallied.{counted-by, Within, tallied}
+use Rattle.ticks.proofs.Tallying.{tick-within, tallied-one}
 use Rattle.ticks.proofs.Telling.{told-one, told-none}
 use Rattle.ticks.specs.declared.Came.{Came}
 use Rattle.ticks.specs.declared.Gone.{Gone}
@@ -126,6 +130,13 @@ module _ (s : Shape) (im : List ℕ) (x : Seat) (f : First s im x) where
     unfolding one-gone
     some-gone a q = rw (← reply-is, q)
 
+    -- it is counted
+    pub rule-within : Lawful s im → Within r
+    rule-within h = rw reply-is (tick-within s im h)
+
+    pub rule-counted : (counts more : List ℕ) → more ≡ counted-by counts r → more ≡ tallied s im 1 counts
+    rule-counted counts more em = em ∙ ap (counted-by counts) reply-is ∙ tallied-one s im counts
+
     -- it leaves the first task first where its reply tells so
     pub rule-stays : Lawful s im → (a : Answer) → r ≡ Reply.Accepted a → FirstIf (stays-of (Came.Replied r)) s out x
     unfolding stays-of FirstIf First Seated
@@ -165,6 +176,10 @@ module _ (s : Shape) (im : List ℕ) (x : Seat) (f : First s im x) where
     pub turn-told : (out : List ℕ) → out ≡ turned s im (x .row .task) → Told s im 1 (reply-of s out x (Came.Replied (Reply.Accepted (Answer.TurnPassed (x .row .task))))) out
     unfolding reply-of
     turn-told out eo = told-one s im out (Reply.Accepted (Answer.TurnPassed (x .row .task))) (rw turn-is) (rw turn-is eo) _ refl
+
+    pub turn-counted : (counts more : List ℕ) (k : ℕ) → k ≡ count-place (x .row .task) Heading.PassedTurns → more ≡ grown counts k 1 → more ≡ tallied s im 1 counts
+    turn-counted counts more k ek em =
+        em ∙ ap (λ (j : ℕ). grown counts j 1) ek ∙ ap (λ o. counted-by counts (o .reply)) (sym turn-is) ∙ tallied-one s im counts
 
     pub turn-gone : (most : ℕ) → record { taken = 1; came = Came.Replied (Reply.Accepted (Answer.TurnPassed (x .row .task))) } ≡ gone s im x most
     unfolding gone one-gone

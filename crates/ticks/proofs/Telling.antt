@@ -10,6 +10,7 @@ use lib.Dec.{eqb, leb}
 use Rattle.paper.specs.Image.{at, clock, flags}
 use Rattle.paper.specs.Queues.{empty}
 use Rattle.paper.specs.Events.{tick, happening}
+use Rattle.paper.specs.Counts.{grown}
 use Rattle.paper.specs.declared.Shape.{Shape}
 use Rattle.paper.specs.declared.Queue.{Queue}
 use Rattle.paper.specs.declared.Event.{Event}
@@ -25,6 +26,8 @@ use Rattle.ticks.specs.declared.Gone.{Gone}
 use Rattle.ticks.specs.declared.Seat.{Seat}
 use Rattle.ticks.specs.Ticks.{Taken, Ticks}
 use Rattle.ticks.proofs.Ticked.{ticks-none, ticked-last, one-tick, ticks-joined, idle-tick, ticks-idle, ticks-lawful}
+use Rattle.ticks.specs.Tallied.{tallied}
+use Rattle.ticks.proofs.Tallying.{now-more, idle-counted}
 use Rattle.ticks.specs.Told.{AsMany, AtMost, Passes, Told, gone, one-gone, replied, reply-of, stays-of, taken-by}
 
 -- what is told of is ticks
@@ -32,6 +35,11 @@ told-ticks : (s : Shape) (im out : List ℕ) (n : ℕ) (r : Reply) → Told s im
 unfolding Told
 told-ticks s im out n (Reply.Accepted a) t = t .1
 told-ticks s im out n (Reply.Refused f) t = t .0
+
+-- of one at least where the last is accepted
+pub told-some : (s : Shape) (im out : List ℕ) (n : ℕ) (a : Answer) → Told s im n (Reply.Accepted a) out → 0 < n
+unfolding Told
+told-some s im out n a t = t .0
 
 -- and a good image stays good
 pub told-lawful : (s : Shape) (im out : List ℕ) (n : ℕ) (r : Reply) → Lawful s im → Told s im n r out → Lawful s out
@@ -156,6 +164,11 @@ module _ (s : Shape) (im m : List ℕ) (most n : ℕ) (r : Reply) (x : Seat) (g 
   unfolding Goes
   goes-first = g .leads
 
+  -- more are counted
+  pub goes-more : (start counts more : List ℕ) (k : ℕ) → counts ≡ tallied s im n start → more ≡ tallied s m k counts → more ≡ tallied s im (n + k) start
+  unfolding Goes
+  goes-more start counts more k e em = now-more s im n start counts e m more k (g .ticks) em
+
   -- all have passed
   pub goes-all : 0 < most → most ≤ n → Passes s im most n r m
   unfolding Goes Passes
@@ -213,3 +226,11 @@ module _ (s : Shape) (im m : List ℕ) (most n : ℕ) (r : Reply) (x : Seat) (g 
         → (j ≡ most) × (last ≡ Reply.Accepted Answer.Idle) → Passes s im most j last out
     next-idle low b eb z j last i =
         passes-idle s im out b eb z most j last i (n + k) (told-ticks s im out (n + k) q then-told) low
+
+    -- and the idle ones are counted
+    pub idle-more : n + k < most → (b : Bool) → b ≡ empty s out Queue.Ready → b ≡ true → (start counts more : List ℕ) → counts ≡ tallied s im (n + k) start
+        → more ≡ grown counts 96 (most - (n + k)) → (j : ℕ) → j ≡ most → more ≡ tallied s im j start
+    idle-more low b eb z start counts more e em j ej =
+        let all : j ≡ n + k + (most - (n + k)) = omega arith in
+        now-more s im (n + k) start counts e out more (most - (n + k)) (told-ticks s im out (n + k) q then-told) (idle-counted s out b eb z counts more _ _ refl em) ∙
+        ap (λ (i : ℕ). tallied s im i start) (sym all)

@@ -30,7 +30,7 @@ use Rattle.ticks.proofs.Row.{in-a-row, row-sound, row-empty, row-first}
 use Rattle.ticks.specs.Ticks.{Taken, Ticks, ticked}
 
 -- ticks after ticks
-ticked-joined : (s : Shape) (im : List ℕ) (n k : ℕ) → ticked s im (n + k) ≡ ticked s (ticked s im n) k
+pub ticked-joined : (s : Shape) (im : List ℕ) (n k : ℕ) → ticked s im (n + k) ≡ ticked s (ticked s im n) k
 ticked-joined s im n zero =
     let e : n + 0 ≡ n = omega arith in
     ap (ticked s im) e

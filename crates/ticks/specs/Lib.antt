@@ -1,3 +1,4 @@
 pub mod Seated
 pub mod Ticks
 pub mod Told
+pub mod Tallied

@@ -12,7 +12,12 @@ ghost use Rattle.order_table.specs.Entries.{OrderTable};
 ghost use Rattle.machine.specs.InRow.{row-length};
 ghost use Rattle.ticks.specs.Seated.{First, FirstIf, part-of};
 ghost use Rattle.words.specs.Spots.{Rowed};
+ghost use Rattle.paper.specs.Counts.{grown};
+ghost use Rattle.counting.specs.Room.{Room};
+ghost use Rattle.ticks.specs.Tallied.{counted-by, Within, tallied, orders-counted, faulted-by, RowCounted, Ledger};
 ghost use Rattle.ticks.specs.Told.{by-flags, reply-of, stays-of, one-gone, gone, Told, AtMost, Passes};
+use counting::add;
+use counting::place_of;
 use effects::Segment;
 use events::before_order;
 use events::turn;
@@ -22,6 +27,8 @@ use paper::BASE;
 use paper::ERROR;
 use paper::FLAGS;
 use paper::HIGH_BYTES;
+use paper::Heading;
+use paper::IDLE_COUNT;
 use paper::LENGTH;
 use paper::NO_ERROR;
 use paper::Queue;
@@ -108,6 +115,7 @@ fn run_orders(
     requires { ⌜ (0 < clock) × (0 < most) ⌝ }
     ensures { λ r. ⌜ r ≡ row-length (x .segment) (part-of (x .row .place .0) (now (im .entry))) (min most clock) ⌝ }
     ensures { λ r. ⌜ Told s (now (im .entry)) r (by-flags (word-at s (now (im .exit)) (flags-cell (x .row .task))) (x .row .task)) (now (im .exit)) ⌝ }
+    ensures { λ r. ⌜ RowCounted s (now (im .entry)) r (x .row .task) (word-at s (now (im .exit)) (flags-cell (x .row .task))) ⌝ }
     ensures { λ _. ⌜ First s (now (im .exit)) x ⌝ }
 {
     let ticks = least(most, clock);
@@ -144,13 +152,83 @@ fn stays(c: Came) -> bool
     }
 }
 
+// A count grows by n, where there are counts.
+fn note(counts: &mut [u32], k: usize, n: usize)
+    requires { ⌜ Ledger (now counts) ⌝ }
+    requires { ⌜ k < 97 ⌝ }
+    requires { ⌜ Room (now counts) n ⌝ }
+    ensures { λ _. ⌜ now (counts .exit) ≡ grown (now (counts .entry)) k n ⌝ }
+{
+    if counts.len() != 0 {
+        add(counts, k, n);
+    }
+}
+
+// Counts orders of a task in a row, the last of which may have faulted.
+fn count_orders(counts: &mut [u32], t: Task, n: usize, faulted: bool)
+    requires { ⌜ Ledger (now counts) ⌝ }
+    requires { ⌜ t .0 < 16 ⌝ }
+    requires { ⌜ Room (now counts) n ⌝ }
+    requires { ⌜ 0 < n ⌝ }
+    ensures { λ _. ⌜ now (counts .exit) ≡ orders-counted (now (counts .entry)) t n faulted ⌝ }
+{
+    if faulted {
+        note(counts, place_of(t, Heading::Orders), n - 1);
+        note(counts, place_of(t, Heading::Faults), 1);
+        return;
+    }
+    note(counts, place_of(t, Heading::Orders), n);
+}
+
+// The same, as the task's flags tell it; without counts they are not looked at.
+fn count_row(s: Shape, im: &[u16], counts: &mut [u32], x: Seat, n: usize)
+    requires { ⌜ Lawful s (now im) ⌝ }
+    requires { ⌜ Rowed s (x .row) ⌝ }
+    requires { ⌜ Ledger (now counts) ⌝ }
+    requires { ⌜ Room (now counts) n ⌝ }
+    requires { ⌜ 0 < n ⌝ }
+    ensures { λ _. ⌜ now (counts .exit) ≡ orders-counted (now (counts .entry)) (x .row .task) n (faulted-by (word-at s (now (im .entry)) (flags-cell (x .row .task)))) ⌝ }
+{
+    if counts.len() != 0 {
+        let flags = own(s, im, x.row, FLAGS);
+        count_orders(counts, x.row.task, n, error_of(flags) != NO_ERROR);
+    }
+}
+
+// Counts a reply, where there are counts.
+fn count_reply(counts: &mut [u32], r: Reply)
+    requires { ⌜ Ledger (now counts) ⌝ }
+    requires { ⌜ Within r ⌝ }
+    requires { ⌜ Room (now counts) 1 ⌝ }
+    ensures { λ _. ⌜ now (counts .exit) ≡ counted-by (now (counts .entry)) r ⌝ }
+{
+    match r {
+        Reply::Accepted(a) => match a {
+            Answer::Idle => note(counts, IDLE_COUNT, 1),
+            Answer::ErrorStop(t) => note(counts, place_of(t, Heading::ErrorStops), 1),
+            Answer::TurnPassed(t) => note(counts, place_of(t, Heading::PassedTurns), 1),
+            Answer::ServiceDone(t) => note(counts, place_of(t, Heading::Services), 1),
+            Answer::ServiceWaits(t) => note(counts, place_of(t, Heading::Waits), 1),
+            Answer::ServiceFaulted(t) => note(counts, place_of(t, Heading::Faults), 1),
+            Answer::OrderDone(t) => note(counts, place_of(t, Heading::Orders), 1),
+            Answer::OrderFaulted(t) => note(counts, place_of(t, Heading::Faults), 1),
+            Answer::Input(_) => {}
+            Answer::OutputDone(_) => {}
+        },
+        Reply::Refused(_) => {}
+    }
+}
+
 // A tick by a rule that comes before an order: the flags have an error or a service pending.
-fn rule(s: Shape, im: &mut [u16], x: Seat, flags: u16, clock: u16) -> Gone
+fn rule(s: Shape, im: &mut [u16], counts: &mut [u32], x: Seat, flags: u16, clock: u16) -> Gone
     requires { ⌜ Lawful s (now im) ⌝ }
     requires { ⌜ First s (now im) x ⌝ }
     requires { ⌜ flags ≡ word-at s (now im) (flags-cell (x .row .task)) ⌝ }
     requires { ⌜ clock ≡ word-at s (now im) clock-cell ⌝ }
     requires { ⌜ 4 ≤ flags ⌝ }
+    requires { ⌜ Ledger (now counts) ⌝ }
+    requires { ⌜ Room (now counts) 1 ⌝ }
+    ensures { λ r. ⌜ now (counts .exit) ≡ tallied s (now (im .entry)) (r .taken) (now (counts .entry)) ⌝ }
     ensures { λ r. ⌜ r ≡ one-gone s (now (im .entry)) ⌝ }
     ensures { λ r. ⌜ AtMost 1 (r .taken) (reply-of s (now (im .exit)) x (r .came)) ⌝ }
     ensures { λ r. ⌜ Told s (now (im .entry)) (r .taken) (reply-of s (now (im .exit)) x (r .came)) (now (im .exit)) ⌝ }
@@ -163,6 +241,7 @@ fn rule(s: Shape, im: &mut [u16], x: Seat, flags: u16, clock: u16) -> Gone
             came: Came::Replied(last),
         };
     }
+    count_reply(counts, last);
     Gone {
         taken: 1,
         came: Came::Replied(last),
@@ -170,11 +249,21 @@ fn rule(s: Shape, im: &mut [u16], x: Seat, flags: u16, clock: u16) -> Gone
 }
 
 // One tick by the rules of the first task, or orders of it in a row.
-fn go_on(s: Shape, im: &mut [u16], table: &[u16; HIGH_BYTES], x: Seat, most: usize) -> Gone
+fn go_on(
+    s: Shape,
+    im: &mut [u16],
+    table: &[u16; HIGH_BYTES],
+    counts: &mut [u32],
+    x: Seat,
+    most: usize,
+) -> Gone
     requires { ⌜ Lawful s (now im) ⌝ }
     requires { ⌜ OrderTable (now table) ⌝ }
     requires { ⌜ First s (now im) x ⌝ }
     requires { ⌜ 0 < most ⌝ }
+    requires { ⌜ Ledger (now counts) ⌝ }
+    requires { ⌜ Room (now counts) most ⌝ }
+    ensures { λ r. ⌜ now (counts .exit) ≡ tallied s (now (im .entry)) (r .taken) (now (counts .entry)) ⌝ }
     ensures { λ r. ⌜ r ≡ gone s (now (im .entry)) x most ⌝ }
     ensures { λ r. ⌜ AtMost most (r .taken) (reply-of s (now (im .exit)) x (r .came)) ⌝ }
     ensures { λ r. ⌜ Told s (now (im .entry)) (r .taken) (reply-of s (now (im .exit)) x (r .came)) (now (im .exit)) ⌝ }
@@ -183,18 +272,21 @@ fn go_on(s: Shape, im: &mut [u16], table: &[u16; HIGH_BYTES], x: Seat, most: usi
     let flags = own(s, im, x.row, FLAGS);
     let clock = get(s, im, Spot::Clock);
     if ERROR <= flags {
-        return rule(s, im, x, flags, clock);
+        return rule(s, im, counts, x, flags, clock);
     }
     if clock == 0 {
         let t = x.row.task;
         turn(s, im, t);
+        note(counts, place_of(t, Heading::PassedTurns), 1);
         return Gone {
             taken: 1,
             came: Came::Replied(Reply::Accepted(Answer::TurnPassed(t))),
         };
     }
+    let taken = run_orders(s, im, table, x, clock, most);
+    count_row(s, im, counts, x, taken);
     Gone {
-        taken: run_orders(s, im, table, x, clock, most),
+        taken: taken,
         came: Came::Ordered,
     }
 }
@@ -221,22 +313,32 @@ fn idled(most: usize) -> Passed
     }
 }
 
-// At most so many ticks, up to one that is refused.
-pub fn ticks(s: Shape, im: &mut [u16], table: &[u16; HIGH_BYTES], most: usize) -> Passed
+// At most so many ticks, up to one that is refused; they are counted, where there are counts.
+pub fn ticks(
+    s: Shape,
+    im: &mut [u16],
+    table: &[u16; HIGH_BYTES],
+    counts: &mut [u32],
+    most: usize,
+) -> Passed
     requires { ⌜ Lawful s (now im) ⌝ }
     requires { ⌜ OrderTable (now table) ⌝ }
     requires { ⌜ 0 < most ⌝ }
+    requires { ⌜ Ledger (now counts) ⌝ }
+    requires { ⌜ Room (now counts) most ⌝ }
+    ensures { λ r. ⌜ now (counts .exit) ≡ tallied s (now (im .entry)) (r .taken) (now (counts .entry)) ⌝ }
     ensures { λ r. ⌜ Passes s (now (im .entry)) most (r .taken) (r .last) (now (im .exit)) ⌝ }
     ensures { λ _. ⌜ Lawful s (now (im .exit)) ⌝ }
 {
     if empty(s, im, Queue::Ready) {
+        note(counts, IDLE_COUNT, most);
         return idled(most);
     }
     let mut x = first_seat(s, im);
     let mut taken: usize = 0;
     let mut came = Came::Ordered;
     while taken < most {
-        let gone = go_on(s, im, table, x, most - taken);
+        let gone = go_on(s, im, table, counts, x, most - taken);
         taken += gone.taken;
         came = gone.came;
         if gone.taken == 0 {
@@ -248,6 +350,7 @@ pub fn ticks(s: Shape, im: &mut [u16], table: &[u16; HIGH_BYTES], most: usize) -
         if !stays(came) {
             if empty(s, im, Queue::Ready) {
                 if taken < most {
+                    note(counts, IDLE_COUNT, most - taken);
                     return idled(most);
                 }
                 return Passed {

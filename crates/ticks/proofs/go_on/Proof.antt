@@ -1,6 +1,10 @@
 -- By the flags and the clock: a rule before an order, the turn, or orders in a row.
-use Rattle.ticks.proofs.Needs.{rule-gone, turn-gone, turn-told, orders-gone, lawful-sound, first-rowed, first-some, turn-most, turn-leaves, orders-most, orders-reply, orders-stay, flags-calm, has-time}
-use Rattle.ticks.proofs.Telling.{fewer}
+use native.Mathlib.Omega.{arith}
+use Rattle.paper.specs.declared.Heading.{Heading}
+use Rattle.counting.specs.Growing.{room-less}
+use Rattle.ticks.proofs.Needs.{rule-gone, turn-gone, turn-told, turn-counted, orders-gone, lawful-sound, first-rowed, first-some, turn-most, turn-leaves, orders-most, orders-reply, orders-stay, flags-calm, has-time, row-fits}
+use Rattle.ticks.proofs.Tallying.{row-place, row-tallied, task-few}
+use Rattle.ticks.proofs.Telling.{fewer, told-lawful, told-some}
 use borrow.Author.Needs.{needs}
 use Rattle.ticks.proofs.go_on.Statement.{statement}
 use Rattle.ticks.proofs.go_on.Tie as tie
@@ -12,30 +16,56 @@ get-requires : tie.Need-get-requires
 get-requires c κs = search (lawful-sound, needs)
 
 rule-requires : tie.Need-rule-requires
-rule-requires c κs = (search needs, (search needs, (search needs, (search needs, search needs))))
+rule-requires c κs =
+    let p = c .before .before .before .before .before .before .before .before .before .pre in
+    (search needs, (search needs, (search needs, (search needs, (search needs, (search needs, room-less _ _ _ (p .1 .1 .1 .1 .1) (omega (arith, p .1 .1 .1 .0))))))))
 
 returns : tie.Need-returns
-returns c = (search rule-gone, (search fewer, (search needs, search needs)))
+returns c = (c .before .before .before .before .rule .ensures .0, (search rule-gone, (search fewer, (search needs, search needs))))
 
 turn-requires : tie.Need-turn-requires
 turn-requires c κs = (search lawful-sound, search first-some)
 
+note-requires : tie.Need-note-requires
+note-requires c κs =
+    let d1 = c .before .before .before .before .before in
+    let d2 = d1 .before .before .before .before .before in
+    let p = d2 .before .before .before .before .before .pre in
+    (p .1 .1 .1 .1 .0, (row-place _ Heading.PassedTurns _ (c .place-of .ensures) (task-few _ _ (p .0) _ (first-rowed _ _ _ (p .1 .1 .0) .known)), room-less _ _ _ (p .1 .1 .1 .1 .1) (omega (arith, p .1 .1 .1 .0))))
+
 returns-2 : tie.Need-returns-2
-returns-2 c = (search turn-gone, (search turn-most, (search turn-told, search turn-leaves)))
+returns-2 c =
+    let d1 = c .before .before .before .before .before in
+    let d2 = d1 .before .before .before .before .before in
+    let d3 = d2 .before .before .before .before .before in
+    let p = d3 .before .before .before .pre in
+    let own = d2 .before .before .before .before .own .ensures in
+    let get = d2 .before .before .get .ensures in
+    (turn-counted _ _ _ (p .1 .1 .0) _ _ own (d2 .before .if1 .left) get (d2 .if2 .taken) _ _ _ (c .before .before .before .place-of .ensures) (c .before .before .note .ensures), (turn-gone _ _ _ (p .1 .1 .0) _ _ own (d2 .before .if1 .left) get (d2 .if2 .taken) _, (search turn-most, (search turn-told, search turn-leaves))))
 
 run-orders-requires : tie.Need-run-orders-requires
 run-orders-requires c κs = (search needs, (search needs, (search needs, (flags-calm _ _ _ _ (c .before .before .before .before .before .own .ensures) (c .before .before .if1 .left), (search needs, (search has-time, search needs))))))
 
+count-row-requires : tie.Need-count-row-requires
+count-row-requires c κs =
+    let d1 = c .before .before .before .before in
+    let d2 = d1 .before .before .before .before .before in
+    let p = d2 .before .before .before .before .before .pre in
+    let o = d1 .run-orders .ensures in
+    (told-lawful _ _ _ _ _ (p .0) (o .1 .0), (first-rowed _ _ _ (p .1 .1 .0), (p .1 .1 .1 .1 .0, (room-less _ _ _ (p .1 .1 .1 .1 .1) (omega (arith, row-fits _ _ _ _ (o .0))), told-some _ _ _ _ _ (o .1 .0)))))
+
 returns-3 : tie.Need-returns-3
 returns-3 c =
-    let d1 = c .before .before .before .before .before in
-    let d2 = d1 .before .before .before .before .before in
-    let o = c .before .before .run-orders .ensures in
-    (orders-gone _ _ _ (d2 .before .pre .1 .1 .0) _ _ (d1 .before .before .before .own .ensures) (d1 .before .get .ensures) _ _ (c .before .before .before .before .before .if1 .left) (c .before .before .before .before .if2 .left) (o .0), (orders-most _ _ _ _ _ _ _ _ (o .0), (orders-reply _ _ _ _ _ (o .1 .0), orders-stay _ _ _ (o .1 .1))))
+    let d1 = c .before .before .before .before .before .before .before in
+    let d2 = d1 .before .before .before .before in
+    let p = d2 .before .before .before .before .before .before .pre in
+    let o = d1 .run-orders .ensures in
+    (row-tallied _ _ _ _ _ _ _ (o .1 .1 .0) (c .before .before .count-row .ensures), (orders-gone _ _ _ (p .1 .1 .0) _ _ (d2 .before .before .own .ensures) (d2 .get .ensures) _ _ (d1 .before .before .before .if1 .left) (d1 .before .before .if2 .left) (o .0), (orders-most _ _ _ _ _ _ _ _ (o .0), (orders-reply _ _ _ _ _ (o .1 .0), orders-stay _ _ _ (o .1 .1 .1)))))
 
 pub go-on-spec : {M : Type 1} → statement M
 go-on-spec =
     tie.close
     (tie.spec
-    own-requires get-requires rule-requires (λ c. search needs) returns turn-requires (λ c. search needs) returns-2
-    run-orders-requires (λ c. search needs) returns-3)
+    own-requires get-requires rule-requires (λ c. search needs) (λ c. search needs) returns turn-requires
+    (λ c κs. search needs) note-requires (λ c. search needs) (λ c. search needs) returns-2 run-orders-requires
+    count-row-requires (λ c. search needs) (λ c. search needs) returns-3)

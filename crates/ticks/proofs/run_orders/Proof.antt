@@ -1,6 +1,6 @@
 -- The part from the task's row on is lent; its orders are ticks, and the clock falls by as many.
 use native.Mathlib.Omega.{arith}
-use Rattle.ticks.proofs.Lent.{back-sound, orders-first, orders-told, row-within, row-small, part-lent, part-calm}
+use Rattle.ticks.proofs.Lent.{back-sound, orders-first, orders-told, row-counted, row-within, row-small, part-lent, part-calm}
 use Rattle.ticks.proofs.Needs.{lawful-sound, sound-long, least-some, least-second, row-fits, row-least}
 use borrow.Author.Needs.{needs}
 use Rattle.ticks.proofs.run_orders.Statement.{statement}
@@ -34,7 +34,7 @@ returns c =
     let h = lawful-sound _ _ (p .0) in
     let e = d1 .before .orders .ensures in
     let l = d1 .before .before .before .least .ensures in
-    (row-least _ _ _ _ (e .0) _ _ l, (orders-told _ _ _ h (p .1 .1 .0) (p .1 .1 .1 .0) _ _ _ (p .1 .1 .1 .1 .0) (e .0) (least-some _ _ _ l (p .1 .1 .1 .1 .1 .0) (p .1 .1 .1 .1 .1 .1)) (omega (arith, l)) _ _ (e .1) (c .before .before .put .ensures .0), search (orders-first, lawful-sound)))
+    (row-least _ _ _ _ (e .0) _ _ l, (orders-told _ _ _ h (p .1 .1 .0) (p .1 .1 .1 .0) _ _ _ (p .1 .1 .1 .1 .0) (e .0) (least-some _ _ _ l (p .1 .1 .1 .1 .1 .0) (p .1 .1 .1 .1 .1 .1)) (omega (arith, l)) _ _ (e .1) (c .before .before .put .ensures .0), (row-counted _ _ _ h (p .1 .1 .0) (p .1 .1 .1 .0) _ _ _ (p .1 .1 .1 .1 .0) (e .0) (least-some _ _ _ l (p .1 .1 .1 .1 .1 .0) (p .1 .1 .1 .1 .1 .1)) (omega (arith, l)) _ _ (e .1) (c .before .before .put .ensures .0), search orders-first)))
 
 pub run-orders-spec : {M : Type 1} → statement M
 run-orders-spec =
