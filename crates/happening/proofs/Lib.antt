@@ -1,3 +1,4 @@
 pub mod AllZero
 pub mod Taking
+pub mod Tallying
 pub mod RepliesInParts

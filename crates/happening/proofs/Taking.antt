@@ -28,7 +28,7 @@ unfoldable pub TakenFrom : Shape → List ℕ → List ℕ → ℕ → Reply →
 TakenFrom s im events k last m = told-from s im events (Reply.Accepted Answer.Idle) ≡ onward k (told-from s m (drop (3 * k) events) last)
 
 -- the rest of a list begins with event k
-rest-is : (events : List ℕ) (k : ℕ) → 3 * k + 2 < length events
+pub rest-is : (events : List ℕ) (k : ℕ) → 3 * k + 2 < length events
     → drop (3 * k) events ≡ getD events (3 * k) 0 ∷ getD events (3 * k + 1) 0 ∷ getD events (3 * k + 2) 0 ∷ drop (3 * (k + 1)) events
 rest-is events k h =
     drop-cons events (3 * k) 0 (omega arith) ∙
@@ -81,13 +81,13 @@ module _ (s : Shape) (im events : List ℕ) where
 pub outcome-is : (o : Outcome) (r : Reply) (im : List ℕ) → r ≡ o .reply → im ≡ o .image → outcome r im ≡ o
 outcome-is o r im er ei = rw (er, ei)
 
+-- an event that is a tick
+pub tick-event : (s : Shape) (x : List ℕ) (e : Event) → e ≡ Event.Tick → happening s x e ≡ tick s x
+unfolding happening
+tick-event s x e z = rw z
+
 -- ticks that stand in a row in a list of events
 module _ (s : Shape) (im events : List ℕ) (k : ℕ) (last : Reply) (m : List ℕ) (h : TakenFrom s im events k last m) where
-  -- an event that is a tick
-  tick-happens : (x : List ℕ) (e : Event) → e ≡ Event.Tick → happening s x e ≡ tick s x
-  unfolding happening
-  tick-happens x e z = rw z
-
   -- the reply before tick n
   abbrev last-before : ℕ → Reply
   last-before zero = last
@@ -97,7 +97,7 @@ module _ (s : Shape) (im events : List ℕ) (k : ℕ) (last : Reply) (m : List �
   tick-taken : (n : ℕ) → TakenFrom s im events (k + n) (last-before n) (ticked s m n) → nth-event s events (k + n) ≡ Event.Tick
       → 3 * (k + n) + 2 < length events → (r : Reply) → r ≡ tick s (ticked s m n) .reply → Taken r → TakenFrom s im events (k + n + 1) r (ticked s m (suc n))
   tick-taken n before e l (Reply.Accepted a) t y =
-      let here = tick-happens (ticked s m n) (nth-event s events (k + n)) e in
+      let here = tick-event s (ticked s m n) (nth-event s events (k + n)) e in
       taken-more s im events (k + n) (last-before n) (ticked s m n) _ _ l before (rw (here, t)) a refl
   tick-taken n before e l (Reply.Refused f) t y = absurd y
 
@@ -126,7 +126,7 @@ module _ (s : Shape) (im events : List ℕ) (k : ℕ) (last : Reply) (m : List �
         → Ends s im events (k + n) (Reply.Refused f) out
     unfolding Told Ticks
     ticks-refused f (t, r) en there =
-        let here = tick-happens out (nth-event s events (k + n)) en in
+        let here = tick-event s out (nth-event s events (k + n)) en in
         let told : happening s out (nth-event s events (k + n)) .reply ≡ Reply.Refused f = ap (λ o. o .reply) here ∙ r in
         let before : TakenFrom s im events (k + n) (last-before n) out = rw (t .0) (ticked-taken n (t .1) e l) in
         taken-refused s im events (k + n) (last-before n) out out (Reply.Refused f) there before

@@ -1,3 +1,4 @@
 pub mod Lists
 pub mod Ahead
 pub mod InParts
+pub mod Tallies

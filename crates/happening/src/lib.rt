@@ -1,13 +1,16 @@
 // Events on a good image, one after another: a list of them, and one of them, which is a list of one.
 ghost use mathlib.Core.Path.{_≡_};
 ghost use mathlib.Core.Bool.{false};
-ghost use Prim.Native.Nat.{_+_, _*_, _%_, _<_, _≤_};
+ghost use Prim.Native.Nat.{_+_, _*_, _%_, _/_, _<_, _≤_};
 ghost use lib.ListN.{length};
 ghost use Rattle.paper.specs.Waking.{outcome};
 ghost use Rattle.paper.specs.Events.{event-of as event-by, happening};
 ghost use Rattle.laws.specs.Events.{Lawful};
 ghost use Rattle.order_table.specs.Entries.{OrderTable};
+ghost use Rattle.counting.specs.Room.{Room};
+ghost use Rattle.ticks.specs.Tallied.{Ledger};
 ghost use Rattle.happening.specs.Lists.{nth-event, Ends};
+ghost use Rattle.happening.specs.Tallies.{Tallies};
 ghost use Rattle.happening.specs.InParts.{kind-in, answer-by, told-by};
 ghost use Rattle.happening.specs.Ahead.{zeros-at, Ahead, Stops};
 use connectives::both;
@@ -27,6 +30,9 @@ use ticks::ticks;
 const LOOK: usize = 4;
 
 const LONG_LOOK: usize = 8;
+
+// The length of a list of counts in which nothing is counted.
+pub const NO_COUNTS: usize = 0;
 
 // How many events were passed over, and the reply of the last, or of the one that was refused.
 struct Past {
@@ -125,11 +131,20 @@ fn report_at(s: Shape, im: &mut [u16], events: &[u16], k: usize) -> Reply
     )
 }
 
-// Passes over the events of a list, one after another, up to the first refused one.
-fn pass_events(s: Shape, im: &mut [u16], table: &[u16; HIGH_BYTES], events: &[u16]) -> Past
+// Passes over the events of a list, one after another, up to the first refused one; its ticks are counted, where there are counts.
+fn pass_events(
+    s: Shape,
+    im: &mut [u16],
+    table: &[u16; HIGH_BYTES],
+    counts: &mut [u32],
+    events: &[u16],
+) -> Past
     requires { ⌜ Lawful s (now im) ⌝ }
     requires { ⌜ OrderTable (now table) ⌝ }
     requires { ⌜ length (now events) % 3 ≡ 0 ⌝ }
+    requires { ⌜ Ledger (now counts) ⌝ }
+    requires { ⌜ Room (now counts) (length (now events) / 3) ⌝ }
+    ensures { λ _. ⌜ Tallies s (now (im .entry)) (now (events .entry)) (now (counts .entry)) (now (counts .exit)) ⌝ }
     ensures { λ r. ⌜ Ends s (now (im .entry)) (now (events .entry)) (r .taken) (r .last) (now (im .exit)) ⌝ }
     ensures { λ _. ⌜ Lawful s (now (im .exit)) ⌝ }
 {
@@ -139,7 +154,7 @@ fn pass_events(s: Shape, im: &mut [u16], table: &[u16; HIGH_BYTES], events: &[u1
     while taken < count {
         let end = ticks_ahead(events, taken, count);
         if taken < end {
-            let passed = ticks(s, im, table, end - taken);
+            let passed = ticks(s, im, table, counts, end - taken);
             taken += passed.taken;
             last = passed.last;
             if let Reply::Refused(_) = last {
@@ -222,15 +237,24 @@ fn answer_of(kind: Kind, t: Task) -> Answer
     }
 }
 
-// Takes the events of a list, up to the first refused one.
-pub fn take_events(s: Shape, im: &mut [u16], table: &[u16; HIGH_BYTES], events: &[u16]) -> Took
+// Takes the events of a list, up to the first refused one; its ticks are counted, where there are counts.
+pub fn take_events(
+    s: Shape,
+    im: &mut [u16],
+    table: &[u16; HIGH_BYTES],
+    counts: &mut [u32],
+    events: &[u16],
+) -> Took
     requires { ⌜ Lawful s (now im) ⌝ }
     requires { ⌜ OrderTable (now table) ⌝ }
     requires { ⌜ length (now events) % 3 ≡ 0 ⌝ }
+    requires { ⌜ Ledger (now counts) ⌝ }
+    requires { ⌜ Room (now counts) (length (now events) / 3) ⌝ }
+    ensures { λ _. ⌜ Tallies s (now (im .entry)) (now (events .entry)) (now (counts .entry)) (now (counts .exit)) ⌝ }
     ensures { λ r. ⌜ Ends s (now (im .entry)) (now (events .entry)) (r .taken) (told-by (r .stop) (r .kind) (r .task)) (now (im .exit)) ⌝ }
     ensures { λ _. ⌜ Lawful s (now (im .exit)) ⌝ }
 {
-    let past = pass_events(s, im, table, events);
+    let past = pass_events(s, im, table, counts, events);
     let last = past.last;
     in_parts(past.taken, last)
 }
@@ -250,7 +274,8 @@ pub fn step(
     ensures { λ _. ⌜ Lawful s (now (im .exit)) ⌝ }
 {
     let list: [u16; EVENT_WORDS] = [kind, device, character];
-    let took = take_events(s, im, table, &list);
+    let mut none: [u32; NO_COUNTS] = [0; NO_COUNTS];
+    let took = take_events(s, im, table, &mut none, &list);
     let stop = took.stop;
     let kind = took.kind;
     let task = took.task;
