@@ -2,9 +2,10 @@
 use mathlib.Core.Path.{_≡_, sym, _∙_, ap}
 use mathlib.Core.List.{List}
 use Prim.Native.Nat.{ℕ}
-use Rattle.paper.specs.Promises.{Checks, Measures, Builds, Happens, Runs}
+use Rattle.paper.specs.Promises.{Checks, Measures, Builds, Happens, Runs, Reports, Shares}
 use Rattle.paper.specs.declared.Ended.{Ended}
 use Rattle.paper.specs.declared.Reply.{Reply}
+use Rattle.paper.specs.declared.Share.{Share}
 use Rattle.paper.specs.declared.Size.{Size}
 use Rattle.paper.specs.declared.Verdict.{Verdict}
 
@@ -33,3 +34,12 @@ ended-same a b et es =
 pub runs-once : (image events : List ℕ) (a b : Ended) (x y : List ℕ) → Runs image events a x → Runs image events b y → (a ≡ b) × (x ≡ y)
 runs-once image events a b x y p q =
     (ended-same a b (p .counted ∙ sym (q .counted)) (p .stopped ∙ sym (q .stopped)), p .left ∙ sym (q .left))
+
+-- a run that counts: the same, and every count
+pub reports-once : (image events counts : List ℕ) (a b : Ended) (x y m n : List ℕ) → Reports image events counts a x m → Reports image events counts b y n → (a ≡ b) × (x ≡ y) × (m ≡ n)
+reports-once image events counts a b x y m n p q =
+    (ended-same a b (p .counted ∙ sym (q .counted)) (p .stopped ∙ sym (q .stopped)), p .left ∙ sym (q .left), p .tallied ∙ sym (q .tallied))
+
+-- a task's share
+pub shares-once : (counts : List ℕ) (task : ℕ) (a b : Share) → Shares counts task a → Shares counts task b → a ≡ b
+shares-once counts task a b p q = p .answered ∙ sym (q .answered)
