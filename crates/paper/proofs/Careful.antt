@@ -15,15 +15,11 @@ use Rattle.paper.specs.Plans.{plan-shape, fresh}
 use Rattle.paper.specs.Tests.{every, queued, buffers-hold, characters, readied-once, readied-tasks, clock-holds, port-holds, flags-hold, status-holds, task-holds, rules-hold}
 use Rattle.paper.specs.Numbers.{out-of-range, not-packed, segment-right, wrong-segments, check}
 use Rattle.paper.specs.Calls.{event, run}
-use Rattle.paper.proofs.Worked.{Shown, shows, ticks, event-after, last-tick}
+use Rattle.paper.proofs.Worked.{Shown, shows, ticks, event-after, last-tick, nobody-plan}
 
 -- one task of one word, which is w
 abbrev word-plan : ℕ → List ℕ
 word-plan w = 1 ∷ 1 ∷ 1 ∷ 1 ∷ 1 ∷ 1 ∷ 1 ∷ w ∷ []
-
--- load R2 with 9, which is no task; then the order w, a send or a receive
-abbrev nobody-plan : ℕ → List ℕ
-nobody-plan w = 1 ∷ 3 ∷ 1 ∷ 1 ∷ 1 ∷ 3 ∷ 3 ∷ 288 ∷ 9 ∷ w ∷ []
 
 -- output twice, so that the port is busy and the buffer full; load R3 with 256; output
 abbrev output-plan : List ℕ

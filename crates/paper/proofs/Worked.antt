@@ -2,8 +2,12 @@
 -- Every expected word was worked out by hand from the paper. Assumes nothing.
 use mathlib.Core.Path.{_≡_, refl}
 use mathlib.Core.List.{List, [], _∷_, _++_}
+use mathlib.Core.Bool.{false}
 use Prim.Native.Nat.{ℕ, _+_, _-_, _*_, _/_, _%_}
+use lib.Count.{trailingZeros}
+use lib.IntN.{pos, negsuc}
 use lib.ListN.{length, getD, take, drop, replicate}
+use lib.Ieee.{fin, span, climb, size, odd, units, round}
 use Rattle.paper.specs.Image.{task, total, shape-of, place, at, put, clock}
 use Rattle.paper.specs.Queues.{step, appended, first, taken, held, empty, full}
 use Rattle.paper.specs.Flags.{pending}
@@ -16,8 +20,12 @@ use Rattle.paper.specs.Plans.{plan-shape, fresh}
 use Rattle.paper.specs.Tests.{every, queued, buffers-hold, characters, readied-once, readied-tasks, clock-holds, port-holds, flags-hold, status-holds, task-holds, rules-hold}
 use Rattle.paper.specs.Numbers.{number, verdict-number, kind, answer-task, out-of-range, not-packed, segment-right, wrong-segments, check, plan-broken, check-plan, check-build}
 use Rattle.paper.specs.Calls.{built, event, run}
+use Rattle.paper.specs.Counts.{all-counts, grown, most-count, counted-event, Reported, report, sum, share}
 use Rattle.paper.specs.Runner.{words-of, check-file, decimal, line, printed-from, runner}
 use Rattle.paper.specs.declared.Reply.{Reply}
+use Rattle.paper.specs.declared.Refusal.{Refusal}
+use Rattle.paper.specs.declared.Verdict.{Verdict}
+use Rattle.paper.specs.declared.Share.{Share}
 use Rattle.paper.specs.declared.Queue.{Queue}
 
 -- what an event shows: its kind and task or, alone, the number of its refusal; and the image after it
@@ -133,6 +141,25 @@ bound-line k = event-after bound-plan (ticks 6) (3 + k) .line
 abbrev bound-ready : ℕ → List ℕ
 bound-ready k = held (shape-of (bound-image k)) (bound-image k) Queue.Ready
 
+-- load R2 with 9, which is no task; then the order w, a send or a receive
+abbrev pub nobody-plan : ℕ → List ℕ
+nobody-plan w = 1 ∷ 3 ∷ 1 ∷ 1 ∷ 1 ∷ 3 ∷ 3 ∷ 288 ∷ 9 ∷ w ∷ []
+
+-- the counts of task 0 (orders, services, waits, faults, error stops, passed turns) and of the idle ticks, all others 0
+abbrev counts-of : List ℕ → ℕ → List ℕ
+counts-of row idle = row ++ replicate 90 0 ++ (idle ∷ [])
+
+abbrev no-counts : List ℕ
+no-counts = counts-of (replicate 6 0) 0
+
+-- the counts of the full run: of its ticks, answered 6 4 0 3 6 2 3 7, two are orders, two finished services, and one each a wait, a fault, a passed turn and idle
+abbrev full-counts : List ℕ
+full-counts = counts-of (2 ∷ 2 ∷ 1 ∷ 1 ∷ 0 ∷ 1 ∷ []) 1
+
+-- a report that took n events and was stopped by refusal r
+abbrev stopped-by : Refusal → ℕ → List ℕ → List ℕ → Reported
+stopped-by r n im counts = record { taken = n; stop = Verdict.Refused r; image = im; counts = counts }
+
 pub record Worked : Type 0 where
   pub event-2 :
       full-event 2 ≡ shows (4 ∷ 0 ∷ [])
@@ -174,9 +201,33 @@ pub record Worked : Type 0 where
   pub bound-not-yet : bound-ready 1 ≡ 0 ∷ 1 ∷ []
   pub bound-turn : bound-line 2 ≡ 2 ∷ 0 ∷ []
   pub bound-reached : bound-ready 2 ≡ 1 ∷ 0 ∷ []
+  -- the full run, counted
+  pub full-report :
+      report (fresh full-plan) full-events no-counts ≡ stopped-by Refusal.PortIdle 10
+      (full-image 0 (2 ∷ 4 ∷ 0 ∷ 65 ∷ 0 ∷ 0 ∷ 0 ∷ 0 ∷ 8 ∷ []) (full-queue 0) (0 ∷ 0 ∷ []) (empty-queue 65) (empty-queue 65) (0 ∷ 0 ∷ []))
+      full-counts
+  -- the idle ticks at their end: 17 at its event 3, the order and the wait before it kept
+  pub count-at-its-end :
+      report (fresh full-plan) full-events (counts-of (replicate 6 0) most-count) ≡ stopped-by Refusal.CountFull 2
+      (full-image 0 (1 ∷ 4 ∷ 0 ∷ 0 ∷ 0 ∷ 0 ∷ 0 ∷ 0 ∷ 96 ∷ []) (empty-queue 0) (3 ∷ 0 ∷ []) (empty-queue 0) (empty-queue 0) (0 ∷ 0 ∷ []))
+      (counts-of (1 ∷ 0 ∷ 1 ∷ 0 ∷ 0 ∷ 0 ∷ []) most-count)
+  -- every count at its end: an input is taken, and an output done on an idle port is 9 and not 17
+  pub count-tested-last :
+      report (fresh full-plan) (1 ∷ 0 ∷ 65 ∷ 2 ∷ 0 ∷ 0 ∷ []) (replicate all-counts most-count) ≡ stopped-by Refusal.PortIdle 1
+      (full-image 2 (0 ∷ 4 ∷ 0 ∷ 0 ∷ 0 ∷ 0 ∷ 0 ∷ 0 ∷ 0 ∷ []) (full-queue 0) (0 ∷ 0 ∷ []) (full-queue 65) (empty-queue 0) (0 ∷ 0 ∷ []))
+      (replicate all-counts most-count)
+  -- a send to no task, 6 6 5 1: two orders, a fault, an error stop
+  pub fault-counted : report (fresh (nobody-plan 4624)) (ticks 4) no-counts .counts ≡ counts-of (2 ∷ 0 ∷ 0 ∷ 1 ∷ 1 ∷ 0 ∷ []) 0
+  -- shares: 7 of 8 ticks, none of them, no such task; all of 4; 2^33 - 1 of 2^33; no ticks at all
+  pub share-of-seven : share full-counts 0 ≡ Share.Of (fin false 7 (negsuc 2))
+  pub share-of-none : share full-counts 1 ≡ Share.Of (fin false 0 (pos 0))
+  pub share-of-no-task : share full-counts 16 ≡ Share.Of (fin false 0 (pos 0))
+  pub share-of-all : share (counts-of (2 ∷ 0 ∷ 0 ∷ 1 ∷ 1 ∷ 0 ∷ []) 0) 0 ≡ Share.Of (fin false 1 (pos 0))
+  pub share-past-one-count : share (counts-of (most-count ∷ 1 ∷ most-count ∷ 0 ∷ 0 ∷ 0 ∷ []) 1) 0 ≡ Share.Of (fin false 8589934591 (negsuc 32))
+  pub share-without-ticks : share no-counts 0 ≡ Share.NoTicks
 
 pub worked : Worked
-unfolding total shape-of place at put step appended first taken held empty full dispatched with-status readied woken left with-woken unless-full service-faulted waiting delivered printing printing-if-idle served waits-for finished service machine put-back with-register with-flags with-word operand found effect-of checked decided changed faulted ordered event-of stopped turned spent turn-of tick input port-next output-done happening plan-shape fresh every queued buffers-hold characters readied-once readied-tasks clock-holds port-holds flags-hold status-holds task-holds rules-hold out-of-range not-packed segment-right wrong-segments check plan-broken check-plan check-build built event run words-of check-file decimal line printed-from runner
+unfolding total shape-of place at put step appended first taken held empty full dispatched with-status readied woken left with-woken unless-full service-faulted waiting delivered printing printing-if-idle served waits-for finished service machine put-back with-register with-flags with-word operand found effect-of checked decided changed faulted ordered event-of stopped turned spent turn-of tick input port-next output-done happening plan-shape fresh every queued buffers-hold characters readied-once readied-tasks clock-holds port-holds flags-hold status-holds task-holds rules-hold out-of-range not-packed segment-right wrong-segments check plan-broken check-plan check-build built event run grown counted-event report sum share span climb size trailingZeros odd units round words-of check-file decimal line printed-from runner
 worked =
     record {
       event-2 = refl;
@@ -204,4 +255,14 @@ worked =
       bound-not-yet = refl;
       bound-turn = refl;
       bound-reached = refl;
+      full-report = refl;
+      count-at-its-end = refl;
+      count-tested-last = refl;
+      fault-counted = refl;
+      share-of-seven = refl;
+      share-of-none = refl;
+      share-of-no-task = refl;
+      share-of-all = refl;
+      share-past-one-count = refl;
+      share-without-ticks = refl;
     }
