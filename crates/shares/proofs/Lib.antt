@@ -1,0 +1,5 @@
+pub mod Dividing
+pub mod Percents
+pub mod Quotients
+pub mod Sums
+pub mod WithoutLoss
