@@ -5,23 +5,25 @@
  * Nothing is required of the words and bytes: any of them, in any number, may be lent, and every call ends. A call
  * either does what it says, or it refuses, answers the number of the refusal and changes no word or byte.
  *
- * Lent means: the pointer leads to as many words, or bytes, as the length beside it says, and nobody else writes them
- * during the call. A buffer that is lent for writing shares no word with another that is lent to the same call. With
- * length 0 the pointer may be NULL. A call reads and writes nothing but what it is lent. No call allocates, keeps a
- * pointer, or has a memory of earlier calls; calls on different buffers may be made at the same time.
+ * Lent means: the pointer leads to as many words, bytes or counts as the length beside it says, and nobody else writes
+ * them during the call. A buffer that is lent for writing shares no byte with another that is lent to the same call.
+ * With length 0 the pointer may be NULL. A call reads and writes nothing but what it is lent. No call allocates, keeps
+ * a pointer, or has a memory of earlier calls; calls on different buffers may be made at the same time.
  *
  * Files. An image in memory is an array of the machine's own uint16_t. A saved image, plan or list of events is two
  * bytes a word, the low one first, on every machine. No call reads or writes a file.
  *
  * Stack. The most that a call takes of it, with what it calls:
  *    kernel_translate, kernel_refused_line   256 KiB
+ *    kernel_report                            80 KiB
  *    every other call                          4 KiB
  *
- * A kill in the middle of a call. The calls that are lent a buffer for writing (build, event, run, translate, print)
- * write it word by word, or byte by byte. Where one is cut short, by a signal that ends the program, by longjmp or by
- * the power, the buffer may hold a part of the change, and a part of a change may even pass the check. So never go on
- * with such an image: keep the last image that was saved whole and the events since, and run them again, which gives
- * the same image. Save beside the old file and rename. The other calls write nothing, and leave nothing.
+ * A kill in the middle of a call. The calls that are lent a buffer for writing (build, event, run, report, share,
+ * translate, print) write it word by word, or byte by byte. Where one is cut short, by a signal that ends the program,
+ * by longjmp or by the power, the buffer may hold a part of the change, and a part of a change may even pass the check.
+ * So never go on with such an image, nor with the counts lent beside it: keep the last image that was saved whole, the
+ * counts of that time and the events since, and run them again, which gives the same image and counts. Save beside the
+ * old file and rename. The other calls write nothing, and leave nothing.
  *
  * Versions. KERNEL_VERSION_MAJOR and KERNEL_VERSION_MINOR are those of this header and the archive made with it: use
  * the two of one clone together. Within one version only what this header is silent on may change, and the words of
@@ -43,7 +45,7 @@ extern "C" {
 
 /* The version of this header and of the archive, and the edition of the images that are built. */
 #define KERNEL_VERSION_MAJOR 0
-#define KERNEL_VERSION_MINOR 2
+#define KERNEL_VERSION_MINOR 3
 #define KERNEL_EDITION 1
 
 /* The numbers that come back. kernel_number_text says each in words. */
@@ -59,11 +61,12 @@ extern "C" {
 #define KERNEL_REFUSED_PORT_IDLE 9           /* output done on an idle port */
 #define KERNEL_REFUSED_READY_FULL 10         /* a wake finds the ready queue full */
 #define KERNEL_REFUSED_BAD_PLAN 11           /* the plan is malformed, or its image would have over 32768 words */
-#define KERNEL_REFUSED_WRONG_TARGET 12       /* the target has another length than the plan's image */
+#define KERNEL_REFUSED_WRONG_TARGET 12       /* a target of another length than the plan's image; not 97 counts */
 #define KERNEL_REFUSED_OUTSIDE_GRAMMAR 13    /* a line is, or gives one name or label over KERNEL_MOST_NAMES */
 #define KERNEL_REFUSED_NAME_FAULT 14         /* a name or label is given twice, or one that is used is not given */
 #define KERNEL_REFUSED_VALUE_OUT_OF_RANGE 15 /* a value in a text */
 #define KERNEL_REFUSED_NO_ROOM 16            /* a script of more words than the target; a list or its text too long */
+#define KERNEL_REFUSED_COUNT_FULL 17         /* a tick whose count is KERNEL_MOST_COUNT already */
 
 /* The number where the task, device, register, queue or place asked for is not there; and what the other fields of
    a look into an image hold where its number is not 0. 0 is a good value of each of them and never means none. */
@@ -165,6 +168,23 @@ extern "C" {
 #define KERNEL_MOST_WORDS 32768
 #define KERNEL_REGISTERS 8
 
+/* The counts of who used the machine: for each of sixteen tasks, however many the image has, a row of six headings;
+   then the idle ticks of the whole. The count of a task's heading stands at KERNEL_HEADINGS * task + the heading. A
+   tick is counted once: kind 6 under orders, 3 under services, 4 under waits, 5 and 7 under faults, 1 under error
+   stops, 2 under passed turns, 0 as idle. An event of a device is not counted. */
+#define KERNEL_COUNTS 97
+#define KERNEL_HEADINGS 6
+#define KERNEL_COUNT_ORDERS 0
+#define KERNEL_COUNT_SERVICES 1 /* finished ones */
+#define KERNEL_COUNT_WAITS 2
+#define KERNEL_COUNT_FAULTS 3 /* of orders and of services */
+#define KERNEL_COUNT_ERROR_STOPS 4
+#define KERNEL_COUNT_PASSED_TURNS 5
+#define KERNEL_AT_IDLE_COUNT 96
+
+/* What a count ends at. */
+#define KERNEL_MOST_COUNT 4294967295
+
 /* The text of a refused line: the list of names, or the script; the last where no line is refused. */
 #define KERNEL_NAMES 0
 #define KERNEL_SCRIPT 1
@@ -189,9 +209,9 @@ struct kernel_told {
     uint16_t task;   /* the task that the answer is about, 0 where it is idle; refused: KERNEL_NO_ANSWER */
 };
 
-/* How a run ended. */
+/* How a run ended, or one that counts. */
 struct kernel_ran {
-    uint64_t taken;  /* how many events were taken; the image holds exactly these */
+    uint64_t taken;  /* how many events were taken; the image holds exactly these, and so do the counts */
     uint16_t number; /* 0 where all were, else the number of the refusal that stopped it */
 };
 
@@ -263,6 +283,20 @@ struct kernel_told kernel_event(uint16_t *image, size_t words, uint16_t kind, ui
    reading. A bad image, or a list that is not a multiple of three words, is refused before any event is taken. */
 struct kernel_ran kernel_run(uint16_t *image, size_t words, const uint16_t *events, size_t event_words);
 
+/* A run that counts: does to the image what kernel_run does, and adds each tick that is taken to its count. Of 97 zeros
+   it makes the counts of one run; those that a run left go on with the next, of the same image or of another. A tick
+   whose count is at its end is refused with 17, after the tests for 7 to 10, and stops the run: what was taken and
+   counted before it stays. The image and the counts are lent for writing, the list for reading. Another number of
+   entries than KERNEL_COUNTS is refused with 12 before all else. */
+struct kernel_ran kernel_report(uint16_t *image, size_t words, const uint16_t *events, size_t event_words,
+                                uint32_t *counts, size_t entries);
+
+/* A task's share of all ticks that were counted, the idle ones among them: its six headings together, divided by the
+   sum of all counts, and rounded once. Answers 1 and writes the share, 0 to 1; a task without ticks, and one of 16 or
+   more, has share 0. Answers 0 and writes nothing where no ticks were counted, and where the number of entries is not
+   KERNEL_COUNTS. The counts are lent for reading; share leads to one double, which is lent for writing. */
+uint16_t kernel_share(const uint32_t *counts, size_t entries, uint16_t task, double *share);
+
 /* Translates a script with its list of names to words in the target, from its first on; the words past them stay as
    they are. The names and the script are lent for reading, the target for writing. Of all refused lines the one with
    the lowest number is told, and of those with that number the first, the names before the script; with number 16 it
@@ -328,11 +362,12 @@ static inline const char *kernel_number_text(uint16_t number)
     case KERNEL_REFUSED_PORT_IDLE: return "output done on an idle port";
     case KERNEL_REFUSED_READY_FULL: return "a wake finds the ready queue full";
     case KERNEL_REFUSED_BAD_PLAN: return "the plan is malformed, or its image has more than 32768 words";
-    case KERNEL_REFUSED_WRONG_TARGET: return "the target has another length than the plan's image";
+    case KERNEL_REFUSED_WRONG_TARGET: return "the target has another length than the plan's image, or not 97 counts";
     case KERNEL_REFUSED_OUTSIDE_GRAMMAR: return "a line outside the grammar, or a name too many";
     case KERNEL_REFUSED_NAME_FAULT: return "a name given twice or not at all";
     case KERNEL_REFUSED_VALUE_OUT_OF_RANGE: return "a value out of range";
     case KERNEL_REFUSED_NO_ROOM: return "more words or bytes than there is room for";
+    case KERNEL_REFUSED_COUNT_FULL: return "a count of ticks is at its end";
     case KERNEL_NOT_THERE: return "not there";
     default: return "unknown";
     }

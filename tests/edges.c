@@ -30,6 +30,14 @@ static const uint16_t out_of_range[] = {17, 5, 2, 1, 4};
 static uint16_t memory[GUARD_WORDS + CROWD_WORDS + GUARD_WORDS];
 static uint16_t *const image = memory + GUARD_WORDS;
 
+/* Counts that are lent, from counts on, between some that are not. */
+enum { GUARD_COUNTS = 3 };
+static uint32_t count_memory[GUARD_COUNTS + KERNEL_COUNTS + GUARD_COUNTS];
+static uint32_t *const counts = count_memory + GUARD_COUNTS;
+
+/* A number that no share is. */
+static const double UNTOLD = -1.5;
+
 static void expect(int truth, const char *text, int line)
 {
     if (!truth) {
@@ -141,6 +149,8 @@ static void try_no_words(void)
     EXPECT(kernel_build(plan, COUNT(plan), NULL, 0) == 12);
     EXPECT(refused(kernel_event(NULL, 0, KERNEL_TICK, 0, 0), 1));
     EXPECT(is_ran(kernel_run(NULL, 0, NULL, 0), 0, 1));
+    EXPECT(is_ran(kernel_report(NULL, 0, NULL, 0, NULL, 0), 0, 12));
+    EXPECT(is_ran(kernel_report(NULL, 0, NULL, 0, counts, KERNEL_COUNTS), 0, 1));
 }
 
 /* Accepted and refused calls on the example's image. */
@@ -174,6 +184,118 @@ static void try_a_crowd(void)
     EXPECT(is_ran(kernel_run(image, CROWD_WORDS, events, COUNT(events)), 3, 9));
     EXPECT(refused(kernel_event(image, CROWD_WORDS, KERNEL_INPUT, 3, 65), 7));
     EXPECT(guarded(CROWD_WORDS));
+}
+
+/* Puts another number into each count, and into those beside them. */
+static void number_counts(void)
+{
+    for (uint32_t k = 0; k < COUNT(count_memory); k++)
+        count_memory[k] = 100 + k;
+}
+
+/* Whether each count is as number_counts put it, but for some that have grown, each by a number beside its place. */
+static int grown(const uint32_t *growth, size_t places)
+{
+    uint32_t expected[COUNT(count_memory)];
+    for (uint32_t k = 0; k < COUNT(count_memory); k++)
+        expected[k] = 100 + k;
+    for (size_t k = 0; k < places; k++)
+        expected[GUARD_COUNTS + growth[2 * k]] += growth[2 * k + 1];
+    return memcmp(count_memory, expected, sizeof expected) == 0;
+}
+
+#define GROWN(...) grown((const uint32_t[]){__VA_ARGS__}, COUNT(((const uint32_t[]){__VA_ARGS__})) / 2)
+
+/* Where a task has a heading's count. */
+#define AT(task, heading) (KERNEL_HEADINGS * (task) + KERNEL_COUNT_##heading)
+
+/* Counts the events above: the first task asks for input and waits. Then the second one asks for it, has it and comes
+   to a word that is no order, as the third does at once; and nobody is ready. Each is stopped, and no turn is passed. */
+static void try_counts(void)
+{
+    static const uint16_t events[] = {
+        KERNEL_TICK, 0, 0, KERNEL_TICK, 0, 0, KERNEL_INPUT, 1, 66, KERNEL_OUTPUT_DONE, 2, 0, KERNEL_TICK, 0, 0,
+    };
+    static const uint16_t ticks[3 * 9];
+    clear();
+    number_counts();
+    EXPECT(kernel_build(crowd, COUNT(crowd), image, CROWD_WORDS) == 0);
+    EXPECT(is_ran(kernel_report(image, CROWD_WORDS, events, COUNT(events), counts, KERNEL_COUNTS), 3, 9));
+    EXPECT(GROWN(AT(0, ORDERS), 1, AT(0, WAITS), 1));
+    EXPECT(is_ran(kernel_report(image, CROWD_WORDS - 1, ticks, COUNT(ticks), counts, KERNEL_COUNTS), 0, 5));
+    EXPECT(is_ran(kernel_report(image, CROWD_WORDS, ticks, COUNT(ticks) - 1, counts, KERNEL_COUNTS), 0, 7));
+    EXPECT(is_ran(kernel_report(image, CROWD_WORDS, ticks, 0, counts, KERNEL_COUNTS), 0, 0));
+    EXPECT(GROWN(AT(0, ORDERS), 1, AT(0, WAITS), 1));
+    EXPECT(is_ran(kernel_report(image, CROWD_WORDS, ticks, COUNT(ticks), counts, KERNEL_COUNTS), 9, 0));
+    EXPECT(GROWN(AT(0, ORDERS), 1, AT(0, WAITS), 1, AT(1, ORDERS), 1, AT(1, SERVICES), 1, AT(1, FAULTS), 1,
+                 AT(1, ERROR_STOPS), 1, AT(2, FAULTS), 1, AT(2, ERROR_STOPS), 1, KERNEL_AT_IDLE_COUNT, 3));
+    EXPECT(guarded(CROWD_WORDS));
+}
+
+/* A service that faults, an output of 256, is counted under faults. */
+static void try_a_faulted_service(void)
+{
+    static const uint16_t output_256[] = {1, 5, 1, 1, 1, 3, 3, 304, 256, 4672};
+    static const uint16_t ticks[3 * 4];
+    clear();
+    number_counts();
+    EXPECT(kernel_build(output_256, COUNT(output_256), image, IMAGE_WORDS - 1) == 0);
+    EXPECT(is_ran(kernel_report(image, IMAGE_WORDS - 1, ticks, COUNT(ticks), counts, KERNEL_COUNTS), 4, 0));
+    EXPECT(GROWN(AT(0, ORDERS), 2, AT(0, FAULTS), 1, AT(0, ERROR_STOPS), 1));
+    EXPECT(guarded(IMAGE_WORDS - 1));
+}
+
+/* Counts of another length, and a count at its end: nothing changes, but for what was taken before. */
+static void try_refused_counts(void)
+{
+    static const uint16_t ticks[3 * 2];
+    static uint16_t before[CROWD_WORDS];
+    clear();
+    number_counts();
+    EXPECT(kernel_build(crowd, COUNT(crowd), image, CROWD_WORDS) == 0);
+    memcpy(before, image, sizeof before);
+    EXPECT(is_ran(kernel_report(image, CROWD_WORDS, ticks, COUNT(ticks), counts, KERNEL_COUNTS - 1), 0, 12));
+    EXPECT(is_ran(kernel_report(image, CROWD_WORDS, ticks, COUNT(ticks), counts, KERNEL_COUNTS + 1), 0, 12));
+    EXPECT(is_ran(kernel_report(image, 0, ticks, 1, counts, 1), 0, 12));
+    EXPECT(memcmp(image, before, sizeof before) == 0 && grown(NULL, 0));
+    counts[AT(0, WAITS)] = KERNEL_MOST_COUNT;
+    EXPECT(is_told(kernel_event(before, CROWD_WORDS, KERNEL_TICK, 0, 0), 0, KERNEL_KIND_ORDER_DONE, 0));
+    EXPECT(is_ran(kernel_report(image, CROWD_WORDS, ticks, COUNT(ticks), counts, KERNEL_COUNTS), 1, 17));
+    EXPECT(is_ran(kernel_report(image, CROWD_WORDS, ticks, COUNT(ticks), counts, KERNEL_COUNTS), 0, 17));
+    EXPECT(memcmp(image, before, sizeof before) == 0 && counts[AT(0, WAITS)] == KERNEL_MOST_COUNT);
+    counts[AT(0, WAITS)] = 100 + GUARD_COUNTS + AT(0, WAITS);
+    EXPECT(GROWN(AT(0, ORDERS), 1) && guarded(CROWD_WORDS));
+}
+
+/* Whether a share is told, and is this one. */
+static int is_share(uint16_t task, double expected)
+{
+    double share = UNTOLD;
+    return kernel_share(counts, KERNEL_COUNTS, task, &share) == 1 && share == expected;
+}
+
+/* Whether none is told, and the cell is as it was. */
+static int no_share(const uint32_t *lent, size_t entries, uint16_t task)
+{
+    double share = UNTOLD;
+    return kernel_share(lent, entries, task, &share) == 0 && share == UNTOLD;
+}
+
+/* Shares of 256 ticks, which are exact; of all counts at their end, six ninety-sevenths; and none. */
+static void try_shares(void)
+{
+    EXPECT(no_share(NULL, 0, 1));
+    memset(count_memory, 0, sizeof count_memory);
+    EXPECT(no_share(counts, KERNEL_COUNTS, 1) && no_share(counts, KERNEL_COUNTS, 16));
+    for (size_t k = 0; k < KERNEL_HEADINGS; k++)
+        counts[KERNEL_HEADINGS + k] = (uint32_t)1 << k;
+    counts[AT(15, PASSED_TURNS)] = 128;
+    counts[KERNEL_AT_IDLE_COUNT] = 65;
+    EXPECT(is_share(1, 63.0 / 256) && is_share(15, 0.5) && is_share(0, 0) && is_share(16, 0) && is_share(65535, 0));
+    EXPECT(no_share(counts, KERNEL_COUNTS - 1, 1) && no_share(counts, KERNEL_COUNTS + 1, 1));
+    for (size_t k = 0; k < KERNEL_COUNTS; k++)
+        counts[k] = KERNEL_MOST_COUNT;
+    EXPECT(is_share(0, 6.0 / 97) && is_share(15, 6.0 / 97) && is_share(16, 0));
 }
 
 /* No bytes and no words, at NULL. */
@@ -341,8 +463,8 @@ static int same(const char *text, const char *other)
 static void try_words(void)
 {
     EXPECT(same(kernel_number_text(KERNEL_NOT_REFUSED), "nothing is refused"));
-    EXPECT(same(kernel_number_text(1), "image under 18 words") && same(kernel_number_text(17), "unknown"));
-    EXPECT(same(kernel_number_text(16), "more words or bytes than there is room for"));
+    EXPECT(same(kernel_number_text(1), "image under 18 words") && same(kernel_number_text(18), "unknown"));
+    EXPECT(same(kernel_number_text(17), "a count of ticks is at its end"));
     EXPECT(same(kernel_number_text(KERNEL_NOT_THERE), "not there"));
     EXPECT(same(kernel_kind_text(0), "idle") && same(kernel_kind_text(9), "output done"));
     EXPECT(same(kernel_kind_text(10), "unknown") && same(kernel_kind_text(KERNEL_NO_ANSWER), "unknown"));
@@ -360,6 +482,10 @@ int main(void)
     try_no_words();
     try_the_example();
     try_a_crowd();
+    try_counts();
+    try_a_faulted_service();
+    try_refused_counts();
+    try_shares();
     try_no_texts();
     try_texts();
     try_no_prints();

@@ -9,7 +9,7 @@
 
 #define COUNT(array) (sizeof(array) / sizeof((array)[0]))
 
-enum { ROOM = 1 << 20, UNTOUCHED = 0xA5, LITTLE = 4 << 10, MUCH = 256 << 10 };
+enum { ROOM = 1 << 20, UNTOUCHED = 0xA5, LITTLE = 4 << 10, MORE = 80 << 10, MUCH = 256 << 10 };
 
 /* The words of the image, and where it has its task's peer. */
 enum { IMAGE_WORDS = 57, PEER_AT = 33 };
@@ -23,6 +23,9 @@ static uint16_t image[IMAGE_WORDS];
 static uint16_t broken[IMAGE_WORDS];
 static uint16_t target[IMAGE_WORDS];
 static uint8_t text[16 * IMAGE_WORDS];
+static uint32_t counts[KERNEL_COUNTS];
+static uint32_t full[KERNEL_COUNTS];
+static double part;
 static unsigned char stack[ROOM];
 static ucontext_t caller, callee;
 
@@ -31,6 +34,9 @@ static void size(void) { (void)kernel_size(plan, COUNT(plan)); }
 static void check(void) { (void)kernel_check(image, IMAGE_WORDS); }
 static void event(void) { (void)kernel_event(image, IMAGE_WORDS, KERNEL_TICK, 0, 0); }
 static void run(void) { (void)kernel_run(image, IMAGE_WORDS, events, COUNT(events)); }
+static void report(void) { (void)kernel_report(image, IMAGE_WORDS, events, COUNT(events), counts, KERNEL_COUNTS); }
+static void report_full(void) { (void)kernel_report(image, IMAGE_WORDS, events, COUNT(events), full, KERNEL_COUNTS); }
+static void share(void) { (void)kernel_share(counts, KERNEL_COUNTS, 0, &part); }
 static void print(void) { (void)kernel_print(image, IMAGE_WORDS, text, sizeof text); }
 static void print_size(void) { (void)kernel_print_size(image, IMAGE_WORDS); }
 static void task(void) { (void)kernel_task(image, IMAGE_WORDS, 0); }
@@ -64,6 +70,9 @@ static const struct call calls[] = {
     {"kernel_check", check, LITTLE},
     {"kernel_event", event, LITTLE},
     {"kernel_run", run, LITTLE},
+    {"kernel_report", report, MORE},
+    {"kernel_report, a count almost full", report_full, MORE},
+    {"kernel_share", share, LITTLE},
     {"kernel_translate", translate, MUCH},
     {"kernel_refused_line", refused_line, MUCH},
     {"kernel_print", print, LITTLE},
@@ -97,6 +106,7 @@ int main(void)
     int good = kernel_build(plan, COUNT(plan), image, IMAGE_WORDS) == KERNEL_NOT_REFUSED;
     memcpy(broken, image, sizeof broken);
     broken[PEER_AT] = 1;
+    full[KERNEL_COUNT_ORDERS] = KERNEL_MOST_COUNT - 1;
     good = good && kernel_broken_rule(broken, IMAGE_WORDS).rule == KERNEL_RULE_PEERLESS;
     for (size_t k = 0; k < COUNT(calls); k++) {
         size_t bytes = taken(calls[k].make);

@@ -1,6 +1,7 @@
 //! The functions of the archive themselves, in numbers and pointers. The crate's own calls say what each does; they are
-//! safe, and are what a program wants. A pointer must lead to as many words, or bytes, as the length beside it says, to
-//! none where that is 0, and nobody else may write them during the call, nor read what is lent for writing.
+//! safe, and are what a program wants. A pointer must lead to as many words, bytes or counts as the length beside it
+//! says, to none where that is 0, the one of a share to one number; and nobody else may write them during the call, nor
+//! read what is lent for writing.
 
 /// How many words a plan's image has.
 #[repr(C)]
@@ -24,7 +25,7 @@ pub struct Told {
     pub task: u16,
 }
 
-/// How a run ended.
+/// How a run ended, or one that counts.
 #[repr(C)]
 #[derive(Clone, Copy, Debug, PartialEq, Eq)]
 pub struct Ran {
@@ -155,6 +156,12 @@ pub const IDLE: u16 = 0;
 /// The kind and the task of a refused event.
 pub const NO_ANSWER: u16 = 65535;
 
+/// The answer where a share is told.
+pub const TOLD: u16 = 1;
+
+/// The answer where none is: no ticks were counted, or there are not 97 counts.
+pub const NOT_TOLD: u16 = 0;
+
 /// The list of names, as the text of a refused line.
 pub const NAMES: u16 = 0;
 
@@ -179,6 +186,19 @@ extern "C" {
 
     /// A list of events, one after another, up to the first that is refused.
     pub fn kernel_run(image: *mut u16, words: usize, events: *const u16, event_words: usize) -> Ran;
+
+    /// A run that counts.
+    pub fn kernel_report(
+        image: *mut u16,
+        words: usize,
+        events: *const u16,
+        event_words: usize,
+        counts: *mut u32,
+        entries: usize,
+    ) -> Ran;
+
+    /// A task's share of all ticks: [`TOLD`], and it is written; or [`NOT_TOLD`].
+    pub fn kernel_share(counts: *const u32, entries: usize, task: u16, share: *mut f64) -> u16;
 
     /// Translates a script with its list of names to words in the target.
     pub fn kernel_translate(

@@ -8,6 +8,8 @@
 //!   bytes, the low one first ([`u16::to_le_bytes`]).
 //! - An *event* is a tick, which lets the first ready task do one order or service; an input character for a device; or
 //!   that a device has put its character out. [`event`] takes one and [`run`] a list of them.
+//! - [`report`] is a run that counts which task used how many ticks, and what for: [`Counts`]. [`share`] is a task's
+//!   share of them.
 //! - [`task`], [`port`], [`register`], [`queue_length`] and [`queue_word`] look into an image, and [`broken_rule`]
 //!   says why one is refused with [`Refusal::RuleBroken`].
 //! - A *script* is a program as text, one order a line. [`translate`] gives its words, [`print()`] gives the text
@@ -18,12 +20,12 @@
 //!
 //! Nothing is required of the words and bytes: any slice may be lent, empty ones too. A call either does what it says,
 //! or it refuses, says why with a [`Refusal`], and changes no word and no byte. No call allocates, keeps a reference
-//! or remembers earlier calls. [`translate`] and [`refused_line`] take at most 256 KiB of the stack, every other call
-//! 4 KiB.
+//! or remembers earlier calls. [`translate`] and [`refused_line`] take at most 256 KiB of the stack, [`report`] 80 KiB
+//! and every other call 4 KiB.
 //!
-//! Where a program is killed in the middle of [`build`], [`event`] or [`run`], the image may hold a part of the change,
-//! and may pass the check all the same. Keep the last image that was saved whole and the events since: they give the
-//! same image again.
+//! Where a program is killed in the middle of [`build`], [`event`], [`run`] or [`report`], the image may hold a part of
+//! the change, and may pass the check all the same. Keep the last image that was saved whole, its counts and the events
+//! since: they give the same image and counts again.
 //!
 //! The enums may get more cases, so a `match` on one needs a last arm `_`. An image carries its edition, [`EDITION`]
 //! today; one of an edition that is not known is [`Refusal::NotMarked`].
@@ -69,6 +71,7 @@
 #![deny(missing_docs)]
 
 pub mod c;
+mod counts;
 mod looking;
 mod numbers;
 mod outcomes;
@@ -76,9 +79,10 @@ mod scripts;
 #[cfg(test)]
 mod tests;
 
+pub use counts::{report, share, Counts, AT_IDLE_COUNT, COUNTS, HEADINGS};
 pub use looking::{broken_rule, port, queue_length, queue_word, register, task};
 pub use looking::{Broken, Port, Queue, Subject, Task};
-pub use numbers::{Kind, Refusal, Rule, Service, Status, TaskError};
+pub use numbers::{Heading, Kind, Refusal, Rule, Service, Status, TaskError};
 pub use outcomes::{Answer, Stopped};
 pub use scripts::{print, print_size, refused_line, translate, Text, Untranslated, MOST_NAMES, MOST_PRINTED};
 
@@ -131,9 +135,9 @@ pub const AT_SEGMENTS: usize = 14;
 /// Where it has the clock.
 pub const AT_CLOCK: usize = 17;
 
-// Why every call of the archive is safe, in all modules: a slice's pointer leads to as many words, or bytes, as its
-// length says, of an empty one to none, which the archive allows; a slice lent for writing shares no word with another
-// slice; and the archive's functions read and write nothing but what they are lent, on any words and bytes.
+// Why every call of the archive is safe, in all modules: a slice's pointer leads to as many words, bytes or counts as
+// its length says, of an empty one to none, which the archive allows; a slice lent for writing shares no byte with
+// another; and the archive's functions read and write nothing but what they are lent, on any words, bytes and counts.
 
 /// `value` where `number` is 0, else the refusal with the number.
 fn unless_refused<T>(number: u16, value: T) -> Result<T, Refusal> {

@@ -57,8 +57,8 @@ macro_rules! numbered {
 }
 
 numbered! {
-    /// Why a call is refused. It changed no word and no byte then, save that [`run`](crate::run) has taken the events
-    /// before the refused one.
+    /// Why a call is refused. It changed no word and no byte then, save that [`run`](crate::run) and
+    /// [`report`](crate::report) have taken the events before the refused one.
     ///
     /// Its number is what the documents and the C header call "the number".
     #[must_use]
@@ -87,8 +87,9 @@ numbered! {
         /// 11: the plan has under five words, too few or too many for its tasks, a segment of 0 words, a program longer
         /// than its segment, or an image of over 32768 words.
         BadPlan = 11, "the plan is malformed, or its image has more than 32768 words";
-        /// 12: the target has another length than [`size`](crate::size) says.
-        WrongTarget = 12, "the target has another length than the plan's image";
+        /// 12: the target has another length than [`size`](crate::size) says. (The archive's own call on counts gives it
+        /// for another number of them than 97, which the package's calls cannot be lent.)
+        WrongTarget = 12, "the target has another length than the plan's image, or not 97 counts";
         /// 13: a line of the names or of the script is none of the grammar, or gives one name or label over 8192.
         OutsideGrammar = 13, "a line outside the grammar, or a name too many";
         /// 14: a name or label is given twice, or one that is used is not given.
@@ -98,6 +99,8 @@ numbered! {
         /// 16: the script has more words than the target; or the list has over [`MOST_PRINTED`](crate::MOST_PRINTED)
         /// words, or its text more bytes than the buffer.
         NoRoom = 16, "more words or bytes than there is room for";
+        /// 17: the count that a tick belongs to is at its end, [`u32::MAX`].
+        CountFull = 17, "a count of ticks is at its end";
     }
 }
 
@@ -126,6 +129,24 @@ numbered! {
         Input = 8, "input";
         /// 9: the port of the task took its next character, or went idle.
         OutputDone = 9, "output done";
+    }
+}
+
+numbered! {
+    /// What a task's ticks are counted under. Its number is its place in the task's row of counts.
+    Heading {
+        /// 0: orders, which are done.
+        Orders = 0, "orders";
+        /// 1: services, which are finished.
+        Services = 1, "services";
+        /// 2: services that had to wait, and the task with them.
+        Waits = 2, "waits";
+        /// 3: faults, of orders and of services.
+        Faults = 3, "faults";
+        /// 4: stops by an error.
+        ErrorStops = 4, "error stops";
+        /// 5: turns that were passed on.
+        PassedTurns = 5, "passed turns";
     }
 }
 

@@ -26,7 +26,7 @@ impl fmt::Display for Answer {
 #[derive(Clone, Copy, Debug, PartialEq, Eq, Hash)]
 #[must_use]
 pub struct Stopped {
-    /// How many events were taken; the image holds exactly these.
+    /// How many events were taken; the image holds exactly these, and so do the counts of a run that counts.
     pub taken: usize,
     /// Why the next one, or the image or the list before any, was refused.
     pub refusal: Refusal,

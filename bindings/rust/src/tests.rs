@@ -1,5 +1,6 @@
 //! Each call on the paper's example or the example of the text form, on what is refused, and on empty slices.
 
+mod counts;
 mod looking;
 mod texts;
 

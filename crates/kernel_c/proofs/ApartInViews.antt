@@ -31,6 +31,7 @@ number-between Refusal.PortIdle = (omega arith, omega arith)
 number-between Refusal.ReadyFull = (omega arith, omega arith)
 number-between Refusal.BadPlan = (omega arith, omega arith)
 number-between Refusal.WrongTarget = (omega arith, omega arith)
+number-between Refusal.CountFull = (omega arith, omega arith)
 
 -- the number is 65535 exactly where a task, a port or a word is not there
 pub task-not-there : (v : TaskView) → (task-numbers v .number ≡ not-there) ↔ (v ≡ TaskView.NotThere)

@@ -2,7 +2,9 @@ pub mod Promised
 pub mod PromisedOfTexts
 pub mod PromisedOfViews
 pub mod PromisedOfBreaches
+pub mod PromisedOfReports
 pub mod Once
 pub mod Apart
 pub mod ApartInViews
 pub mod ApartInBreaches
+pub mod ApartInReports

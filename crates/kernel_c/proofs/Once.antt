@@ -2,7 +2,8 @@
 use mathlib.Core.Path.{_≡_, sym, _∙_, ap}
 use mathlib.Core.List.{List}
 use Prim.Native.Nat.{ℕ}
-use Rattle.kernel_c.specs.Promises.{ChecksC, MeasuresC, BuildsC, HappensC, RunsC, TranslatesC, NamesLineC, PrintsC, MeasuresTextC, LooksAtTaskC, LooksAtPortC, LooksAtRegisterC, LooksAtLengthC, LooksAtWordC, TellsBrokenC}
+use lib.Ieee.{Float}
+use Rattle.kernel_c.specs.Promises.{ChecksC, MeasuresC, BuildsC, HappensC, RunsC, ReportsC, SharesC, TranslatesC, NamesLineC, PrintsC, MeasuresTextC, LooksAtTaskC, LooksAtPortC, LooksAtRegisterC, LooksAtLengthC, LooksAtWordC, TellsBrokenC}
 use Rattle.kernel_c.specs.declared.Measured.{Measured}
 use Rattle.kernel_c.specs.declared.ReplyNumbers.{ReplyNumbers}
 use Rattle.kernel_c.specs.declared.RunNumbers.{RunNumbers}
@@ -50,6 +51,15 @@ ran-same a b et en =
 pub runs-c-once : (image events : List ℕ) (a b : RunNumbers) (x y : List ℕ) → RunsC image events a x → RunsC image events b y → (a ≡ b) × (x ≡ y)
 runs-c-once image events a b x y p q =
     (ran-same a b (p .counted ∙ sym (q .counted)) (p .numbered ∙ sym (q .numbered)), p .left ∙ sym (q .left))
+
+-- a run that counts: the same, and every count
+pub reports-c-once : (image events counts : List ℕ) (a b : RunNumbers) (x y m n : List ℕ) → ReportsC image events counts a x m → ReportsC image events counts b y n → (a ≡ b) × (x ≡ y) × (m ≡ n)
+reports-c-once image events counts a b x y m n p q =
+    (ran-same a b (p .counted ∙ sym (q .counted)) (p .numbered ∙ sym (q .numbered)), p .left ∙ sym (q .left), p .tallied ∙ sym (q .tallied))
+
+-- a share: whether it is told, and the cell for it
+pub shares-c-once : (counts : List ℕ) (task : ℕ) (held : Float) (a b : ℕ) (x y : Float) → SharesC counts task held a x → SharesC counts task held b y → (a ≡ b) × (x ≡ y)
+shares-c-once counts task held a b x y p q = (p .numbered ∙ sym (q .numbered), p .left ∙ sym (q .left))
 
 -- a translation: how many words there are, the number, the text, and every word of the target
 translated-same : (a b : Translated) → a .words ≡ b .words → a .number ≡ b .number → a .text ≡ b .text → a ≡ b

@@ -1,4 +1,5 @@
 pub mod Answers
 pub mod Views
 pub mod Breaches
+pub mod Counts
 pub mod Promises

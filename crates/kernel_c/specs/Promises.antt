@@ -3,6 +3,7 @@ use mathlib.Core.Path.{_≡_}
 use mathlib.Core.List.{List}
 use Prim.Native.Nat.{ℕ}
 use lib.ListN.{length}
+use lib.Ieee.{Float}
 use Rattle.paper.specs.Numbers.{verdict-number, reply-number, check, check-build}
 use Rattle.paper.specs.Calls.{plan-size, size-number, size-value, built, event, run}
 use Rattle.grammar.specs.Texts.{program, judged, answered, translation-words, translation-number, translation-text, stored, named-line}
@@ -12,6 +13,7 @@ use Rattle.breaches.specs.Broken.{broken}
 use Rattle.kernel_c.specs.Answers.{told-kind, told-task}
 use Rattle.kernel_c.specs.Views.{task-numbers, port-numbers, word-numbers}
 use Rattle.kernel_c.specs.Breaches.{broken-numbers}
+use Rattle.kernel_c.specs.Counts.{report-on, share-on, share-number, share-cell}
 use Rattle.kernel_c.specs.declared.Measured.{Measured}
 use Rattle.kernel_c.specs.declared.ReplyNumbers.{ReplyNumbers}
 use Rattle.kernel_c.specs.declared.RunNumbers.{RunNumbers}
@@ -49,6 +51,18 @@ pub record RunsC (image events : List ℕ) (answer : RunNumbers) (after : List �
   pub counted : answer .taken ≡ run image events .taken
   pub numbered : answer .number ≡ verdict-number (run image events .stop)
   pub left : after ≡ run image events .image
+
+-- a run that counts: the answer, every word of the image and every count
+pub record ReportsC (image events counts : List ℕ) (answer : RunNumbers) (after more : List ℕ) : Type 0 where
+  pub counted : answer .taken ≡ report-on image events counts .taken
+  pub numbered : answer .number ≡ verdict-number (report-on image events counts .stop)
+  pub left : after ≡ report-on image events counts .image
+  pub tallied : more ≡ report-on image events counts .counts
+
+-- a task's share: whether one is told, and the cell for it
+pub record SharesC (counts : List ℕ) (task : ℕ) (held : Float) (answer : ℕ) (after : Float) : Type 0 where
+  pub numbered : answer ≡ share-number (share-on counts task)
+  pub left : after ≡ share-cell (share-on counts task) held
 
 -- translating two texts
 pub record TranslatesC (names script target : List ℕ) (answer : Translated) (after : List ℕ) : Type 0 where

@@ -2,6 +2,7 @@
 pub mod broken;
 pub mod looks;
 pub mod prints;
+pub mod reports;
 pub mod scripts;
 
 ghost use mathlib.Core.Path.{_≡_};

@@ -55,8 +55,9 @@ pub fn put_refusal(out: Output, r: Refusal) -> Output {
         ),
         Refusal::WrongTarget => put_text(
             out,
-            b"the target has another length than the plan's image",
+            b"the target has another length than the plan's image, or not 97 counts",
         ),
+        Refusal::CountFull => put_text(out, b"a count of ticks is at its end"),
     }
 }
 

@@ -1,6 +1,6 @@
 //! The numbers and the texts of the package against those of the C header.
 
-use crate::{Kind, Refusal, Rule, Service, Status, Stopped, TaskError, Text, Untranslated};
+use crate::{Heading, Kind, Refusal, Rule, Service, Status, Stopped, TaskError, Text, Untranslated};
 use std::collections::BTreeMap;
 
 const HEADER: &str = include_str!("../../../../include/kernel.h");
@@ -75,6 +75,15 @@ fn the_header_has_the_same_limits() {
     is("KERNEL_AT_CLOCK", crate::AT_CLOCK);
     is("KERNEL_MOST_NAMES", crate::MOST_NAMES);
     is("KERNEL_MOST_PRINTED", crate::MOST_PRINTED);
+    is("KERNEL_COUNTS", crate::COUNTS);
+    is("KERNEL_HEADINGS", crate::HEADINGS);
+    is("KERNEL_AT_IDLE_COUNT", crate::AT_IDLE_COUNT);
+    is("KERNEL_COUNT_ORDERS", Heading::Orders.number().into());
+    is("KERNEL_COUNT_SERVICES", Heading::Services.number().into());
+    is("KERNEL_COUNT_WAITS", Heading::Waits.number().into());
+    is("KERNEL_COUNT_FAULTS", Heading::Faults.number().into());
+    is("KERNEL_COUNT_ERROR_STOPS", Heading::ErrorStops.number().into());
+    is("KERNEL_COUNT_PASSED_TURNS", Heading::PassedTurns.number().into());
     let version = format!("{}.{}.", names["KERNEL_VERSION_MAJOR"], names["KERNEL_VERSION_MINOR"]);
     assert!(env!("CARGO_PKG_VERSION").starts_with(&version));
 }
