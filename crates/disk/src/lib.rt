@@ -13,6 +13,7 @@ pub use reading::load_start;
 pub use reading::load_words;
 pub use reading::open_source;
 pub use saving::save;
+pub use saving::save_at;
 
 // What became of a run: its output is written, its input was refused, or could not be had, or its output could not be written.
 pub enum Outcome {

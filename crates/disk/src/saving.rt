@@ -168,7 +168,7 @@ fn say_saved(path: &[u8], words: usize) {
 }
 
 // Writes words to what a path leads to.
-fn save_at(path: &[u8], words: &[u16]) -> Outcome {
+pub fn save_at(path: &[u8], words: &[u16]) -> Outcome {
     match target_of(path) {
         Target::Plain => save_plain(path, words),
         Target::Other(fd) => save_other(path, fd, words),
