@@ -1,49 +1,39 @@
+-- The words that were kept lie in the buffer.
 use Rattle.disk.proofs.Bytes.{started-end, started-count, words-room, words-in-buffer}
 use borrow.Author.Needs.{needs}
 use Rattle.disk.proofs.reading.load_image.Statement.{statement}
 use Rattle.disk.proofs.reading.load_image.Tie as tie
 
--- src/reading.rt:163:36
 load-image-start-requires : tie.Need-load-image-start-requires
 load-image-start-requires c κs = search needs
 
--- src/reading.rt:163:22
 enum-known-found : tie.Need-enum-known-found
 enum-known-found c = search needs
 
--- src/reading.rt:164:9
 enum-told : tie.Need-enum-told
 enum-told c = search needs
 
--- src/reading.rt:164:9
 same-length : tie.Need-same-length
 same-length c = search needs
 
--- src/reading.rt:164:9
 returns : tie.Need-returns
 returns c = search needs
 
--- src/reading.rt:166:20
 slice-reshare-prefix-put-even : tie.Need-slice-reshare-prefix-put-even
 slice-reshare-prefix-put-even c = search started-end
 
--- src/reading.rt:166:20
 slice-aggregate-put-even : tie.Need-slice-aggregate-put-even
 slice-aggregate-put-even c = search started-count
 
--- src/reading.rt:166:5
 put-even-requires : tie.Need-put-even-requires
 put-even-requires c κs = search (needs, words-room)
 
--- src/reading.rt:159:1
 same-length-2 : tie.Need-same-length-2
 same-length-2 c = search needs
 
--- src/reading.rt:159:1
 same-length-3 : tie.Need-same-length-3
 same-length-3 c = search needs
 
--- src/reading.rt:159:1
 returns-2 : tie.Need-returns-2
 returns-2 c = search (needs, words-in-buffer)
 

@@ -1,49 +1,39 @@
+-- As many bytes were found as the buffer holds, or fewer, and then the file has ended.
 use Rattle.disk.proofs.Bytes.{starts-short, starts-full}
 use borrow.Author.Needs.{needs}
 use Rattle.disk.proofs.reading.load_start.Statement.{statement}
 use Rattle.disk.proofs.reading.load_start.Tie as tie
 
--- src/reading.rt:108:9
 read-full-requires : tie.Need-read-full-requires
 read-full-requires c κs = search needs
 
--- src/reading.rt:109:26
 rest-of-requires : tie.Need-rest-of-requires
 rest-of-requires c κs = search needs
 
--- src/reading.rt:109:19
 enum-known-odd : tie.Need-enum-known-odd
 enum-known-odd c = search needs
 
--- src/reading.rt:110:9
 enum-told : tie.Need-enum-told
 enum-told c = search needs
 
--- src/reading.rt:110:9
 fail-requires : tie.Need-fail-requires
 fail-requires c κs = search needs
 
--- src/reading.rt:111:9
 same-length : tie.Need-same-length
 same-length c = search needs
 
--- src/reading.rt:111:9
 returns : tie.Need-returns
 returns c = search needs
 
--- src/reading.rt:114:9
 same-length-2 : tie.Need-same-length-2
 same-length-2 c = search needs
 
--- src/reading.rt:114:9
 returns-2 : tie.Need-returns-2
 returns-2 c = search (needs, starts-short)
 
--- src/reading.rt:105:1
 same-length-3 : tie.Need-same-length-3
 same-length-3 c = search needs
 
--- src/reading.rt:105:1
 returns-3 : tie.Need-returns-3
 returns-3 c = search needs
 

@@ -1,26 +1,22 @@
+-- What is put ends where the two texts do, inside the list.
 use native.Mathlib.Omega.{arith}
 use Rattle.disk.proofs.Bytes.{counted}
 use borrow.Author.Needs.{needs}
 use Rattle.disk.proofs.saving.put_beside.Statement.{statement}
 use Rattle.disk.proofs.saving.put_beside.Tie as tie
 
--- src/saving.rt:104:9
 put-text-requires : tie.Need-put-text-requires
 put-text-requires c κs = search needs
 
--- src/saving.rt:105:26
 slice-aggregate-put-text : tie.Need-slice-aggregate-put-text
 slice-aggregate-put-text c = search needs
 
--- src/saving.rt:105:5
 put-text-requires-2 : tie.Need-put-text-requires-2
 put-text-requires-2 c κs = search needs
 
--- src/saving.rt:100:1
 same-length : tie.Need-same-length
 same-length c = search needs
 
--- src/saving.rt:100:1
 returns : tie.Need-returns
 returns c = counted _ _ (omega arith)
 
