@@ -27,6 +27,8 @@ pub mod orders;
 pub mod plan;
 pub mod printing;
 pub mod queue;
+pub mod reporting;
+pub mod reports;
 pub mod rng;
 pub mod rules;
 pub mod runner;

@@ -4,6 +4,7 @@
 
 use model::events::Answer;
 use model::happening::many::{self, Sights};
+use model::reporting::{self, shares};
 use model::rng::Rng;
 use model::{building, cases, happening, lists, looking, ordering, runner_files, running, texts, vectors, wrong};
 use std::fs::{self, File};
@@ -13,7 +14,7 @@ use std::process::ExitCode;
 
 const USAGE: &str = "usage: model check-vectors|build-vectors|order-vectors|event-vectors|\
                      run-vectors|text-vectors|print-vectors|look-vectors|broken-vectors|\
-                     many-events SEED COUNT FILE\n       model runner-cases FOLDER";
+                     report-vectors|share-vectors|many-events SEED COUNT FILE\n       model runner-cases FOLDER";
 
 /// The numbers that an event in a file can have. 10 is not among them: on a
 /// good image no wake finds the ready queue full.
@@ -27,6 +28,10 @@ const PRINT_NUMBERS: [u16; 2] = [0, 16];
 /// The numbers that a look can have, and those of the first broken rule.
 const LOOK_NUMBERS: [u16; 8] = [0, 1, 2, 3, 4, 5, 6, 65535];
 const BROKEN_NUMBERS: [u16; 7] = [0, 1, 2, 3, 4, 5, 6];
+/// The numbers that a run that counts can have.
+const REPORT_NUMBERS: [u16; 12] = [0, 1, 2, 3, 4, 5, 6, 7, 8, 9, 12, 17];
+/// What a share is answered with: that there is none, and that there is one.
+const SHARE_ANSWERS: [u16; 2] = [0, 1];
 /// The kinds of answer.
 const ANSWER_KINDS: [u16; 10] = [0, 1, 2, 3, 4, 5, 6, 7, 8, 9];
 
@@ -75,6 +80,8 @@ fn make_file(command: &str, seed: u64, count: usize, file: &str) -> Result<(), S
         "print-vectors" => print_vectors(seed, count, file),
         "look-vectors" => look_vectors(seed, count, file),
         "broken-vectors" => broken_vectors(seed, count, file),
+        "report-vectors" => report_vectors(seed, count, file),
+        "share-vectors" => share_vectors(seed, count, file),
         "many-events" => many_events(seed, count, file),
         _ => Err(USAGE.into()),
     }
@@ -181,6 +188,31 @@ fn broken_vectors(seed: u64, count: usize, file: &str) -> Result<(), String> {
     total(seen.count());
     require_each("number", &numbers, 1)?;
     require_each("rule", &rules, 1)
+}
+
+/// Writes the vectors of runs that count and prints how many there are of each
+/// number and how many events they take; fails where there is none of a number.
+fn report_vectors(seed: u64, count: usize, file: &str) -> Result<(), String> {
+    let nights = reporting::collect(seed, count);
+    write(file, &nights, vectors::report_records, &wrong::reports())?;
+    let cases = nights.iter().flat_map(|night| &night.courses).flat_map(|course| &course.cases);
+    let numbers = tally(&REPORT_NUMBERS, cases.clone().map(|case| (case.number, 1)));
+    report("number", &numbers);
+    total(cases.clone().count());
+    println!("{} events taken", cases.map(|case| case.taken).sum::<usize>());
+    require_each("number", &numbers, 1)
+}
+
+/// Writes the vectors of shares and prints how many there are and how many have
+/// none; fails where there are too few of either.
+fn share_vectors(seed: u64, count: usize, file: &str) -> Result<(), String> {
+    let groups = shares::collect(seed, count);
+    write(file, &groups, vectors::share_records, &wrong::shares())?;
+    let cases = groups.iter().flat_map(|group| &group.cases);
+    let answers = tally(&SHARE_ANSWERS, cases.clone().map(|case| (case.share.is_some().into(), 1)));
+    report("answer", &answers);
+    total(cases.count());
+    require_each("answer", &answers, SOME)
 }
 
 /// Writes at least `count` random events and prints how many there are of each

@@ -24,7 +24,8 @@ pub const PORT_IDLE: u16 = 9;
 pub const READY_FULL: u16 = 10;
 /// The plan is too short, too long, or one of its lengths is wrong.
 pub const PLAN: u16 = 11;
-/// The target of a build is not T words.
+/// The target of a build is not T words; through C also a list of counts of
+/// another length than 97.
 pub const TARGET: u16 = 12;
 /// A line of a text is not one of the grammar.
 pub const GRAMMAR: u16 = 13;
@@ -35,6 +36,8 @@ pub const NAME: u16 = 14;
 pub const VALUE: u16 = 15;
 /// A script gives more words than its target has.
 pub const ROOM: u16 = 16;
+/// A tick's own count is at its end.
+pub const COUNT_FULL: u16 = 17;
 /// The task, device, register, queue or place that is looked for is not there.
 pub const NOT_THERE: u16 = 65535;
 

@@ -30,7 +30,7 @@ pub fn run(image: &[u16], list: &[u16]) -> Ran {
 
 /// The kernel that a run begins with, or the number that refuses the run: the
 /// image is tested before the list's length.
-fn accept(image: &[u16], list: &[u16]) -> Result<Kernel, u16> {
+pub fn accept(image: &[u16], list: &[u16]) -> Result<Kernel, u16> {
     let kernel = check::accept(image)?;
     require(list.len().is_multiple_of(EVENT_WORDS), numbers::EVENT)?;
     Ok(kernel)
@@ -49,7 +49,7 @@ fn until_refused(mut kernel: Kernel, list: &[u16]) -> Ran {
 }
 
 /// The whole events of a list, three words each.
-fn events(list: &[u16]) -> impl Iterator<Item = [u16; EVENT_WORDS]> + '_ {
+pub fn events(list: &[u16]) -> impl Iterator<Item = [u16; EVENT_WORDS]> + '_ {
     list.chunks_exact(EVENT_WORDS).map(|words| [words[0], words[1], words[2]])
 }
 

@@ -123,9 +123,45 @@
 //! | 2, 3 | the call: 0 task, 1 port, 2 register, 3 length and 4 word of a queue, 5 broken rule |
 //! | 4..7 | what it is asked with, in the call's order, then 0 |
 //! | 8..12 | the expected fields beside the number, in the call's order, then 0 |
+//!
+//! A record of kind 10, counts to go by until the next record of kind 10:
+//!
+//! | word of a record | holds |
+//! |---|---|
+//! | 0 | kind of the record, 10 |
+//! | 1 | 0 |
+//! | 2, 3 | how many counts there are |
+//! | 4.. | the counts, each two words |
+//!
+//! A record of kind 11, a run that counts, on the image and the counts that
+//! stand, which are then those with the changes. Either may be bad:
+//!
+//! | word of a record | holds |
+//! |---|---|
+//! | 0 | kind of the record, 11 |
+//! | 1 | expected number: 0, 1 to 10, 12 or 17 |
+//! | 2, 3 | count of the list's words |
+//! | 4, 5 | how many events are taken |
+//! | 6, 7 | k, how many words of the image change |
+//! | 8, 9 | m, how many counts change |
+//! | 10.. | the list's words |
+//! | then | k pairs: a place, ascending, and its new word |
+//! | then | m threes: the place of a count, ascending, and the two words of what it then is |
+//!
+//! A record of kind 12, a task's share by the counts that stand:
+//!
+//! | word of a record | holds |
+//! |---|---|
+//! | 0 | kind of the record, 12 |
+//! | 1 | expected answer: 1 where there is a share, else 0 |
+//! | 2, 3 | the task, and 0 |
+//! | 4..7 | the 64 bits of what the share's place holds afterwards, low ones first |
+//!
+//! Before the call that place holds -1.5, and still does where there is none.
 
 use crate::changes::Change;
 use crate::layout::word;
+use crate::reporting::{self, shares, Growth};
 use crate::{building, cases, happening, lists, looking, numbers, ordering, running, texts};
 
 /// The kind of record that holds a list of words and the check's number.
@@ -146,6 +182,12 @@ pub const TEXT: u16 = 7;
 pub const PRINT: u16 = 8;
 /// The kind of record that holds a look into an image and what it gives.
 pub const LOOK: u16 = 9;
+/// The kind of record that holds counts for the records after it.
+pub const COUNTS: u16 = 10;
+/// The kind of record that holds a list of events and what its report comes to.
+pub const REPORT: u16 = 11;
+/// The kind of record that holds a task and its share.
+pub const SHARE: u16 = 12;
 
 /// Added to the kind of a record that is wrong on purpose.
 const WRONG: u16 = 256;
@@ -162,6 +204,9 @@ const LONGEST_PART: usize = 32;
 
 /// What stands for both words of the answer that a refused event has not.
 const NO_ANSWER: u16 = 65535;
+
+/// What stands in the place of a share before the call.
+pub const UNWRITTEN: f64 = -1.5;
 
 /// The bytes of these cases, each as its record.
 pub fn encode<C>(cases: &[C], record: fn(&C) -> Vec<u16>) -> Vec<u8> {
@@ -182,6 +227,11 @@ pub fn marked(mut record: Vec<u16>) -> Vec<u16> {
 /// A record of kind 3, and one on its image.
 pub fn after_image(image: &[u16], record: Vec<u16>) -> Vec<u16> {
     [image_record(image), record].concat()
+}
+
+/// A record of kind 10, and one or more that go by its counts.
+pub fn after_counts(counts: &[u32], records: Vec<u16>) -> Vec<u16> {
+    [counts_record(counts), records].concat()
 }
 
 /// The words of a record of kind 1.
@@ -231,6 +281,31 @@ pub fn run_records(course: &running::Course) -> Vec<u16> {
 pub fn look_records(group: &looking::Group) -> Vec<u16> {
     let mut words = image_record(&group.image);
     words.extend(group.cases.iter().flat_map(look_record));
+    words
+}
+
+/// The words of a record of kind 10, and of its records of kind 3 and 11.
+pub fn report_records(night: &reporting::Night) -> Vec<u16> {
+    let mut words = counts_record(&night.counts);
+    for course in &night.courses {
+        words.extend(image_record(&course.image));
+        words.extend(course.cases.iter().flat_map(report_record));
+    }
+    words
+}
+
+/// The words of a record of kind 10 and of its records of kind 12.
+pub fn share_records(group: &shares::Group) -> Vec<u16> {
+    let mut words = counts_record(&group.counts);
+    words.extend(group.cases.iter().flat_map(share_record));
+    words
+}
+
+/// The words of a record of kind 10.
+fn counts_record(counts: &[u32]) -> Vec<u16> {
+    let mut words = vec![COUNTS, 0];
+    words.extend(count(counts.len()));
+    words.extend(counts.iter().flat_map(|&number| halves(number)));
     words
 }
 
@@ -306,6 +381,24 @@ pub fn look_record(case: &looking::Case) -> Vec<u16> {
     words
 }
 
+/// The words of a record of kind 11.
+pub fn report_record(case: &reporting::Case) -> Vec<u16> {
+    let mut words = vec![REPORT, case.number];
+    words.extend([case.list.len(), case.taken, case.changes.len(), case.grown.len()].map(count).concat());
+    words.extend(&case.list);
+    words.extend(pairs(&case.changes));
+    words.extend(case.grown.iter().flat_map(threes));
+    words
+}
+
+/// The words of a record of kind 12.
+pub fn share_record(case: &shares::Case) -> Vec<u16> {
+    let mut words = vec![SHARE, case.share.is_some().into()];
+    words.extend([case.task, 0]);
+    words.extend(quarters(case.share.unwrap_or(UNWRITTEN).to_bits()));
+    words
+}
+
 /// The shortest first part that gives all when it is repeated, where that is
 /// short; else all.
 fn repeated_part<T: PartialEq>(all: &[T]) -> &[T] {
@@ -330,10 +423,25 @@ fn pairs(changes: &[Change]) -> impl Iterator<Item = u16> + '_ {
     changes.iter().flat_map(|&(place, new)| [place, new])
 }
 
+/// The place of a count, and what it then is.
+fn threes(&(place, new): &Growth) -> [u16; 3] {
+    let [low, high] = halves(new);
+    [place, low, high]
+}
+
 /// A count as two words, low and high 16 bits.
 fn count(number: usize) -> [u16; 2] {
-    let number = u32::try_from(number).expect("a count is under 2^32");
+    halves(u32::try_from(number).expect("a count is under 2^32"))
+}
+
+/// Low and high 16 bits.
+fn halves(number: u32) -> [u16; 2] {
     [number as u16, (number >> 16) as u16]
+}
+
+/// Four times 16 bits, low ones first.
+fn quarters(bits: u64) -> [u16; 4] {
+    [0, 16, 32, 48].map(|low| (bits >> low) as u16)
 }
 
 #[cfg(test)]
@@ -506,5 +614,37 @@ mod tests {
             &[9, 1, 5, 0, 0, 0, 0, 0, 65535, 65535, 65535, 65535, 0],
         ];
         assert_eq!(words, by_hand.concat());
+    }
+
+    #[test]
+    fn the_reports_of_a_night_follow_its_counts_and_their_images() {
+        let case = reporting::Case {
+            list: vec![0, 0, 0, 1, 3, 256],
+            taken: 1,
+            number: 17,
+            changes: vec![(17, 4), (18, 300)],
+            grown: vec![(0, 1), (96, 4294967294)],
+        };
+        let course = |image: &[u16], cases| reporting::Course { image: image.to_vec(), cases, stands: vec![] };
+        let courses = vec![course(&[50], vec![]), course(&[60, 70], vec![case])];
+        let words = report_records(&reporting::Night { counts: vec![5, 65536], courses, stands: vec![] });
+        let by_hand: [&[u16]; 4] = [
+            &[10, 0, 2, 0, 5, 0, 0, 1],
+            &[3, 0, 1, 0, 50],
+            &[3, 0, 2, 0, 60, 70],
+            &[11, 17, 6, 0, 1, 0, 2, 0, 2, 0, 0, 0, 0, 1, 3, 256, 17, 4, 18, 300, 0, 1, 0, 96, 65534, 65535],
+        ];
+        assert_eq!(words, by_hand.concat());
+    }
+
+    /// 0.875 is 1.75 halves: 0x3FEC and zeros. -1.5 is 0xBFF8 and zeros.
+    #[test]
+    fn the_shares_of_counts_follow_them() {
+        let counts: Vec<u32> = [7].into_iter().chain([0; 95]).chain([1]).collect();
+        let words = share_records(&shares::Group::judged(counts, vec![0, 16]));
+        assert_eq!(words[..6], [10, 0, 97, 0, 7, 0]);
+        assert_eq!(words[4 + 2 * 97..], [12, 1, 0, 0, 0, 0, 0, 0x3FEC, 12, 1, 16, 0, 0, 0, 0, 0]);
+        let none = share_records(&shares::Group::judged(vec![9], vec![15]));
+        assert_eq!(none, [10, 0, 1, 0, 9, 0, 12, 0, 15, 0, 0, 0, 0, 0xBFF8]);
     }
 }

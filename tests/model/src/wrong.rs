@@ -8,6 +8,8 @@ use crate::image::Kernel;
 use crate::looking::{self, Look};
 use crate::numbers;
 use crate::printing::MOST_WORDS;
+use crate::reporting::{self, shares, Growth, Night};
+use crate::reports::COUNTS;
 use crate::translate::SCRIPT;
 use crate::vectors::{self, marked};
 use crate::{building, cases, happening, lists, ordering, running, texts};
@@ -318,6 +320,85 @@ fn another_number(number: u16) -> u16 {
     }
 }
 
+/// The counts that grow, said otherwise: another number for the first and for
+/// the last, in its low word and in its high one, either left out, and one too
+/// many.
+const GROWTHS: [Slip<Vec<Growth>>; 7] = [
+    |grown| grown[0].1 += 1,
+    |grown| grown[0].1 += 65536,
+    |grown| grown.last_mut().expect("a last count").1 += 1,
+    |grown| grown.last_mut().expect("a last count").1 += 65536,
+    |grown| *grown = grown.split_off(1),
+    |grown| grown.truncate(grown.len() - 1),
+    |grown| grown.insert(4, (4, 1)),
+];
+
+/// The records of reports, each after its counts and its image: the number, the
+/// count of events taken, and each word and each count that is changed or not.
+pub fn reports() -> Vec<Vec<u16>> {
+    let list = [TICK, TICK, TICK, LETTER, TICK, TICK, TICK, TICK, TICK, DONE, DONE].concat();
+    let zeros = vec![0; COUNTS];
+    let image = papers().encode();
+    let good = each_report(&zeros, &image, &list, |right| {
+        let numbered: [Slip<reporting::Case>; 4] = [
+            |case| case.number = numbers::INPUT_FULL,
+            |case| case.number = numbers::COUNT_FULL,
+            |case| case.taken += 1,
+            |case| case.taken += HIGH,
+        ];
+        let grown = GROWTHS.map(|slip| slipped(right, |case| slip(&mut case.grown)));
+        [each(right, numbered), each_change(right, |case| &mut case.changes), grown.into()].concat()
+    });
+    let refused: fn(&reporting::Case) -> Vec<reporting::Case> = |right| {
+        let slips: [Slip<reporting::Case>; 6] = [
+            |case| case.number = numbers::MARK_OR_EDITION,
+            |case| case.number = numbers::GOOD,
+            |case| case.taken += 1,
+            |case| case.grown.push((0, OTHER.into())),
+            |case| case.grown.push((95, OTHER.into())),
+            |case| case.grown.push((95, u32::MAX - 1)),
+        ];
+        each(right, slips)
+    };
+    let full = vec![u32::MAX; COUNTS];
+    let stopped = each_report(&full, &image, &list, refused);
+    let bad = each_report(&zeros, &[], &list, refused);
+    let length = each_report(&full[1..], &image, &list, refused);
+    [good, stopped, bad, length].concat()
+}
+
+/// The wrong records of a report on these counts and this image.
+fn each_report(
+    counts: &[u32],
+    image: &[u16],
+    list: &[u16],
+    slips: impl Fn(&reporting::Case) -> Vec<reporting::Case>,
+) -> Vec<Vec<u16>> {
+    let mut night = Night::from(counts.to_vec()).on(image.to_vec());
+    let wrong = slips(night.judge(list.to_vec()));
+    let record = |case| vectors::after_image(image, marked(vectors::report_record(case)));
+    wrong.iter().map(|case| vectors::after_counts(counts, record(case))).collect()
+}
+
+/// Where a record of a share has its bits, and how many words they are.
+const BITS_AT: usize = 4;
+const BITS_WORDS: usize = 4;
+
+/// The records of shares, each after its counts: the answer and each word of the
+/// bits, of a share, of none, and of a task that no image has.
+pub fn shares() -> Vec<Vec<u16>> {
+    let thirds: Vec<u32> = [1].into_iter().chain([0; COUNTS - 2]).chain([2]).collect();
+    let groups = [(thirds.clone(), 0), (thirds.clone(), 16), (vec![0; COUNTS], 0), (thirds[1..].to_vec(), 0)];
+    let each = |(counts, task): (Vec<u32>, u16)| {
+        let group = shares::Group::judged(counts, vec![task]);
+        let right = vectors::share_record(&group.cases[0]);
+        let places = std::iter::once(1).chain(BITS_AT..BITS_AT + BITS_WORDS);
+        let wrong = places.map(|place| slipped(&right, |words| words[place] ^= 1));
+        wrong.map(|words| vectors::after_counts(&group.counts, marked(words))).collect::<Vec<_>>()
+    };
+    groups.into_iter().flat_map(each).collect()
+}
+
 #[cfg(test)]
 mod tests {
     use super::*;
@@ -335,6 +416,9 @@ mod tests {
             assert!(records.iter().all(|words| (words[0], words[4 + usize::from(words[2])]) == (3, 256 + 9)));
         }
         assert!(runs().iter().all(|words| (words[0], words[4 + usize::from(words[2])]) == (3, 256 + 6)));
+        for (words, kind) in reports().iter().map(|words| (words, 3)).chain(shares().iter().map(|words| (words, 268))) {
+            assert_eq!((words[0], words[4 + 2 * usize::from(words[2])]), (10, kind));
+        }
     }
 
     /// One word more that is right: only the count is wrong.

@@ -17,7 +17,7 @@ const MOST_EVENTS: usize = 8;
 /// An event of an unknown kind.
 const UNKNOWN: [u16; 3] = [3, 0, 0];
 /// The numbers of bad images.
-const NUMBERS: [u16; 6] = [1, 2, 3, 4, 5, 6];
+pub const NUMBERS: [u16; 6] = [1, 2, 3, 4, 5, 6];
 
 /// Bad images of each number, each with lists of every sort.
 pub fn all(seed: u64) -> Vec<Course> {
@@ -49,7 +49,7 @@ fn course(rng: &mut Rng, damages: &[Damage], number: u16) -> Course {
 }
 
 /// A damaged image that is no longer than a good one can be.
-fn damaged(rng: &mut Rng, kernel: &Kernel, damages: &[Damage]) -> Vec<u16> {
+pub fn damaged(rng: &mut Rng, kernel: &Kernel, damages: &[Damage]) -> Vec<u16> {
     loop {
         let words = damage::any(rng, kernel, damages);
         if words.len() <= LARGEST_TOTAL {

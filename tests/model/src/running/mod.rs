@@ -1,10 +1,10 @@
 //! The cases of runs: which images and lists the file of vectors holds.
 
-mod bad;
+pub mod bad;
 mod random;
 mod special;
 
-pub use random::{events, list};
+pub use random::{after, events, list};
 
 use crate::changes::{differences, Change};
 use crate::check::check;

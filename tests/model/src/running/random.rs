@@ -86,7 +86,7 @@ fn taken(rng: &mut Rng, kernel: &mut Kernel) -> [u16; EVENT_WORDS] {
 }
 
 /// The kernel after the events of a list that are all taken.
-fn after(kernel: &Kernel, list: &[u16]) -> Kernel {
+pub fn after(kernel: &Kernel, list: &[u16]) -> Kernel {
     let mut stands = kernel.clone();
     for words in list.chunks_exact(EVENT_WORDS) {
         happen(&mut stands, [words[0], words[1], words[2]]).expect("the event is taken");
