@@ -5,9 +5,10 @@ use kernel::c::NO_ANSWER;
 use model::check::{accept, check};
 use model::events::{self, happen};
 use model::image::Kernel;
-use model::numbers::GOOD;
+use model::numbers::{GOOD, NOT_THERE};
 use model::plan;
 use model::printing;
+use model::reports::{report, share, Reported};
 use model::runs::{run, Ran};
 use model::translate::{translate, Translation};
 
@@ -20,12 +21,16 @@ pub struct Outcome {
     pub buffers: Vec<Vec<u16>>,
     /// The text after the call, where it is one that the call may print to.
     pub printed: Option<Vec<u8>>,
+    /// The counts after the call, where it may count.
+    pub counts: Option<Vec<u32>>,
+    /// The bits of the share after the call, where it may write one.
+    pub share: Option<u64>,
 }
 
 impl Outcome {
     /// An outcome of a call that prints nothing.
     fn new(number: u16, answer: Answer, buffers: Vec<Vec<u16>>) -> Outcome {
-        Outcome { number, answer, buffers, printed: None }
+        Outcome { number, answer, buffers, printed: None, counts: None, share: None }
     }
 }
 
@@ -60,7 +65,20 @@ pub fn outcome(call: &Call) -> Outcome {
             let seen = look.seen_in(image);
             Outcome::new(seen.number, Answer::Look(seen), vec![image.clone()])
         }
+        Call::Report { image, events, counts } => {
+            let Reported { number, taken, image, counts } = report(image, events, counts);
+            let answer = Answer::Report { number, taken: taken as u64 };
+            Outcome { counts: Some(counts), ..Outcome::new(number, answer, vec![image, events.clone()]) }
+        }
+        Call::Share { counts, task, .. } => task_share(share(counts, *task)),
     }
+}
+
+/// A share, or none, which is told by the number of what is not there.
+fn task_share(share: Option<f64>) -> Outcome {
+    let number = if share.is_some() { GOOD } else { NOT_THERE };
+    let answer = Answer::Share { told: share.is_some().into() };
+    Outcome { share: share.map(f64::to_bits), ..Outcome::new(number, answer, vec![]) }
 }
 
 /// The number of a refusal and another value, or 0 and the value.

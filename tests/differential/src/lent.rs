@@ -1,4 +1,4 @@
-//! A buffer of words or of bytes that is lent, with guards on both sides.
+//! A buffer of words, of bytes or of counts, or the place for a share, that is lent, with guards on both sides.
 
 use crate::call::{Buffer, Call};
 use model::rng::Rng;
@@ -7,7 +7,7 @@ use model::rng::Rng;
 /// at any address.
 const MOST_GUARDS: usize = 16;
 
-/// What a buffer is made of: words or bytes.
+/// What a buffer is made of: words, bytes, counts, or the bits of a share.
 pub trait Unit: Copy + PartialEq {
     /// Any of its values.
     fn any(rng: &mut Rng) -> Self;
@@ -22,6 +22,18 @@ impl Unit for u16 {
 impl Unit for u8 {
     fn any(rng: &mut Rng) -> u8 {
         rng.any_word().to_le_bytes()[0]
+    }
+}
+
+impl Unit for u32 {
+    fn any(rng: &mut Rng) -> u32 {
+        u32::from(rng.any_word()) << 16 | u32::from(rng.any_word())
+    }
+}
+
+impl Unit for u64 {
+    fn any(rng: &mut Rng) -> u64 {
+        u64::from(u32::any(rng)) << 32 | u64::from(u32::any(rng))
     }
 }
 
@@ -41,16 +53,23 @@ pub struct Difference<T> {
     pub expected: T,
 }
 
-/// The rooms of a call: those of its words and those of its bytes.
+/// The rooms of a call: those of its words, of its bytes, of its counts, and of a share.
 pub struct Rooms {
     pub words: Vec<Lent<u16>>,
     pub texts: Vec<Lent<u8>>,
+    pub counts: Vec<Lent<u32>>,
+    pub shares: Vec<Lent<u64>>,
 }
 
 impl Rooms {
     /// A room for each buffer of the call.
     pub fn new(rng: &mut Rng, call: &Call) -> Rooms {
-        Rooms { words: rooms(rng, &call.buffers()), texts: rooms(rng, &call.texts()) }
+        Rooms {
+            words: rooms(rng, &call.buffers()),
+            texts: rooms(rng, &call.texts()),
+            counts: rooms(rng, &call.counts()),
+            shares: rooms(rng, &call.shares()),
+        }
     }
 }
 

@@ -1,13 +1,24 @@
-//! The calls of the C library itself, as the Rust package declares them, and those that look as `looks` does.
+//! The calls of the C library itself, as the Rust package declares them, those that look as `looks` does, and those that
+//! count as `reports` does.
 
 use crate::call::{Answer, Call};
 use crate::lent::{Lent, Rooms};
 use crate::looks;
+use crate::reports;
 use kernel::c::{self, Line, Printed, Ran, Size, Told, Translated};
 use model::numbers::GOOD;
 
 /// Makes the call with its words and bytes in the rooms that are lent.
 pub fn answer(call: &Call, lent: &mut Rooms) -> Answer {
+    match (call, &mut lent.counts[..], &mut lent.shares[..]) {
+        (Call::Share { task, .. }, [counts], [share]) => reports::share(counts, *task, share),
+        (Call::Report { .. }, [counts], []) => reports::report(&mut lent.words, counts),
+        _ => answer_in_words(call, lent),
+    }
+}
+
+/// Makes a call that is lent neither counts nor the place for a share.
+fn answer_in_words(call: &Call, lent: &mut Rooms) -> Answer {
     match (call, &mut lent.words[..], &mut lent.texts[..]) {
         (Call::Check { .. }, [image], []) => check(image),
         (Call::Size { .. }, [plan], []) => size(plan),

@@ -1,4 +1,5 @@
-//! Random calls of the library, each compared with the model: the answer, and every word of every buffer.
+//! Random calls of the library, each compared with the model: the answer, every word of every buffer, every count, and
+//! a share bit for bit.
 
 mod call;
 mod expected;
@@ -7,6 +8,7 @@ mod library;
 mod looks;
 mod package;
 mod package_looks;
+mod reports;
 mod source;
 mod tally;
 
@@ -66,13 +68,13 @@ fn compare(seed: u64, count: usize) -> Result<(), String> {
     Ok(())
 }
 
-/// Makes a call in one way, and says what differs from the model's outcome: the answer, and the first word of each buffer
-/// and byte of each text.
+/// Makes a call in one way, and says what differs from the model's outcome: the answer, the first word of each buffer and
+/// byte of each text, the first count, and the share.
 fn differences(rng: &mut Rng, call: &Call, outcome: &Outcome, (way, make): Way) -> Vec<String> {
     let mut lent = Rooms::new(rng, call);
-    let answer = make(call, &mut lent);
     let mut told = Vec::new();
-    if let Some(answer) = answer.filter(|&answer| answer != outcome.answer) {
+    let Some(answer) = make(call, &mut lent) else { return told };
+    if answer != outcome.answer {
         told.push(format!("{way}: the answer is {answer:?}, the model's {:?}", outcome.answer));
     }
     for (((name, _), room), expected) in call.buffers().iter().zip(&lent.words).zip(&outcome.buffers) {
@@ -81,6 +83,14 @@ fn differences(rng: &mut Rng, call: &Call, outcome: &Outcome, (way, make): Way) 
     for ((name, before), room) in call.texts().iter().zip(&lent.texts) {
         let expected = outcome.printed.as_deref().unwrap_or(before);
         told.extend(room.difference(expected).map(|byte| told_of(way, "byte", name, byte)));
+    }
+    for ((name, before), room) in call.counts().iter().zip(&lent.counts) {
+        let expected = outcome.counts.as_deref().unwrap_or(before);
+        told.extend(room.difference(expected).map(|count| told_of(way, "count", name, count)));
+    }
+    for ((name, before), room) in call.shares().iter().zip(&lent.shares) {
+        let expected = outcome.share.as_ref().map_or(*before, std::slice::from_ref);
+        told.extend(room.difference(expected).map(|share| told_of(way, "place", name, share)));
     }
     told
 }

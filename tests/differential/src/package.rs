@@ -5,7 +5,7 @@ use crate::expected::refused_event;
 use crate::lent::{Lent, Rooms};
 use crate::package_looks;
 use kernel::c::{NAMES, NO_TEXT, SCRIPT};
-use kernel::{Refusal, Stopped, Text, Untranslated};
+use kernel::{Counts, Refusal, Stopped, Text, Untranslated};
 
 /// Makes the call with its words and bytes in the rooms that are lent, if the package can be asked to.
 pub fn answer(call: &Call, lent: &mut Rooms) -> Option<Answer> {
@@ -32,6 +32,8 @@ pub fn answer(call: &Call, lent: &mut Rooms) -> Option<Answer> {
         }
         (Call::RoundTrip { .. }, [words, target], [text]) => round_trip(words, text, target),
         (Call::Look { look, .. }, [image], []) => Answer::Look(package_looks::seen(*look, image.words())?),
+        (Call::Report { .. }, [image, events], []) => report(image, events, &mut lent.counts[0])?,
+        (Call::Share { task, .. }, [], []) => share(&mut lent.counts[0], *task, &mut lent.shares[0])?,
         _ => unreachable!("a call has the buffers of its own"),
     })
 }
@@ -83,6 +85,24 @@ fn text_number(text: Text) -> u16 {
         Text::Names => NAMES,
         Text::Script => SCRIPT,
     }
+}
+
+/// A run that counts, unless the counts are of another length: the package's are always 97.
+fn report(image: &mut Lent<u16>, events: &mut Lent<u16>, lent: &mut Lent<u32>) -> Option<Answer> {
+    let mut counts = Counts::with_numbers(lent.words().try_into().ok()?);
+    let (number, taken) = ended(kernel::report(image.words(), events.words(), &mut counts));
+    lent.words().copy_from_slice(counts.numbers());
+    Some(Answer::Report { number, taken })
+}
+
+/// A task's share, put in its place where there is one, unless the counts are of another length.
+fn share(lent: &mut Lent<u32>, task: u16, place: &mut Lent<u64>) -> Option<Answer> {
+    let counts = Counts::with_numbers(lent.words().try_into().ok()?);
+    let share = kernel::share(&counts, task);
+    if let Some(share) = share {
+        place.words()[0] = share.to_bits();
+    }
+    Some(Answer::Share { told: share.is_some().into() })
 }
 
 /// Prints words, and translates what is printed, with no names.

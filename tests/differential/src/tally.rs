@@ -1,15 +1,15 @@
 //! How many cases of each call, each number, each kind of answer and each broken rule were compared.
 
-use crate::call::{Answer, Call, LOOKS, NAMES};
+use crate::call::{Answer, Call, LOOKS, NAMES, REPORT, SHARE};
 use crate::expected::Outcome;
 use model::looking::{Seen, RULES};
 use model::numbers::{NOT_THERE, OTHER_RULE};
 use std::collections::BTreeMap;
 
 /// The numbers that must occur. 10 is not among them: on a good image no wake finds the ready queue full.
-const NUMBERS: [u16; 17] = [0, 1, 2, 3, 4, 5, 6, 7, 8, 9, 11, 12, 13, 14, 15, 16, NOT_THERE];
+const NUMBERS: [u16; 18] = [0, 1, 2, 3, 4, 5, 6, 7, 8, 9, 11, 12, 13, 14, 15, 16, 17, NOT_THERE];
 /// Calls by their places among the names, each with the numbers that must occur in it.
-const OF_CALLS: [(usize, &[u16]); 11] = [
+const OF_CALLS: [(usize, &[u16]); 13] = [
     (5, &TEXT_NUMBERS),
     (6, &TEXT_NUMBERS),
     (7, &PRINT_NUMBERS),
@@ -21,11 +21,16 @@ const OF_CALLS: [(usize, &[u16]); 11] = [
     (LOOKS + 3, &LOOK_NUMBERS),
     (LOOKS + 4, &LOOK_NUMBERS),
     (BROKEN, &BROKEN_NUMBERS),
+    (REPORT, &REPORT_NUMBERS),
+    (SHARE, &SHARE_NUMBERS),
 ];
 const TEXT_NUMBERS: [u16; 5] = [0, 13, 14, 15, 16];
 const PRINT_NUMBERS: [u16; 2] = [0, 16];
 const LOOK_NUMBERS: [u16; 8] = [0, 1, 2, 3, 4, 5, 6, NOT_THERE];
 const BROKEN_NUMBERS: [u16; 7] = [0, 1, 2, 3, 4, 5, 6];
+const REPORT_NUMBERS: [u16; 12] = [0, 1, 2, 3, 4, 5, 6, 7, 8, 9, 12, 17];
+/// A share that is told, and none.
+const SHARE_NUMBERS: [u16; 2] = [0, NOT_THERE];
 /// The place among the names of the call that tells the first broken rule.
 const BROKEN: usize = LOOKS + 5;
 /// The kinds of answer, all of which must occur.
@@ -40,8 +45,9 @@ pub struct Tally {
     kinds: [usize; KINDS.len()],
     /// The images of each first broken rule.
     rules: BTreeMap<u16, usize>,
-    /// The events that the runs took.
+    /// The events that the runs took, and those that were counted.
     taken: u64,
+    counted: u64,
     /// The words of all buffers, and the bytes of all texts.
     words: usize,
     bytes: usize,
@@ -56,6 +62,7 @@ impl Tally {
         match outcome.answer {
             Answer::Event { number: 0, kind, .. } => self.kinds[usize::from(kind)] += 1,
             Answer::Run { taken, .. } => self.taken += taken,
+            Answer::Report { taken, .. } => self.counted += taken,
             Answer::Look(Seen { number: OTHER_RULE, fields }) if call.place() == BROKEN => {
                 *self.rules.entry(fields[0]).or_insert(0) += 1
             }
@@ -71,8 +78,8 @@ impl Tally {
         print_line("all calls", "number", NUMBERS.map(|number| (number, self.of_number(number))));
         print_line("accepted events", "kind", KINDS.into_iter().zip(self.kinds));
         print_line("images that break a rule", "rule", self.rules.clone());
-        let Tally { taken, words, bytes, .. } = self;
-        println!("{taken} events taken by runs, {words} words and {bytes} bytes lent");
+        let Tally { taken, counted, words, bytes, .. } = self;
+        println!("{taken} events taken by runs, {counted} by runs that count, {words} words and {bytes} bytes lent");
     }
 
     /// What did not occur and must, if anything.

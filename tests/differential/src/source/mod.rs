@@ -4,6 +4,7 @@ mod images;
 mod looks;
 mod plans;
 mod prints;
+mod reports;
 mod texts;
 
 use crate::call::Call;
@@ -24,7 +25,10 @@ use model::runs::run;
 use model::texts::faults as text_faults;
 
 /// Of so many batches one is near the largest image; each other kind of call has more of them.
-const BATCHES: usize = 150;
+const BATCHES: usize = 170;
+
+/// With so many of a hundred of these comes a report of a long list.
+const LONG_REPORTS: usize = 20;
 
 /// The most events, or runs, that follow one another from an image.
 const MOST_STEPS: usize = 20;
@@ -87,7 +91,9 @@ impl Source {
             100..=119 => texts::calls(&mut self.rng, &self.text_faults, &self.later_faults),
             120..=129 => prints::calls(&mut self.rng),
             130..=139 => looks::calls(&mut self.rng, &self.damages),
-            _ => looks::broken(&mut self.rng, &self.of_rules),
+            140..=149 => looks::broken(&mut self.rng, &self.of_rules),
+            150..=164 => reports::calls(&mut self.rng, &self.damages),
+            _ => reports::shares(&mut self.rng),
         }
     }
 
@@ -125,7 +131,11 @@ impl Source {
             calls.push(Call::Event { image: image.clone(), event: event(rng, &kernel) });
             calls.push(short_run(rng, &kernel, image.clone()));
             calls.extend(looks::into(rng, &kernel, &image));
+            calls.push(reports::short(rng, &kernel, image.clone()));
             calls.push(Call::Check { image });
+        }
+        if rng.percent(LONG_REPORTS) {
+            calls.push(reports::long(rng));
         }
         calls
     }

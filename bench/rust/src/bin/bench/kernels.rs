@@ -1,6 +1,7 @@
 //! The kernels side by side, each behind the same calls.
 
 use baseline::{Printed, Ran, Size, Told, Translated};
+use kernel::COUNTS;
 
 /// A kernel's calls on texts.
 #[derive(Clone, Copy)]
@@ -105,12 +106,21 @@ fn print_size_in_product(words: &[u16]) -> Printed {
     unsafe { kernel::c::kernel_print_size(words.as_ptr(), words.len()) }
 }
 
+/// The product's run that counts. No other kernel has it.
+pub fn report(image: &mut [u16], list: &[u16], counts: &mut [u32; COUNTS]) -> Ran {
+    let (words, list_words) = (image.len(), list.len());
+    // SAFETY: pointer and count are those of one slice, three times.
+    unsafe {
+        kernel::c::kernel_report(image.as_mut_ptr(), words, list.as_ptr(), list_words, counts.as_mut_ptr(), COUNTS)
+    }
+}
+
 fn event_in_rust(image: &mut [u16], [kind, device, character]: [u16; 3]) -> Told {
     baseline::event(image, kind, device, character)
 }
 
 /// The proved kernel.
-const PRODUCT: Kernel = Kernel {
+pub const PRODUCT: Kernel = Kernel {
     name: "product",
     check: product::check,
     size: product::size,

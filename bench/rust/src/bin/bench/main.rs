@@ -3,6 +3,7 @@
 
 mod assembler;
 mod chance;
+mod counting;
 mod kernels;
 mod lists;
 mod measure;
@@ -24,7 +25,8 @@ fn main() -> ExitCode {
         ["verify", ref files @ ..] if !files.is_empty() => verify(files),
         ["measure", svg] => measure_all(svg),
         ["texts"] => measure_texts(&kernel_names()),
-        _ => Err("use: bench verify FILES, or bench measure SVG, or bench texts".into()),
+        ["counting"] => measure_counting(),
+        _ => Err("use: bench verify FILES, or bench measure SVG, or bench texts, or bench counting".into()),
     };
     match outcome {
         Ok(()) => ExitCode::SUCCESS,
@@ -66,8 +68,25 @@ fn measure_all(svg: &str) -> Result<(), String> {
         rows.push(row);
     }
     println!();
+    measure_counting()?;
+    println!();
     measure_texts(&names)?;
     fs::write(svg, picture::picture(&names, &rows)).map_err(|error| format!("{svg}: {error}"))
+}
+
+/// Measures every run of the product once more with counts, and prints the
+/// table.
+fn measure_counting() -> Result<(), String> {
+    println!("Counting: nanoseconds an event of the product, the least of {} rounds.", measure::ROUNDS);
+    println!("{}", counting::heading());
+    let mut most = 0f64;
+    for pair in workloads::all().iter().filter_map(counting::measure) {
+        let pair = pair?;
+        println!("{}", pair.line());
+        most = most.max(pair.ratio());
+    }
+    println!("{:<70}{most:>9.2}", "the largest ratio");
+    Ok(())
 }
 
 /// Measures the translations of texts and the printing, and prints their table.
