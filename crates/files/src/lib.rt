@@ -15,6 +15,11 @@ use paper::Verdict;
 use paper::WORD_BYTES;
 use plans::verdict;
 
+// The words that are read of a plan's file: more than any has that is accepted.
+pub const PLAN_WORDS: usize = 32806;
+
+pub const PLAN_BYTES: usize = WORD_BYTES * PLAN_WORDS;
+
 // What a plan's file comes to: how many words were read, and the verdict.
 pub struct PlanRead {
     pub words: usize,

@@ -7,21 +7,15 @@ use causes::event_cause;
 use disk::Outcome;
 use disk::Source;
 use disk::open_source;
-use disk::put_number;
-use disk::put_text;
-use disk::standard_error;
 use files::put_words;
 use kernel::report;
-use numbers::number_of;
 use paper::COUNTS;
 use paper::EVENT_WORDS;
 use paper::Refusal;
 use paper::Verdict;
 use runner_events::EVENT_BYTES;
 use runner_events::whole_events;
-use saying::put_event_cause;
-use saying::put_refusal;
-use saying::put_refused;
+use saying::say_refused_event;
 use std::num::wrapping_add_u64;
 
 // The events that are read at a time: the image is checked once for so many.
@@ -50,18 +44,6 @@ fn cause_of(events: &[u16], taken: usize, tasks: usize) -> EventCause {
     }
     let at = EVENT_WORDS * taken;
     event_cause(events[at], events[at + 1], tasks)
-}
-
-// Says that the event of a number is refused, and why.
-fn say_refused_event(path: &[u8], n: u64, r: Refusal, cause: EventCause) {
-    let named = put_text(standard_error(), path);
-    let counted = put_number(put_text(named, b": event "), n as usize);
-    let numbered = put_refused(counted, number_of(r));
-    let told = match r {
-        Refusal::MalformedEvent => put_event_cause(numbered, cause),
-        _ => put_refusal(numbered, r),
-    };
-    put_text(told, b"\n");
 }
 
 // Counts the events of a piece, the first of which has the number n, up to a refused one, which is said.

@@ -11,33 +11,28 @@ ghost use Rattle.paper.specs.Numbers.{check-plan};
 ghost use Rattle.paper.specs.declared.Verdict.the-variants.{Fine};
 ghost use Rattle.files.specs.PlanFiles.{enough};
 ghost use Rattle.disk.specs.Bytes.{Starts};
-use causes::PlanCause;
-use causes::plan_cause;
 use disk::Outcome;
 use disk::Source;
 use disk::Start;
 use disk::load_start;
 use disk::misused;
 use disk::open_source;
-use disk::put_text;
-use disk::standard_error;
 use disk::tell;
+use files::PLAN_BYTES;
+use files::PLAN_WORDS;
 use files::is_odd;
 use files::read_plan;
 use kernel::build;
 use lists::count_list;
-use numbers::number_of;
 use output::print_table;
 use output::save_chart;
 use paper::COUNTS;
 use paper::MOST_WORDS;
 use paper::Refusal;
 use paper::Verdict;
-use paper::WORD_BYTES;
 use plans::shape_of_plan;
 use plans::total_of;
-use saying::put_plan_cause;
-use saying::put_refused;
+use saying::say_refused_plan;
 
 // Where the arguments stand, the program's own name before them.
 const CHART_AT: usize = 1;
@@ -45,11 +40,6 @@ const CHART_AT: usize = 1;
 const PLAN_AT: usize = 2;
 
 const LISTS_AT: usize = 3;
-
-// The words that are read of a plan: more than any has that is accepted.
-const PLAN_WORDS: usize = 32806;
-
-const PLAN_BYTES: usize = WORD_BYTES * PLAN_WORDS;
 
 // Says that an argument is longer than any path, of which the first bytes are given.
 fn too_long(path: &[u8]) -> Outcome {
@@ -128,20 +118,9 @@ fn report_plan(plan: &[u16]) -> Outcome
     report_fresh(plan, &mut image[..size], s.n)
 }
 
-// Why a plan's file is refused, of which the first words are given, and whether it has an odd count of bytes.
-fn file_cause(plan: &[u16], odd: bool) -> PlanCause {
-    if odd {
-        return PlanCause::OddBytes;
-    }
-    plan_cause(plan)
-}
-
-// Says that a plan's file is refused, and why.
+// Refuses a plan's file.
 fn refuse_plan(path: &[u8], plan: &[u16], odd: bool, r: Refusal) -> Outcome {
-    let named = put_text(standard_error(), path);
-    let numbered = put_refused(named, number_of(r));
-    let told = put_plan_cause(numbered, file_cause(plan, odd));
-    put_text(told, b"\n");
+    say_refused_plan(path, plan, odd, r);
     Outcome::Refused
 }
 

@@ -9,12 +9,9 @@ use causes::EventCause;
 use causes::event_cause;
 use disk::Outcome;
 use disk::ended;
-use disk::put_number;
 use disk::put_text;
-use disk::standard_error;
 use disk::standard_output;
 use files::word;
-use numbers::number_of;
 use order_table::laid_out;
 use paper::HIGH_BYTES;
 use paper::Refusal;
@@ -24,9 +21,7 @@ use runner_events::EVENT_BYTES;
 use runner_events::feed_buffer;
 use runner_events::whole_events;
 use runner_lines::MOST_LINE;
-use saying::put_event_cause;
-use saying::put_refusal;
-use saying::put_refused;
+use saying::say_refused_event;
 
 // The events that are read at a time.
 const EVENTS: usize = 4096;
@@ -100,15 +95,8 @@ fn cause_of(bytes: &[u8], tasks: usize) -> EventCause {
 }
 
 // Says that the event of a number is refused whose bytes come first, and why.
-fn say_refused_event(path: &[u8], n: u64, r: Refusal, bytes: &[u8], tasks: usize) {
-    let named = put_text(standard_error(), path);
-    let counted = put_number(put_text(named, b": event "), n as usize);
-    let numbered = put_refused(counted, number_of(r));
-    let told = match r {
-        Refusal::MalformedEvent => put_event_cause(numbered, cause_of(bytes, tasks)),
-        _ => put_refusal(numbered, r),
-    };
-    put_text(told, b"\n");
+fn refuse_event(path: &[u8], n: u64, r: Refusal, bytes: &[u8], tasks: usize) {
+    say_refused_event(path, n, r, cause_of(bytes, tasks));
 }
 
 // Takes the events of the first bytes of a buffer, the first of which has the number n, and prints their lines.
@@ -139,7 +127,7 @@ fn take_events(
     match stop {
         Verdict::Fine => Took::Events(fed.taken),
         Verdict::Refused(r) => {
-            say_refused_event(path, n + fed.taken as u64, r, &buffer[from..end], s.n);
+            refuse_event(path, n + fed.taken as u64, r, &buffer[from..end], s.n);
             Took::Ended(Outcome::Refused)
         }
     }

@@ -12,8 +12,6 @@ ghost use Rattle.fresh_parts.specs.Accepted.{Plan};
 ghost use Rattle.disk.specs.Bytes.{Starts};
 ghost use Rattle.runner_files.specs.Turns.{LoadedPlan};
 use builds::build;
-use causes::PlanCause;
-use causes::plan_cause;
 use disk::IMAGE_BYTES;
 use disk::IMAGE_WORDS;
 use disk::Outcome;
@@ -27,31 +25,24 @@ use disk::open_source;
 use disk::put_text;
 use disk::save;
 use disk::say;
-use disk::standard_error;
 use disk::standard_output;
 use events::run_events;
+use files::PLAN_BYTES;
+use files::PLAN_WORDS;
 use files::is_odd;
 use files::read_plan;
 use inspect::inspect;
-use numbers::number_of;
 use paper::MOST_WORDS;
 use paper::Refusal;
 use paper::Reply;
 use paper::Shape;
 use paper::Verdict;
-use paper::WORD_BYTES;
 use plans::shape_of_plan;
 use plans::total_of;
 use runner_lines::MOST_LINE;
 use runner_lines::put_line;
-use saying::put_plan_cause;
-use saying::put_refused;
 use saying::say_refused_image;
-
-// The words that are read of a plan: more than any has that is accepted.
-const PLAN_WORDS: usize = 32806;
-
-const PLAN_BYTES: usize = WORD_BYTES * PLAN_WORDS;
+use saying::say_refused_plan;
 
 // The number that a refused plan or image has in place of an event's.
 const REFUSED_START: u64 = 0;
@@ -73,21 +64,10 @@ fn print_refused(r: Refusal) -> Outcome {
     printed
 }
 
-// Why a plan's file is refused, of which the first words are given, and whether it has an odd count of bytes.
-fn file_cause(plan: &[u16], odd: bool) -> PlanCause {
-    if odd {
-        return PlanCause::OddBytes;
-    }
-    plan_cause(plan)
-}
-
 // Refuses a plan's file.
 fn refuse_plan(path: &[u8], plan: &[u16], odd: bool, r: Refusal) -> Outcome {
     let refused = print_refused(r);
-    let named = put_text(standard_error(), path);
-    let numbered = put_refused(named, number_of(r));
-    let told = put_plan_cause(numbered, file_cause(plan, odd));
-    put_text(told, b"\n");
+    say_refused_plan(path, plan, odd, r);
     refused
 }
 

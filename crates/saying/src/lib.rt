@@ -4,6 +4,7 @@ mod rules;
 
 use causes::EventCause;
 use causes::PlanCause;
+use causes::plan_cause;
 use disk::Output;
 use disk::put_number;
 use disk::put_text;
@@ -172,5 +173,33 @@ pub fn say_refused_image(path: &[u8], im: &[u16], r: Refusal) {
     let named = put_text(standard_error(), path);
     let numbered = put_refused(named, number_of(r));
     let told = put_fault(numbered, im);
+    put_text(told, b"\n");
+}
+
+// Why a plan's file is refused, of which the first words are given, and whether it has an odd count of bytes.
+fn file_cause(plan: &[u16], odd: bool) -> PlanCause {
+    if odd {
+        return PlanCause::OddBytes;
+    }
+    plan_cause(plan)
+}
+
+// Says on standard error that the plan of a file is refused, and why.
+pub fn say_refused_plan(path: &[u8], plan: &[u16], odd: bool, r: Refusal) {
+    let named = put_text(standard_error(), path);
+    let numbered = put_refused(named, number_of(r));
+    let told = put_plan_cause(numbered, file_cause(plan, odd));
+    put_text(told, b"\n");
+}
+
+// Says on standard error that the event of a number is refused, and why; the cause is that of a malformed one.
+pub fn say_refused_event(path: &[u8], n: u64, r: Refusal, cause: EventCause) {
+    let named = put_text(standard_error(), path);
+    let counted = put_number(put_text(named, b": event "), n as usize);
+    let numbered = put_refused(counted, number_of(r));
+    let told = match r {
+        Refusal::MalformedEvent => put_event_cause(numbered, cause),
+        _ => put_refusal(numbered, r),
+    };
     put_text(told, b"\n");
 }

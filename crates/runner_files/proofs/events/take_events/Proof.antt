@@ -25,8 +25,8 @@ slice-aggregate-put-text c =
     let f = c .before .before .before .before .before .before .before .feed-buffer .ensures .0 in
     sym (length-take-le _ _ (omega (arith, f .fits)))
 
-add-say-refused-event : tie.Need-add-say-refused-event
-add-say-refused-event c =
+add-refuse-event : tie.Need-add-refuse-event
+add-refuse-event c =
     let c5 = c .before .before .before .before .before in
     let c10 = c5 .before .before .before .before .before in
     let c15 = c10 .before .before .before .before .before in
@@ -34,8 +34,8 @@ add-say-refused-event c =
     let f = c10 .before .before .before .feed-buffer .ensures .0 in
     omega (arith, p .0 .numbers, p .0 .bytes, taken-few _ _ _ _ (p .0) (p .1) _ _ _ _ _ _ _ f)
 
-sub-say-refused-event : tie.Need-sub-say-refused-event
-sub-say-refused-event c =
+sub-refuse-event : tie.Need-sub-refuse-event
+sub-refuse-event c =
     let c5 = c .before .before .before .before .before in
     let c10 = c5 .before .before .before .before .before in
     let c15 = c10 .before .before .before .before .before in
@@ -43,8 +43,8 @@ sub-say-refused-event c =
     let f = c10 .before .before .before .feed-buffer .ensures .0 in
     omega (arith, taken-inside _ _ _ _ (p .0) (p .1) _ _ _ _ _ _ _ f)
 
-part-say-refused-event-start : tie.Need-part-say-refused-event-start
-part-say-refused-event-start c =
+part-refuse-event-start : tie.Need-part-refuse-event-start
+part-refuse-event-start c =
     let c5 = c .before .before .before .before .before in
     let c10 = c5 .before .before .before .before .before in
     let c15 = c10 .before .before .before .before .before in
@@ -52,8 +52,8 @@ part-say-refused-event-start c =
     let f = c10 .before .before .before .feed-buffer .ensures .0 in
     omega (arith, taken-inside _ _ _ _ (p .0) (p .1) _ _ _ _ _ _ _ f)
 
-part-say-refused-event-end : tie.Need-part-say-refused-event-end
-part-say-refused-event-end c =
+part-refuse-event-end : tie.Need-part-refuse-event-end
+part-refuse-event-end c =
     let c5 = c .before .before .before .before .before in
     let c10 = c5 .before .before .before .before .before in
     let c15 = c10 .before .before .before .before .before in
@@ -76,6 +76,6 @@ take-events-spec =
     (tie.spec
     feed-buffer-requires mul-from (λ c κs. search needs) (λ c. search needs) slice-aggregate-put-text
     (λ c κs. search needs) (λ c κs. search needs) (λ c. search needs) (λ c. search needs) (λ c. search needs)
-    (λ c. search needs) (λ c. search needs) (λ c. search needs) add-say-refused-event sub-say-refused-event
-    part-say-refused-event-start part-say-refused-event-end (λ c κs. search needs) (λ c. search needs)
+    (λ c. search needs) (λ c. search needs) (λ c. search needs) add-refuse-event sub-refuse-event
+    part-refuse-event-start part-refuse-event-end (λ c κs. search needs) (λ c. search needs)
     (λ c. search needs) returns-2 (λ c. search needs) (λ c. search needs) (λ c. search needs))
