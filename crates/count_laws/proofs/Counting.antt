@@ -3,7 +3,7 @@ use mathlib.Core.Path.{_≡_, refl, sym, ap, _∙_}
 use mathlib.Core.List.{List, [], _∷_}
 use mathlib.Core.Bool.{true, false, cond, true≢false}
 use mathlib.Core.Logic.{_≢_, _⊎_, dite, inl, inr}
-use Prim.Native.Nat.{ℕ, zero, suc, _+_, _*_, _<_, _≤_}
+use Prim.Native.Nat.{ℕ, zero, suc, _+_, _<_}
 use native.Mathlib.Decide.{ℕ-discrete, decLt}
 use native.Mathlib.Omega.{arith}
 use borrow.Author.Tests.{eqb-false, eq-eqb, ne-eqb}
@@ -14,7 +14,7 @@ use Rattle.paper.specs.Counts.{column, idle-count, all-counts, count-place, gro
 use Rattle.paper.specs.declared.Task.{Task}
 use Rattle.paper.specs.declared.Heading.{Heading}
 use Rattle.paper.specs.declared.Tally.{Tally}
-use Rattle.counting.specs.Growing.{grown-length, grown-at, grown-other}
+use Rattle.counting.specs.Growing.{columns, before-idle, grown-length, grown-at, grown-other}
 use Rattle.count_laws.specs.Used.{times-at, OneMore, Bounded}
 
 -- the sum of the counts grows by as much as one of them
@@ -41,15 +41,7 @@ grown-each counts k j h =
     dite (ℕ-discrete j k) (λ e. rw (eq-eqb j k e) (rw e (grown-at counts k 1 (rw (← e) h))))
     (λ e. rw (ne-eqb j k e) (omega (arith, grown-other counts k 1 j e)))
 
--- a task's headings lie within the counts, before the idle ticks, and apart
-columns : (h : Heading) → column h < 6
-columns Heading.Orders = omega arith
-columns Heading.Services = omega arith
-columns Heading.Waits = omega arith
-columns Heading.Faults = omega arith
-columns Heading.ErrorStops = omega arith
-columns Heading.PassedTurns = omega arith
-
+-- no two headings, of one task or of two, have one place
 abbrev headed : ℕ → Heading
 headed k = getD (Heading.Orders ∷ Heading.Services ∷ Heading.Waits ∷ Heading.Faults ∷ Heading.ErrorStops ∷ []) k Heading.PassedTurns
 
@@ -60,9 +52,6 @@ headed-column Heading.Waits = refl
 headed-column Heading.Faults = refl
 headed-column Heading.ErrorStops = refl
 headed-column Heading.PassedTurns = refl
-
-pub before-idle : (i : Task) (h : Heading) → i .0 < most-tasks → count-place i h < idle-count
-before-idle i h l = omega (arith, columns h)
 
 pub one-heading : (i j : Task) (h g : Heading) → count-place i h ≡ count-place j g → (i .0 ≡ j .0) × (h ≡ g)
 one-heading i j h g e =
@@ -80,11 +69,6 @@ abbrev pub times : Tally → ℕ
 times Tally.Nowhere = 0
 times Tally.Idle = 1
 times (Tally.Under i h) = 1
-
-pub counted-length : (counts : List ℕ) (t : Tally) → length (counted counts t) ≡ length counts
-counted-length counts Tally.Nowhere = refl
-counted-length counts Tally.Idle = grown-length counts idle-count 1
-counted-length counts (Tally.Under i h) = grown-length counts (count-place i h) 1
 
 pub counted-each : (counts : List ℕ) (t : Tally) (k : ℕ) → k < length counts → getD (counted counts t) k 0 ≡ getD counts k 0 + times-at k t
 counted-each counts Tally.Nowhere k h = omega arith
@@ -130,9 +114,3 @@ pub at-end-counted : (counts : List ℕ) (t : Tally) → passes-end counts t ≡
 at-end-counted counts Tally.Nowhere e = absurd (true≢false (sym e))
 at-end-counted counts Tally.Idle e = refl
 at-end-counted counts (Tally.Under i h) e = refl
-
--- the sum of counts that do not pass their end
-pub sum-bounded : (counts : List ℕ) → Bounded counts → sum counts ≤ length counts * most-count
-unfolding sum
-sum-bounded [] b = omega arith
-sum-bounded (x ∷ later) b = omega (arith, b 0, sum-bounded later (λ k. b (suc k)))

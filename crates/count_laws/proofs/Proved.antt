@@ -25,7 +25,8 @@ use Rattle.laws.specs.Checked.{checked-good, good-checked, never-fine, then-fin
 use Rattle.user_laws.specs.Folded.{run-refused}
 use Rattle.user_laws.specs.Taken.{first-events, events-whole, run-whole}
 use Rattle.count_laws.specs.Used.{ticks-in, counted-in, used-at, taken-events, as-ran, one-and, Full, OneMore, Bounded, Used}
-use Rattle.count_laws.proofs.Counting.{before-idle, one-heading, counted-none, counted-one, sum-bounded}
+use Rattle.counting.specs.Growing.{before-idle, sum-bounded}
+use Rattle.count_laws.proofs.Counting.{one-heading, counted-none, counted-one}
 use Rattle.count_laws.proofs.Answers.{no-tick, accepted-times, accepted-inside, check-not-17}
 use Rattle.count_laws.proofs.Reporting.{from-run, before-run, before-report, report-good, report-length, report-bounded, report-each, report-sum, report-joined, report-ends}
 

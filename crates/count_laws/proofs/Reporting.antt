@@ -26,7 +26,8 @@ use Rattle.event_laws.specs.Stays.{words-good}
 use Rattle.event_laws.specs.Walk.{happening-unchanged}
 use Rattle.user_laws.specs.Taken.{first-events}
 use Rattle.count_laws.specs.Used.{ticks-in, counted-in, as-ran, all-reported, one-and, Bounded}
-use Rattle.count_laws.proofs.Counting.{counted-length, counted-each, counted-sum, counted-bounded, at-end-counted}
+use Rattle.counting.specs.Growing.{counted-length}
+use Rattle.count_laws.proofs.Counting.{counted-each, counted-sum, counted-bounded, at-end-counted}
 use Rattle.count_laws.proofs.Answers.{words-ticks, one-tick, accepted-times, refused-not-17, accepted-inside}
 
 -- what one event comes to: it is taken and counted, its count is at its end, or it is refused and alters nothing

@@ -9,7 +9,7 @@ use native.Mathlib.Omega.{arith}
 use borrow.Author.Tests.{eqb-false, leb-true}
 use lib.Dec.{leb}
 use lib.ListN.{length, getD, List·getD-eq-default}
-use Rattle.paper.specs.Counts.{tally, column, count-place, idle-count, grown, counted, most-count, at-end, passes-end}
+use Rattle.paper.specs.Counts.{tally, count-place, idle-count, grown, counted, most-count, at-end, passes-end}
 use Rattle.paper.specs.declared.Answer.{Answer}
 use Rattle.paper.specs.declared.Task.{Task}
 use Rattle.paper.specs.declared.Heading.{Heading}
@@ -20,15 +20,6 @@ use Rattle.counting.specs.Growing.{grown-out}
 -- where an answer is counted, told apart
 pub tallied : (a b : Answer) (t : Tally) → a ≡ b → t ≡ tally b → t ≡ tally a
 tallied a b t e et = rw e et
-
--- a heading is one of six
-pub column-few : (h : Heading) (n : ℕ) → n ≡ column h → n < 6
-column-few Heading.Orders n e = omega arith
-column-few Heading.Services n e = omega arith
-column-few Heading.Waits n e = omega arith
-column-few Heading.Faults n e = omega arith
-column-few Heading.ErrorStops n e = omega arith
-column-few Heading.PassedTurns n e = omega arith
 
 -- a count that is not there is not at its end, and stays as it is
 pub out-open : (counts : List ℕ) (k : ℕ) → length counts ≤ k → false ≡ at-end counts k

@@ -1,17 +1,32 @@
 -- Laws of counts that grow and of their room. Assumes nothing.
 use mathlib.Core.Path.{_≡_, refl, sym}
-use mathlib.Core.List.{List}
+use mathlib.Core.List.{List, [], _∷_}
 use mathlib.Core.Bool.{false}
 use mathlib.Core.Logic.{_≢_, dite}
-use Prim.Native.Nat.{ℕ, _+_, _<_, _≤_}
+use Prim.Native.Nat.{ℕ, suc, _+_, _*_, _<_, _≤_}
 use native.Mathlib.Decide.{ℕ-discrete, decLt}
 use native.Mathlib.Omega.{arith}
 use borrow.Author.Tests.{ne-eqb}
 use lib.ListN.{length, getD, length-set, List·getD-eq-default}
 use lib.Seq.{getD-set-same, getD-set-other, set-getD, set-set, set-comm, set-out}
-use Rattle.paper.specs.Counts.{idle-count, count-place, grown, most-count, at-end, passes-end}
+use Rattle.paper.specs.Image.{most-tasks}
+use Rattle.paper.specs.Counts.{headings, idle-count, column, count-place, grown, counted, most-count, at-end, passes-end, sum}
+use Rattle.paper.specs.declared.Task.{Task}
+use Rattle.paper.specs.declared.Heading.{Heading}
 use Rattle.paper.specs.declared.Tally.{Tally}
 use Rattle.counting.specs.Room.{RoomAt, Room}
+
+-- a heading is one of six, and a task's counts come before the idle ticks
+pub columns : (h : Heading) → column h < headings
+columns Heading.Orders = omega arith
+columns Heading.Services = omega arith
+columns Heading.Waits = omega arith
+columns Heading.Faults = omega arith
+columns Heading.ErrorStops = omega arith
+columns Heading.PassedTurns = omega arith
+
+pub before-idle : (i : Task) (h : Heading) → i .0 < most-tasks → count-place i h < idle-count
+before-idle i h l = omega (arith, columns h)
 
 -- a count that has grown, the others, and how many there are
 pub grown-length : (counts : List ℕ) (k n : ℕ) → length (grown counts k n) ≡ length counts
@@ -83,6 +98,22 @@ room-grown counts m n h k j there =
     (λ e. rw e (omega (arith, grown-at counts k m (rw e at inside), h k (rw e at inside))))
     (λ ne. omega (arith, grown-other counts k m j ne, h j inside))
 
+-- where there are none, nothing is asked of them
+pub none-room : (counts : List ℕ) → length counts ≡ 0 → (n : ℕ) → Room counts n
+unfolding Room RoomAt
+none-room counts none n k there = absurd (omega (arith, none, there))
+
+-- an answer that is counted: as many counts, and room for one tick less
+pub counted-length : (counts : List ℕ) (t : Tally) → length (counted counts t) ≡ length counts
+counted-length counts Tally.Nowhere = refl
+counted-length counts Tally.Idle = grown-length counts idle-count 1
+counted-length counts (Tally.Under i h) = grown-length counts (count-place i h) 1
+
+pub counted-room : (counts : List ℕ) (n : ℕ) → Room counts (1 + n) → (t : Tally) → Room (counted counts t) n
+counted-room counts n h Tally.Nowhere = room-less counts n (1 + n) h (omega arith)
+counted-room counts n h Tally.Idle = room-grown counts 1 n h idle-count
+counted-room counts n h (Tally.Under i g) = room-grown counts 1 n h (count-place i g)
+
 -- where there is room for one, no answer's count passes its end
 open-at : (counts : List ℕ) (n : ℕ) → Room counts n → 1 ≤ n → (k : ℕ) → at-end counts k ≡ false
 unfolding Room RoomAt
@@ -96,3 +127,9 @@ pub room-open : (counts : List ℕ) (n : ℕ) → Room counts n → 1 ≤ n → 
 room-open counts n h l Tally.Nowhere = refl
 room-open counts n h l Tally.Idle = open-at counts n h l idle-count
 room-open counts n h l (Tally.Under i g) = open-at counts n h l (count-place i g)
+
+-- the sum of counts that do not pass their end
+pub sum-bounded : (counts : List ℕ) → ((k : ℕ) → getD counts k 0 ≤ most-count) → sum counts ≤ length counts * most-count
+unfolding sum
+sum-bounded [] b = omega arith
+sum-bounded (x ∷ later) b = omega (arith, b 0, sum-bounded later (λ k. b (suc k)))

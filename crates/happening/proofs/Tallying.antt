@@ -9,7 +9,6 @@ use lib.ListN.{length, drop}
 use lib.Seq.{drop-length}
 use Rattle.paper.specs.Waking.{Outcome, outcome}
 use Rattle.paper.specs.Events.{tick, happening}
-use Rattle.paper.specs.Counts.{tally, all-counts, counted}
 use Rattle.paper.specs.declared.Shape.{Shape}
 use Rattle.paper.specs.declared.Event.{Event}
 use Rattle.paper.specs.declared.Answer.{Answer}
@@ -17,36 +16,19 @@ use Rattle.paper.specs.declared.Refusal.{Refusal}
 use Rattle.paper.specs.declared.Reply.{Reply}
 use Rattle.laws.specs.Events.{Lawful}
 use Rattle.event_laws.specs.Walk.{input-any, done-any, event-any}
-use Rattle.counting.specs.Room.{RoomAt, Room}
+use Rattle.counting.specs.Room.{Room}
 use Rattle.counting.specs.Growing.{room-less}
 use Rattle.ticks.specs.Ticks.{ticked, Taken, Ticks}
 use Rattle.ticks.specs.Told.{Told, Passes}
-use Rattle.ticks.specs.Tallied.{counted-by, tallied, Ledger}
-use Rattle.ticks.proofs.Tallying.{ledger-kept, counted-room, tallied-length, tallied-room}
+use Rattle.noting.specs.Noted.{counted-by, Ledger}
+use Rattle.noting.specs.Ledgers.{ledger-kept}
+use Rattle.ticks.specs.Tallied.{tallied}
+use Rattle.ticks.proofs.Tallying.{tallied-length, tallied-room}
 use Rattle.happening.specs.Lists.{nth-event}
 use Rattle.happening.specs.Tallies.{counts-on, counts-from, Tallies}
 use Rattle.happening.specs.Ahead.{zeros-at, Ahead}
 use Rattle.happening.proofs.AllZero.{ahead-ticks, words-no-tick}
 use Rattle.happening.proofs.Taking.{TakenFrom, rest-is, tick-event, Reached, ticks-reach, none-reach}
-
--- an answer that is counted needs room for one
-pub answer-room : (counts : List ℕ) (n : ℕ) → Room counts (1 + n) → (a : Answer) → Room (counted counts (tally a)) n
-answer-room counts n h a = counted-room counts n h (Reply.Accepted a)
-
--- where there are no counts, nothing is asked of them
-module _ (counts : List ℕ) (none : length counts ≡ 0) where
-  pub none-ledger : Ledger counts
-  unfolding Ledger
-  none-ledger some = absurd (some none)
-
-  pub none-room : (n : ℕ) → Room counts n
-  unfolding Room RoomAt
-  none-room n k there = absurd (omega (arith, none, there))
-
--- where there are all counts, there are
-pub all-ledger : (counts : List ℕ) → length counts ≡ all-counts → Ledger counts
-unfolding Ledger
-all-ledger counts all some = all
 
 -- an event of a device is counted nowhere
 abbrev Uncounted : Outcome → Type 0

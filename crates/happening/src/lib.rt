@@ -8,7 +8,7 @@ ghost use Rattle.paper.specs.Events.{event-of as event-by, happening};
 ghost use Rattle.laws.specs.Events.{Lawful};
 ghost use Rattle.order_table.specs.Entries.{OrderTable};
 ghost use Rattle.counting.specs.Room.{Room};
-ghost use Rattle.ticks.specs.Tallied.{Ledger};
+ghost use Rattle.noting.specs.Noted.{Ledger};
 ghost use Rattle.happening.specs.Lists.{nth-event, Ends};
 ghost use Rattle.happening.specs.Tallies.{Tallies};
 ghost use Rattle.happening.specs.InParts.{kind-in, answer-by, told-by};

@@ -25,13 +25,12 @@ use Rattle.paper.specs.declared.Verdict.{Verdict}
 use Rattle.laws.specs.Checked.{never-fine, then-fine}
 use Rattle.laws.specs.Events.{Lawful, inspected-lawful}
 use Rattle.counting.specs.Room.{Room, RoomIf}
-use Rattle.counting.specs.Growing.{room-less, room-open}
+use Rattle.counting.specs.Growing.{counted-room, room-less, room-open}
 use Rattle.happening.specs.Lists.{Toll, tells-on, told-from, stop-of, Ends}
 use Rattle.happening.specs.InParts.{told-by}
 use Rattle.happening.specs.Tallies.{counts-on, counts-from, Tallies}
 use Rattle.happening.specs.declared.Kind.{Kind}
 use Rattle.happening.proofs.RepliesInParts.{stop-told}
-use Rattle.happening.proofs.Tallying.{answer-room}
 use Rattle.careful.specs.OneByOne.{CountsAll}
 
 -- one event
@@ -99,7 +98,7 @@ report-told s im counts (k ∷ d ∷ c ∷ events) h room a =
         ≡ reported-as (tells-on r out (λ next. told-from s next events r)) (counts-on r out counts (λ next more. counts-from s next events more))
     go later left (Reply.Accepted b) out =
         rw (room-open counts (1 + length events / 3) left (omega arith) (tally b))
-        (ap one-reported (later out (counted counts (tally b)) (answer-room counts (length events / 3) left b) b))
+        (ap one-reported (later out (counted counts (tally b)) (counted-room counts (length events / 3) left (tally b)) b))
     go later left (Reply.Refused f) out = refl
 
 -- where a test says that there is room, there is

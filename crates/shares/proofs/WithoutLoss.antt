@@ -2,7 +2,7 @@
 -- all ticks are a power of two; a task without ticks has share 0; no share is below 0 or above 1. Assumes nothing.
 use mathlib.Core.Path.{_≡_, refl, sym, ap, _∙_, subst}
 use mathlib.Core.Bool.{Bool, true, false}
-use mathlib.Core.List.{List, [], _∷_}
+use mathlib.Core.List.{List}
 use Prim.Native.Nat.{ℕ, suc, _+_, _-_, _*_, _^_, _≤_, _<_}
 use native.Mathlib.Nat.{mul-assoc, lt-of-lt-of-le, lt-irrefl}
 use native.Mathlib.Omega.{arith}
@@ -17,8 +17,9 @@ use lib.Ieee.Back.{round-whole}
 use lib.Ieee.Order.{round-mono}
 use lib.Ieee.Scale.{round-same}
 use Rattle.paper.specs.Image.{most-tasks}
-use Rattle.paper.specs.Counts.{all-counts, most-count, sum, task-ticks, all-ticks, share}
+use Rattle.paper.specs.Counts.{all-counts, most-count, task-ticks, all-ticks, share}
 use Rattle.paper.specs.declared.Share.{Share}
+use Rattle.counting.specs.Growing.{sum-bounded}
 use Rattle.shares.specs.Percent.{sums-bits, sums-end}
 use Rattle.shares.proofs.Sums.{task-among-all, rowless-ticks}
 use Rattle.shares.proofs.Dividing.{share-rounded}
@@ -28,14 +29,9 @@ pub record Night (l : List ℕ) : Type 0 where
   pub long : length l ≡ all-counts
   pub ended : (k : ℕ) → getD l k 0 ≤ most-count
 
-sum-most : (l : List ℕ) → ((k : ℕ) → getD l k 0 ≤ most-count) → sum l ≤ most-count * length l
-unfolding sum
-sum-most [] f = omega arith
-sum-most (n ∷ l) f = omega (arith, f 0, sum-most l (λ k. f (suc k)))
-
 -- all ticks stay below 2 ^ 39, and so do a task's
 pub all-below : (l : List ℕ) → Night l → all-ticks l < sums-end
-all-below l n = omega (arith, n .long, sum-most l (n .ended))
+all-below l n = omega (arith, n .long, sum-bounded l (n .ended))
 
 pub task-below : (l : List ℕ) (i : ℕ) → Night l → task-ticks l i < sums-end
 task-below l i n = omega (arith, all-below l n, task-among-all i l)

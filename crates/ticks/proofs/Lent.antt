@@ -37,7 +37,8 @@ use Rattle.ticks.proofs.Ticked.{ticks-row, row-told, past-clock, row-he
 use Rattle.ticks.proofs.Tallying.{last-counted}
 use Rattle.ticks.specs.Ticks.{ticked}
 use Rattle.ticks.specs.Told.{by-flags, Told}
-use Rattle.ticks.specs.Tallied.{counted-by, tallied, RowCounted}
+use Rattle.noting.specs.Noted.{counted-by}
+use Rattle.ticks.specs.Tallied.{tallied, RowCounted}
 use Rattle.counting.specs.Growing.{grown-none, grown-twice}
 use Rattle.ticks.specs.declared.Seat.{Seat}
 

@@ -36,7 +36,8 @@ use Rattle.machine.specs.RowLength.{row-few}
 use Rattle.effects.specs.declared.Segment.{Segment}
 use Rattle.ticks.specs.Seated.{Seated, First, FirstIf, part-of}
 use Rattle.ticks.specs.Told.{by-flags, reply-of, stays-of, one-gone, gone, Told, AtMost}
-use Rattle.ticks.specs.Tallied.{counted-by, Within, tallied}
+use Rattle.noting.specs.Noted.{counted-by, Within}
+use Rattle.ticks.specs.Tallied.{tallied}
 use Rattle.ticks.proofs.Tallying.{tick-within, tallied-one}
 use Rattle.ticks.proofs.Telling.{told-one, told-none}
 use Rattle.ticks.specs.declared.Came.{Came}

@@ -11,13 +11,11 @@ use Rattle.paper.specs.Image.{most-tasks}
 use Rattle.paper.specs.Queues.{empty}
 use Rattle.paper.specs.Flags.{error-of}
 use Rattle.paper.specs.Events.{tick, running}
-use Rattle.paper.specs.Numbers.{answer-task}
-use Rattle.paper.specs.Counts.{tally, idle-count, count-place, grown, counted}
+use Rattle.paper.specs.Counts.{idle-count, count-place, grown}
 use Rattle.paper.specs.declared.Task.{Task}
 use Rattle.paper.specs.declared.Shape.{Shape}
 use Rattle.paper.specs.declared.Queue.{Queue}
 use Rattle.paper.specs.declared.Heading.{Heading}
-use Rattle.paper.specs.declared.Tally.{Tally}
 use Rattle.paper.specs.declared.Answer.{Answer}
 use Rattle.paper.specs.declared.Reply.{Reply}
 use Rattle.laws.specs.Sound.{sound}
@@ -26,62 +24,13 @@ use Rattle.laws.specs.Events.{Lawful, good}
 use Rattle.event_laws.specs.Walk.{tick-any}
 use Rattle.event_laws.specs.Stays.{first-task}
 use Rattle.counting.specs.Room.{Room}
-use Rattle.counting.specs.Growing.{grown-length, grown-out, grown-none, grown-twice, room-less, room-grown}
+use Rattle.counting.specs.Growing.{grown-none, grown-twice, room-less}
+use Rattle.noting.specs.Noted.{counted-by, Within, orders-counted, Ledger}
+use Rattle.noting.specs.Ledgers.{ledger-kept, noted-length, noted-room}
 use Rattle.ticks.specs.Ticks.{Ticks, ticked}
 use Rattle.ticks.specs.Told.{by-flags}
-use Rattle.ticks.specs.Tallied.{counted-by, Within, tallied, orders-counted, faulted-by, RowCounted, Ledger}
+use Rattle.ticks.specs.Tallied.{tallied, faulted-by, RowCounted}
 use Rattle.ticks.proofs.Ticked.{ticked-joined, idle-tick, ticks-idle}
-
--- a task's count is one of the 97
-pub place-in : (i : Task) (h : Heading) → i .0 < 16 → count-place i h < 97
-place-in i Heading.Orders l = omega arith
-place-in i Heading.Services l = omega arith
-place-in i Heading.Waits l = omega arith
-place-in i Heading.Faults l = omega arith
-place-in i Heading.ErrorStops l = omega arith
-place-in i Heading.PassedTurns l = omega arith
-
--- where there are counts, each of the 97 is there
-pub ledger-there : (counts : List ℕ) → Ledger counts → length counts ≢ 0 → (k : ℕ) → k < 97 → k < length counts
-unfolding Ledger
-ledger-there counts l ne k h = omega (arith, l ne)
-
-pub ledger-kept : (counts more : List ℕ) → Ledger counts → length more ≡ length counts → Ledger more
-unfolding Ledger
-ledger-kept counts more l e ne = e ∙ l (λ z. ne (e ∙ z))
-
-pub ledger-grown : (counts : List ℕ) (k n : ℕ) → Ledger counts → Ledger (grown counts k n)
-ledger-grown counts k n l = ledger-kept counts (grown counts k n) l (grown-length counts k n)
-
--- where there are none, none grow
-pub none-grown : (counts : List ℕ) (k n : ℕ) → length counts ≡ 0 → counts ≡ grown counts k n
-none-grown counts k n z = sym (grown-out counts k n (omega arith))
-
-pub none-orders : (counts : List ℕ) (i : Task) (n : ℕ) (b : Bool) → length counts ≡ 0 → counts ≡ orders-counted counts i n b
-unfolding orders-counted
-none-orders counts i n true z =
-    let e = none-grown counts (count-place i Heading.Orders) (n - 1) z in
-    e ∙ none-grown _ (count-place i Heading.Faults) 1 (ap length (sym e) ∙ z)
-none-orders counts i n false z = none-grown counts (count-place i Heading.Orders) n z
-
--- an answer that is counted: as many counts, and room for one tick less
-tally-length : (counts : List ℕ) (t : Tally) → length (counted counts t) ≡ length counts
-tally-length counts Tally.Nowhere = refl
-tally-length counts Tally.Idle = grown-length counts idle-count 1
-tally-length counts (Tally.Under i h) = grown-length counts (count-place i h) 1
-
-pub counted-length : (counts : List ℕ) (r : Reply) → length (counted-by counts r) ≡ length counts
-counted-length counts (Reply.Accepted a) = tally-length counts (tally a)
-counted-length counts (Reply.Refused f) = refl
-
-tally-room : (counts : List ℕ) (n : ℕ) → Room counts (1 + n) → (t : Tally) → Room (counted counts t) n
-tally-room counts n h Tally.Nowhere = room-less counts n (1 + n) h (omega arith)
-tally-room counts n h Tally.Idle = room-grown counts 1 n h idle-count
-tally-room counts n h (Tally.Under i g) = room-grown counts 1 n h (count-place i g)
-
-pub counted-room : (counts : List ℕ) (n : ℕ) → Room counts (1 + n) → (r : Reply) → Room (counted-by counts r) n
-counted-room counts n h (Reply.Accepted a) = tally-room counts n h (tally a)
-counted-room counts n h (Reply.Refused f) = room-less counts n (1 + n) h (omega arith)
 
 -- orders but the last are done; the flags after it tell of that
 pub last-counted : (counts : List ℕ) (i : Task) (n f : ℕ) → 0 < n
@@ -97,7 +46,7 @@ last-counted counts i n f some = go (eqb (error-of f) 0)
 
 -- the task that a tick's answer names has a row of counts
 module _ (s : Shape) (im : List ℕ) (h : Lawful s im) where
-  pub task-few : (t : ℕ) → t < s .n → t < 16
+  pub task-few : (t : ℕ) → t < s .n → t < most-tasks
   task-few t l = omega (arith, sound (good-sound s im (good h)) .laid .fit .tasks)
 
   runs-few : empty s im Queue.Ready ≡ false → running s im .0 < most-tasks
@@ -129,7 +78,7 @@ module _ (s : Shape) (im : List ℕ) where
   pub tallied-length : (counts : List ℕ) (n : ℕ) → length (tallied s im n counts) ≡ length counts
   unfolding tallied
   tallied-length counts zero = refl
-  tallied-length counts (suc n) = counted-length (tallied s im n counts) (tick s (ticked s im n) .reply) ∙ tallied-length counts n
+  tallied-length counts (suc n) = noted-length (tallied s im n counts) (tick s (ticked s im n) .reply) ∙ tallied-length counts n
 
   pub tallied-ledger : (counts : List ℕ) (n : ℕ) → Ledger counts → Ledger (tallied s im n counts)
   tallied-ledger counts n l = ledger-kept counts (tallied s im n counts) l (tallied-length counts n)
@@ -138,7 +87,7 @@ module _ (s : Shape) (im : List ℕ) where
   unfolding tallied
   tallied-room counts zero k h = room-less counts k (0 + k) h (omega arith)
   tallied-room counts (suc n) k h =
-      counted-room (tallied s im n counts) k (tallied-room counts n (1 + k) (room-less counts (n + (1 + k)) (suc n + k) h (omega arith))) (tick s (ticked s im n) .reply)
+      noted-room (tallied s im n counts) k (tallied-room counts n (1 + k) (room-less counts (n + (1 + k)) (suc n + k) h (omega arith))) (tick s (ticked s im n) .reply)
 
   -- ticks after ticks
   pub tallied-joined : (m counts : List ℕ) (n k : ℕ) → m ≡ ticked s im n → tallied s im (n + k) counts ≡ tallied s m k (tallied s im n counts)
@@ -168,40 +117,6 @@ module _ (s : Shape) (im : List ℕ) where
       ap (λ o. counted-by before (o .reply)) (idle-tick s im none) ∙
       ap (λ (l : List ℕ). grown l idle-count 1) (tallied-idle none counts n) ∙ grown-twice counts idle-count n 1 ∙ ap (grown counts idle-count) z
 
--- a reply that names a task, or nobody: where it is counted
-module _ (r : Reply) (a : Answer) (er : r ≡ Reply.Accepted a) where
-  pub named-place : Within r → (i : Task) → answer-task a ≡ i .0 → (h : Heading) (k : ℕ) → k ≡ count-place i h → k < 97
-  unfolding Within
-  named-place w i ei h k ek =
-      let low : answer-task a < 16 = rw er at w in
-      rw ek (place-in i h (omega arith))
-
-  pub named-counted : (counts out : List ℕ) (i : Task) (h : Heading) → tally a ≡ Tally.Under i h → (k : ℕ) → k ≡ count-place i h → out ≡ grown counts k 1 → out ≡ counted-by counts r
-  named-counted counts out i h et k ek eo = rw (er, et, ← ek) eo
-
-  pub nobody-counted : (counts out : List ℕ) → a ≡ Answer.Idle → out ≡ grown counts 96 1 → out ≡ counted-by counts r
-  nobody-counted counts out ea eo = rw (er, ea) eo
-
--- orders of a task are counted
-pub row-place : (i : Task) (h : Heading) (k : ℕ) → k ≡ count-place i h → i .0 < 16 → k < 97
-row-place i h k ek l = rw ek (place-in i h l)
-
-module _ (counts : List ℕ) (i : Task) (n : ℕ) where
-  pub row-faulted : (b : Bool) → b ≡ true → (some out : List ℕ) (k j : ℕ) → k ≡ count-place i Heading.Orders → j ≡ count-place i Heading.Faults
-      → some ≡ grown counts k (n - 1) → out ≡ grown some j 1 → out ≡ orders-counted counts i n b
-  unfolding orders-counted
-  row-faulted b eb some out k j ek ej es eo = rw (eb, ← ek, ← ej, ← es) eo
-
-  pub row-fine : (b : Bool) → b ≡ false → (out : List ℕ) (k : ℕ) → k ≡ count-place i Heading.Orders → out ≡ grown counts k n → out ≡ orders-counted counts i n b
-  unfolding orders-counted
-  row-fine b eb out k ek eo = rw (eb, ← ek) eo
-
-pub room-last : (counts some : List ℕ) (n k : ℕ) → Room counts n → 0 < n → some ≡ grown counts k (n - 1) → Room some 1
-room-last counts some n k h l e = rw e (room-grown counts (n - 1) 1 (room-less counts (n - 1 + 1) n h (omega arith)) k)
-
-pub ledger-as : (counts some : List ℕ) (k n : ℕ) → Ledger counts → some ≡ grown counts k n → Ledger some
-ledger-as counts some k n l e = rw e (ledger-grown counts k n l)
-
 -- a row is counted as its flags tell
 pub row-by-flags : (counts out : List ℕ) (i : Task) (n f e g : ℕ) → f ≡ g → e ≡ error-of f → out ≡ orders-counted counts i n (not (eqb e 0)) → out ≡ orders-counted counts i n (faulted-by g)
 row-by-flags counts out i n f e g ef ee eo = rw (← ef, ← ee) eo
@@ -211,7 +126,7 @@ unfolding RowCounted
 row-tallied s im n i f counts more h e = e ∙ sym (h counts)
 
 -- with nobody ready all ticks are idle
-pub idle-counted : (s : Shape) (im : List ℕ) (b : Bool) → b ≡ empty s im Queue.Ready → b ≡ true → (counts more : List ℕ) (most k : ℕ) → k ≡ most → more ≡ grown counts 96 most
+pub idle-counted : (s : Shape) (im : List ℕ) (b : Bool) → b ≡ empty s im Queue.Ready → b ≡ true → (counts more : List ℕ) (most k : ℕ) → k ≡ most → more ≡ grown counts idle-count most
     → more ≡ tallied s im k counts
 idle-counted s im b eb t counts more most k ek em =
     em ∙ sym (tallied-idle s im (sym eb ∙ t) counts most) ∙ ap (λ (j : ℕ). tallied s im j counts) (sym ek)

@@ -1,50 +1,25 @@
 -- The counts after ticks; shut, as contracts say it.
 use mathlib.Core.Path.{_≡_}
 use mathlib.Core.List.{List}
-use mathlib.Core.Bool.{Bool, true, false, not}
-use mathlib.Core.Logic.{_≢_}
-use Prim.Native.Nat.{ℕ, zero, suc, _-_, _<_}
+use mathlib.Core.Bool.{Bool, not}
+use Prim.Native.Nat.{ℕ, zero, suc}
 use lib.Dec.{eqb}
-use lib.ListN.{length}
-use Rattle.paper.specs.Image.{most-tasks}
 use Rattle.paper.specs.Flags.{error-of}
 use Rattle.paper.specs.Events.{tick}
-use Rattle.paper.specs.Numbers.{answer-task}
-use Rattle.paper.specs.Counts.{tally, all-counts, count-place, grown, counted}
 use Rattle.paper.specs.declared.Task.{Task}
 use Rattle.paper.specs.declared.Shape.{Shape}
-use Rattle.paper.specs.declared.Heading.{Heading}
-use Rattle.paper.specs.declared.Reply.{Reply}
+use Rattle.noting.specs.Noted.{counted-by, orders-counted}
 use Rattle.ticks.specs.Ticks.{ticked}
-
--- a reply is counted: its answer is, a refusal is not
-abbrev pub counted-by : List ℕ → Reply → List ℕ
-counted-by counts (Reply.Accepted a) = counted counts (tally a)
-counted-by counts (Reply.Refused r) = counts
-
--- the task that an answer names has a row of counts
-unfoldable pub Within : Reply → Type 0
-Within (Reply.Accepted a) = answer-task a < most-tasks
-Within (Reply.Refused r) = Unit {0}
 
 -- the counts after so many ticks
 unfoldable pub tallied : Shape → List ℕ → ℕ → List ℕ → List ℕ
 tallied s im zero counts = counts
 tallied s im (suc k) counts = counted-by (tallied s im k counts) (tick s (ticked s im k) .reply)
 
--- the counts after so many orders of a task, the last of which may have faulted
-unfoldable pub orders-counted : List ℕ → Task → ℕ → Bool → List ℕ
-orders-counted counts i n true = grown (grown counts (count-place i Heading.Orders) (n - 1)) (count-place i Heading.Faults) 1
-orders-counted counts i n false = grown counts (count-place i Heading.Orders) n
-
--- whether it has, as the flags after it tell
+-- whether the last order of a row has faulted, as the flags after it tell
 abbrev pub faulted-by : ℕ → Bool
 faulted-by f = not (eqb (error-of f) 0)
 
--- a row of orders is counted so, whatever the counts
+-- orders in a row are counted so, whatever the counts
 unfoldable pub RowCounted : Shape → List ℕ → ℕ → Task → ℕ → Type 0
 RowCounted s im n i f = (counts : List ℕ) → tallied s im n counts ≡ orders-counted counts i n (faulted-by f)
-
--- where there are counts, there are all
-unfoldable pub Ledger : List ℕ → Type 0
-Ledger counts = length counts ≢ 0 → length counts ≡ all-counts

@@ -12,16 +12,18 @@ ghost use Rattle.order_table.specs.Entries.{OrderTable};
 ghost use Rattle.machine.specs.InRow.{row-length};
 ghost use Rattle.ticks.specs.Seated.{First, FirstIf, part-of};
 ghost use Rattle.words.specs.Spots.{Rowed};
-ghost use Rattle.paper.specs.Counts.{grown};
 ghost use Rattle.counting.specs.Room.{Room};
-ghost use Rattle.ticks.specs.Tallied.{counted-by, Within, tallied, orders-counted, faulted-by, RowCounted, Ledger};
+ghost use Rattle.noting.specs.Noted.{orders-counted, Ledger};
+ghost use Rattle.ticks.specs.Tallied.{tallied, faulted-by, RowCounted};
 ghost use Rattle.ticks.specs.Told.{by-flags, reply-of, stays-of, one-gone, gone, Told, AtMost, Passes};
-use counting::add;
 use counting::place_of;
 use effects::Segment;
 use events::before_order;
 use events::turn;
 use machine::orders;
+use noting::note;
+use noting::note_orders;
+use noting::note_reply;
 use paper::Answer;
 use paper::BASE;
 use paper::ERROR;
@@ -152,36 +154,8 @@ fn stays(c: Came) -> bool
     }
 }
 
-// A count grows by n, where there are counts.
-fn note(counts: &mut [u32], k: usize, n: usize)
-    requires { ⌜ Ledger (now counts) ⌝ }
-    requires { ⌜ k < 97 ⌝ }
-    requires { ⌜ Room (now counts) n ⌝ }
-    ensures { λ _. ⌜ now (counts .exit) ≡ grown (now (counts .entry)) k n ⌝ }
-{
-    if counts.len() != 0 {
-        add(counts, k, n);
-    }
-}
-
-// Counts orders of a task in a row, the last of which may have faulted.
-fn count_orders(counts: &mut [u32], t: Task, n: usize, faulted: bool)
-    requires { ⌜ Ledger (now counts) ⌝ }
-    requires { ⌜ t .0 < 16 ⌝ }
-    requires { ⌜ Room (now counts) n ⌝ }
-    requires { ⌜ 0 < n ⌝ }
-    ensures { λ _. ⌜ now (counts .exit) ≡ orders-counted (now (counts .entry)) t n faulted ⌝ }
-{
-    if faulted {
-        note(counts, place_of(t, Heading::Orders), n - 1);
-        note(counts, place_of(t, Heading::Faults), 1);
-        return;
-    }
-    note(counts, place_of(t, Heading::Orders), n);
-}
-
-// The same, as the task's flags tell it; without counts they are not looked at.
-fn count_row(s: Shape, im: &[u16], counts: &mut [u32], x: Seat, n: usize)
+// Notes orders of a task in a row, as its flags tell of the last; without counts they are not looked at.
+fn note_row(s: Shape, im: &[u16], counts: &mut [u32], x: Seat, n: usize)
     requires { ⌜ Lawful s (now im) ⌝ }
     requires { ⌜ Rowed s (x .row) ⌝ }
     requires { ⌜ Ledger (now counts) ⌝ }
@@ -191,31 +165,7 @@ fn count_row(s: Shape, im: &[u16], counts: &mut [u32], x: Seat, n: usize)
 {
     if counts.len() != 0 {
         let flags = own(s, im, x.row, FLAGS);
-        count_orders(counts, x.row.task, n, error_of(flags) != NO_ERROR);
-    }
-}
-
-// Counts a reply, where there are counts.
-fn count_reply(counts: &mut [u32], r: Reply)
-    requires { ⌜ Ledger (now counts) ⌝ }
-    requires { ⌜ Within r ⌝ }
-    requires { ⌜ Room (now counts) 1 ⌝ }
-    ensures { λ _. ⌜ now (counts .exit) ≡ counted-by (now (counts .entry)) r ⌝ }
-{
-    match r {
-        Reply::Accepted(a) => match a {
-            Answer::Idle => note(counts, IDLE_COUNT, 1),
-            Answer::ErrorStop(t) => note(counts, place_of(t, Heading::ErrorStops), 1),
-            Answer::TurnPassed(t) => note(counts, place_of(t, Heading::PassedTurns), 1),
-            Answer::ServiceDone(t) => note(counts, place_of(t, Heading::Services), 1),
-            Answer::ServiceWaits(t) => note(counts, place_of(t, Heading::Waits), 1),
-            Answer::ServiceFaulted(t) => note(counts, place_of(t, Heading::Faults), 1),
-            Answer::OrderDone(t) => note(counts, place_of(t, Heading::Orders), 1),
-            Answer::OrderFaulted(t) => note(counts, place_of(t, Heading::Faults), 1),
-            Answer::Input(_) => {}
-            Answer::OutputDone(_) => {}
-        },
-        Reply::Refused(_) => {}
+        note_orders(counts, x.row.task, n, error_of(flags) != NO_ERROR);
     }
 }
 
@@ -241,7 +191,7 @@ fn rule(s: Shape, im: &mut [u16], counts: &mut [u32], x: Seat, flags: u16, clock
             came: Came::Replied(last),
         };
     }
-    count_reply(counts, last);
+    note_reply(counts, last);
     Gone {
         taken: 1,
         came: Came::Replied(last),
@@ -284,7 +234,7 @@ fn go_on(
         };
     }
     let taken = run_orders(s, im, table, x, clock, most);
-    count_row(s, im, counts, x, taken);
+    note_row(s, im, counts, x, taken);
     Gone {
         taken: taken,
         came: Came::Ordered,

@@ -1,7 +1,8 @@
 -- A list of one event ends with that event; it is counted nowhere.
 use mathlib.Core.Path.{refl}
 use Rattle.happening.proofs.RepliesInParts.{one-answered, one-refused}
-use Rattle.happening.proofs.Tallying.{none-ledger, none-room}
+use Rattle.counting.specs.Growing.{none-room}
+use Rattle.noting.specs.Ledgers.{none-ledger}
 use borrow.Author.Needs.{needs}
 use Rattle.happening.proofs.step.Statement.{statement}
 use Rattle.happening.proofs.step.Tie as tie

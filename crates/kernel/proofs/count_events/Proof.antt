@@ -1,5 +1,5 @@
 -- Where all counts are there and have room, the list is taken as in a run; else its events are counted one by one.
-use Rattle.happening.proofs.Tallying.{all-ledger}
+use Rattle.noting.specs.Ledgers.{all-ledger}
 use Rattle.kernel.proofs.Promised.{room-found, all-counted}
 use borrow.Author.Needs.{needs}
 use Rattle.kernel.proofs.count_events.Statement.{statement}

@@ -1,6 +1,7 @@
 -- On a good image, whole events are taken up to the first refused one; else none is taken.
 use Rattle.kernel.proofs.Promised.{run-lawful, run-whole, run-fine, run-refused}
-use Rattle.happening.proofs.Tallying.{none-ledger, none-room}
+use Rattle.counting.specs.Growing.{none-room}
+use Rattle.noting.specs.Ledgers.{none-ledger}
 use borrow.Author.Needs.{needs}
 use Rattle.kernel.proofs.run.Statement.{statement}
 use Rattle.kernel.proofs.run.Tie as tie

@@ -1,9 +1,9 @@
 -- By the flags and the clock: a rule before an order, the turn, or orders in a row.
 use native.Mathlib.Omega.{arith}
-use Rattle.paper.specs.declared.Heading.{Heading}
 use Rattle.counting.specs.Growing.{room-less}
 use Rattle.ticks.proofs.Needs.{rule-gone, turn-gone, turn-told, turn-counted, orders-gone, lawful-sound, first-rowed, first-some, turn-most, turn-leaves, orders-most, orders-reply, orders-stay, flags-calm, has-time, row-fits}
-use Rattle.ticks.proofs.Tallying.{row-place, row-tallied, task-few}
+use Rattle.noting.specs.Ledgers.{row-place}
+use Rattle.ticks.proofs.Tallying.{row-tallied, task-few}
 use Rattle.ticks.proofs.Telling.{fewer, told-lawful, told-some}
 use borrow.Author.Needs.{needs}
 use Rattle.ticks.proofs.go_on.Statement.{statement}
@@ -31,7 +31,7 @@ note-requires c κs =
     let d1 = c .before .before .before .before .before in
     let d2 = d1 .before .before .before .before .before in
     let p = d2 .before .before .before .before .before .pre in
-    (p .1 .1 .1 .1 .0, (row-place _ Heading.PassedTurns _ (c .place-of .ensures) (task-few _ _ (p .0) _ (first-rowed _ _ _ (p .1 .1 .0) .known)), room-less _ _ _ (p .1 .1 .1 .1 .1) (omega (arith, p .1 .1 .1 .0))))
+    (p .1 .1 .1 .1 .0, (row-place _ _ _ (c .place-of .ensures) (omega arith) (task-few _ _ (p .0) _ (first-rowed _ _ _ (p .1 .1 .0) .known)), room-less _ _ _ (p .1 .1 .1 .1 .1) (omega (arith, p .1 .1 .1 .0))))
 
 returns-2 : tie.Need-returns-2
 returns-2 c =
@@ -46,8 +46,8 @@ returns-2 c =
 run-orders-requires : tie.Need-run-orders-requires
 run-orders-requires c κs = (search needs, (search needs, (search needs, (flags-calm _ _ _ _ (c .before .before .before .before .before .own .ensures) (c .before .before .if1 .left), (search needs, (search has-time, search needs))))))
 
-count-row-requires : tie.Need-count-row-requires
-count-row-requires c κs =
+note-row-requires : tie.Need-note-row-requires
+note-row-requires c κs =
     let d1 = c .before .before .before .before in
     let d2 = d1 .before .before .before .before .before in
     let p = d2 .before .before .before .before .before .pre in
@@ -60,7 +60,7 @@ returns-3 c =
     let d2 = d1 .before .before .before .before in
     let p = d2 .before .before .before .before .before .before .pre in
     let o = d1 .run-orders .ensures in
-    (row-tallied _ _ _ _ _ _ _ (o .1 .1 .0) (c .before .before .count-row .ensures), (orders-gone _ _ _ (p .1 .1 .0) _ _ (d2 .before .before .own .ensures) (d2 .get .ensures) _ _ (d1 .before .before .before .if1 .left) (d1 .before .before .if2 .left) (o .0), (orders-most _ _ _ _ _ _ _ _ (o .0), (orders-reply _ _ _ _ _ (o .1 .0), orders-stay _ _ _ (o .1 .1 .1)))))
+    (row-tallied _ _ _ _ _ _ _ (o .1 .1 .0) (c .before .before .note-row .ensures), (orders-gone _ _ _ (p .1 .1 .0) _ _ (d2 .before .before .own .ensures) (d2 .get .ensures) _ _ (d1 .before .before .before .if1 .left) (d1 .before .before .if2 .left) (o .0), (orders-most _ _ _ _ _ _ _ _ (o .0), (orders-reply _ _ _ _ _ (o .1 .0), orders-stay _ _ _ (o .1 .1 .1)))))
 
 pub go-on-spec : {M : Type 1} → statement M
 go-on-spec =
@@ -68,4 +68,4 @@ go-on-spec =
     (tie.spec
     own-requires get-requires rule-requires (λ c. search needs) (λ c. search needs) returns turn-requires
     (λ c κs. search needs) note-requires (λ c. search needs) (λ c. search needs) returns-2 run-orders-requires
-    count-row-requires (λ c. search needs) (λ c. search needs) returns-3)
+    note-row-requires (λ c. search needs) (λ c. search needs) returns-3)

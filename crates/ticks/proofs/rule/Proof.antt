@@ -11,8 +11,8 @@ before-order-requires c κs = (search lawful-sound, (search first-rowed, (search
 returns : tie.Need-returns
 returns c = (tallied-none _ _ _, (search none-gone, (search none-most, (search rule-refused, search rule-leaves))))
 
-count-reply-requires : tie.Need-count-reply-requires
-count-reply-requires c κs = (search needs, (search rule-within, search needs))
+note-reply-requires : tie.Need-note-reply-requires
+note-reply-requires c κs = (search needs, (search rule-within, search needs))
 
 returns-2 : tie.Need-returns-2
 returns-2 c = (search rule-counted, (search some-gone, (search one-most, (search rule-taken, search rule-stays))))
@@ -22,4 +22,4 @@ rule-spec =
     tie.close
     (tie.spec
     before-order-requires (λ c. search needs) (λ c. search needs) returns (λ c. search needs)
-    count-reply-requires (λ c. search needs) (λ c. search needs) returns-2)
+    note-reply-requires (λ c. search needs) (λ c. search needs) returns-2)

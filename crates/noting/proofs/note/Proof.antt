@@ -1,9 +1,10 @@
 -- Where there are counts the place is there; without counts nothing grows.
 use Rattle.counting.specs.Growing.{room-at}
-use Rattle.ticks.proofs.Tallying.{ledger-there, none-grown}
+use Rattle.noting.specs.Ledgers.{none-grown}
+use Rattle.noting.proofs.Noting.{ledger-there}
 use borrow.Author.Needs.{needs}
-use Rattle.ticks.proofs.note.Statement.{statement}
-use Rattle.ticks.proofs.note.Tie as tie
+use Rattle.noting.proofs.note.Statement.{statement}
+use Rattle.noting.proofs.note.Tie as tie
 
 add-requires : tie.Need-add-requires
 add-requires c κs =
