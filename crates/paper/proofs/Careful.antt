@@ -6,7 +6,7 @@ use Prim.Native.Nat.{ℕ, _-_}
 use lib.ListN.{getD, take, drop}
 use Rattle.paper.specs.Image.{total, shape-of, place, at, put}
 use Rattle.paper.specs.Queues.{step, appended, first, taken, held, empty, full}
-use Rattle.paper.specs.Waking.{dispatched, with-status, readied, woken, left, with-woken, unless-full}
+use Rattle.paper.specs.Waking.{dispatched, with-status, readied, woken, left, with-woken}
 use Rattle.paper.specs.Services.{service-faulted, waiting, delivered, printing, printing-if-idle, served, waits-for, finished, service}
 use Rattle.paper.specs.Machines.{machine, put-back}
 use Rattle.paper.specs.Orders.{with-register, with-flags, with-word, operand, found, effect-of, checked, decided, changed, faulted}
@@ -57,7 +57,7 @@ pub record Careful : Type 0 where
   pub woken-last : last-tick-of-two sender-plan 5 ≡ shows (3 ∷ 1 ∷ []) (1 ∷ 1 ∷ 2 ∷ 2 ∷ 0 ∷ 1 ∷ 0 ∷ 0 ∷ 0 ∷ 0 ∷ [])
 
 pub careful : Careful
-unfolding total shape-of place at put step appended first taken held empty full dispatched with-status readied woken left with-woken unless-full service-faulted waiting delivered printing printing-if-idle served waits-for finished service machine put-back with-register with-flags with-word operand found effect-of checked decided changed faulted ordered event-of stopped turned spent turn-of tick input port-next output-done happening plan-shape fresh every queued buffers-hold characters readied-once readied-tasks clock-holds port-holds flags-hold status-holds task-holds rules-hold out-of-range not-packed segment-right wrong-segments check event run
+unfolding total shape-of place at put step appended first taken held empty full dispatched with-status readied woken left with-woken service-faulted waiting delivered printing printing-if-idle served waits-for finished service machine put-back with-register with-flags with-word operand found effect-of checked decided changed faulted ordered event-of stopped turned spent turn-of tick input port-next output-done happening plan-shape fresh every queued buffers-hold characters readied-once readied-tasks clock-holds port-holds flags-hold status-holds task-holds rules-hold out-of-range not-packed segment-right wrong-segments check event run
 careful =
     record {
       field-before-second-word = refl;

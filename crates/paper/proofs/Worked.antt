@@ -11,7 +11,7 @@ use lib.Ieee.{fin, span, climb, size, odd, units, round}
 use Rattle.paper.specs.Image.{task, total, shape-of, place, at, put, clock}
 use Rattle.paper.specs.Queues.{step, appended, first, taken, held, empty, full}
 use Rattle.paper.specs.Flags.{pending}
-use Rattle.paper.specs.Waking.{Outcome, dispatched, with-status, readied, woken, left, with-woken, unless-full}
+use Rattle.paper.specs.Waking.{Outcome, dispatched, with-status, readied, woken, left, with-woken}
 use Rattle.paper.specs.Services.{service-faulted, waiting, delivered, printing, printing-if-idle, served, waits-for, finished, service}
 use Rattle.paper.specs.Machines.{machine, put-back}
 use Rattle.paper.specs.Orders.{with-register, with-flags, with-word, operand, found, effect-of, checked, decided, changed, faulted}
@@ -227,7 +227,7 @@ pub record Worked : Type 0 where
   pub share-without-ticks : share no-counts 0 ≡ Share.NoTicks
 
 pub worked : Worked
-unfolding total shape-of place at put step appended first taken held empty full dispatched with-status readied woken left with-woken unless-full service-faulted waiting delivered printing printing-if-idle served waits-for finished service machine put-back with-register with-flags with-word operand found effect-of checked decided changed faulted ordered event-of stopped turned spent turn-of tick input port-next output-done happening plan-shape fresh every queued buffers-hold characters readied-once readied-tasks clock-holds port-holds flags-hold status-holds task-holds rules-hold out-of-range not-packed segment-right wrong-segments check plan-broken check-plan check-build built event run grown counted-event report sum share span climb size trailingZeros odd units round words-of check-file decimal line printed-from runner
+unfolding total shape-of place at put step appended first taken held empty full dispatched with-status readied woken left with-woken service-faulted waiting delivered printing printing-if-idle served waits-for finished service machine put-back with-register with-flags with-word operand found effect-of checked decided changed faulted ordered event-of stopped turned spent turn-of tick input port-next output-done happening plan-shape fresh every queued buffers-hold characters readied-once readied-tasks clock-holds port-holds flags-hold status-holds task-holds rules-hold out-of-range not-packed segment-right wrong-segments check plan-broken check-plan check-build built event run grown counted-event report sum share span climb size trailingZeros odd units round words-of check-file decimal line printed-from runner
 worked =
     record {
       event-2 = refl;

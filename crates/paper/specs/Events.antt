@@ -6,7 +6,7 @@ use lib.Dec.{eqb, leb, ltb}
 use Rattle.paper.specs.Image.{task, most-character, at, put, clock, status, busy, character}
 use Rattle.paper.specs.Queues.{appended, first, taken, empty, full}
 use Rattle.paper.specs.Flags.{error, pending, waits, is-stopped}
-use Rattle.paper.specs.Waking.{Outcome, accepted, refused, left, one-if, with-woken, unless-full}
+use Rattle.paper.specs.Waking.{Answered, answered, Outcome, accepted, accepting, refused, left, one-if, with-woken}
 use Rattle.paper.specs.Services.{asked, printing, service}
 use Rattle.paper.specs.Orders.{order, after-order, order-answer}
 use Rattle.paper.specs.declared.Task.{Task}
@@ -55,35 +55,34 @@ unfoldable pub spent : Shape → List ℕ → List ℕ
 spent s im = put s im clock (at s im clock - 1)
 
 -- rule 4: the clock falls by 1, then the service is done, waits or faults
-abbrev pub serving : Shape → List ℕ → Task → Service → Outcome
-serving s im i v = service s im (spent s im) i v
+abbrev pub serving : Shape → List ℕ → Task → Service → Answered
+serving s im i v = service s (spent s im) i v
 
 -- rule 5: one order; the clock falls by 1, also when the order faults
-unfoldable pub ordered : Shape → List ℕ → Task → Effect → Outcome
-ordered s im i e = accepted (order-answer i e) (spent s (after-order s im i e))
+unfoldable pub ordered : Shape → List ℕ → Task → Effect → Answered
+ordered s im i e = answered (order-answer i e) (spent s (after-order s im i e))
 
 -- rules 4 and 5
-abbrev pub acting : Shape → List ℕ → Task → Asked → Outcome
+abbrev pub acting : Shape → List ℕ → Task → Asked → Answered
 acting s im i (Asked.For v) = serving s im i v
 acting s im i Asked.Nothing = ordered s im i (order s im i)
 
 -- rules 2 to 5, of the first task
-unfoldable pub turn-of : Shape → List ℕ → Task → Outcome
+unfoldable pub turn-of : Shape → List ℕ → Task → Answered
 turn-of s im i =
-    cond (not (eqb (error s im i) 0)) (accepted (Answer.ErrorStop i) (stopped s im i))
-    (cond (eqb (at s im clock) 0) (accepted (Answer.TurnPassed i) (turned s im i))
+    cond (not (eqb (error s im i) 0)) (answered (Answer.ErrorStop i) (stopped s im i))
+    (cond (eqb (at s im clock) 0) (answered (Answer.TurnPassed i) (turned s im i))
     (acting s im i (asked (pending s im i))))
 
 -- tick, the first rule that applies; rule 1: ready queue empty, nothing changes
-unfoldable pub tick : Shape → List ℕ → Outcome
-tick s im = cond (empty s im Queue.Ready) (accepted Answer.Idle im) (turn-of s im (running s im))
+unfoldable pub tick : Shape → List ℕ → Answered
+tick s im = cond (empty s im Queue.Ready) (answered Answer.Idle im) (turn-of s im (running s im))
 
 -- input event: append; wake the owner if it waits for input
 unfoldable pub input : Shape → List ℕ → Task → ℕ → Outcome
 input s im i c =
-    let w = one-if (eqb (at s im (status i)) (waits Service.Input)) i in
     cond (full s im (Queue.Input i)) (refused Refusal.InputFull im)
-    (unless-full s im w (accepted (Answer.Input i) (with-woken s (appended s im (Queue.Input i) c) w)))
+    (accepted (Answer.Input i) (with-woken s (appended s im (Queue.Input i) c) (one-if (eqb (at s im (status i)) (waits Service.Input)) i)))
 
 -- the port takes the first word of the output buffer and stays busy, or goes idle with character 0
 unfoldable pub port-next : Shape → List ℕ → Task → List ℕ
@@ -93,13 +92,12 @@ port-next s im i =
 -- output done: the port goes on; the owner is woken if it waits for output
 unfoldable pub output-done : Shape → List ℕ → Task → Outcome
 output-done s im i =
-    let w = one-if (eqb (at s im (status i)) (waits Service.Output)) i in
     cond (eqb (at s im (busy i)) 0) (refused Refusal.PortIdle im)
-    (unless-full s im w (accepted (Answer.OutputDone i) (with-woken s (port-next s im i) w)))
+    (accepted (Answer.OutputDone i) (with-woken s (port-next s im i) (one-if (eqb (at s im (status i)) (waits Service.Output)) i)))
 
 -- one event; a malformed one is refused
 unfoldable pub happening : Shape → List ℕ → Event → Outcome
-happening s im Event.Tick = tick s im
+happening s im Event.Tick = accepting (tick s im)
 happening s im (Event.Input i c) = input s im i c
 happening s im (Event.OutputDone i) = output-done s im i
 happening s im Event.Malformed = refused Refusal.MalformedEvent im

@@ -25,7 +25,6 @@ number Refusal.RuleBroken = 6
 number Refusal.MalformedEvent = 7
 number Refusal.InputFull = 8
 number Refusal.PortIdle = 9
-number Refusal.ReadyFull = 10
 number Refusal.BadPlan = 11
 number Refusal.WrongTarget = 12
 number Refusal.CountFull = 17

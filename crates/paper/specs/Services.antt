@@ -7,7 +7,7 @@ use lib.ListN.{length}
 use Rattle.paper.specs.Image.{task, most-character, at, put, reg, status, peer, busy, character}
 use Rattle.paper.specs.Queues.{appended, first, taken, empty, full}
 use Rattle.paper.specs.Flags.{cc, error, put-flags, waits}
-use Rattle.paper.specs.Waking.{Outcome, accepted, with-status, left, one-if, with-woken, unless-full}
+use Rattle.paper.specs.Waking.{Answered, answered, with-status, left, one-if, with-woken}
 use Rattle.paper.specs.declared.Task.{Task}
 use Rattle.paper.specs.declared.Shape.{Shape}
 use Rattle.paper.specs.declared.Queue.{Queue}
@@ -64,8 +64,8 @@ fault-of s im i Service.Input = Fault.Nothing
 fault-of s im i Service.Output = error-if (ltb most-character (given s im i)) no-character
 
 -- both come before the buffer is looked at
-abbrev pub unless-wrong : Fault → Shape → List ℕ → Task → Outcome → Outcome
-unless-wrong (Fault.Error e) s im i o = accepted (Answer.ServiceFaulted i) (service-faulted s im i e)
+abbrev pub unless-wrong : Fault → Shape → List ℕ → Task → Answered → Answered
+unless-wrong (Fault.Error e) s im i o = answered (Answer.ServiceFaulted i) (service-faulted s im i e)
 unless-wrong Fault.Nothing s im i o = o
 
 -- the buffer of a service
@@ -134,13 +134,12 @@ wakes s im i Service.Receive = one-if (waits-for s im (other s im i) Service.Sen
 wakes s im i Service.Input = Woken.Nobody
 wakes s im i Service.Output = Woken.Nobody
 
--- a word that may move does, unless a wake finds the ready queue full: that leaves the image from before the tick
-unfoldable pub finished : Shape → List ℕ → List ℕ → Task → Service → Outcome
-finished s before im i v =
-    unless-full s before (wakes s im i v) (accepted (Answer.ServiceDone i) (with-woken s (served s im i v) (wakes s im i v)))
+-- the word moves, and whoever waits for that is woken
+unfoldable pub finished : Shape → List ℕ → Task → Service → Answered
+finished s im i v = answered (Answer.ServiceDone i) (with-woken s (served s im i v) (wakes s im i v))
 
 -- a service: the wrong number first, then the buffer, then the word moves
-unfoldable pub service : Shape → List ℕ → List ℕ → Task → Service → Outcome
-service s before im i v =
+unfoldable pub service : Shape → List ℕ → Task → Service → Answered
+service s im i v =
     unless-wrong (fault-of s im i v) s im i
-    (cond (blocked s im i v) (accepted (Answer.ServiceWaits i) (waiting s im i v)) (finished s before im i v))
+    (cond (blocked s im i v) (answered (Answer.ServiceWaits i) (waiting s im i v)) (finished s im i v))

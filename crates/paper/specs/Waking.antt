@@ -3,7 +3,7 @@ use mathlib.Core.Bool.{Bool, cond}
 use mathlib.Core.List.{List}
 use Prim.Native.Nat.{ℕ}
 use Rattle.paper.specs.Image.{put, clock, status, peer}
-use Rattle.paper.specs.Queues.{appended, taken, empty, full}
+use Rattle.paper.specs.Queues.{appended, taken, empty}
 use Rattle.paper.specs.Flags.{is-ready}
 use Rattle.paper.specs.declared.Task.{Task}
 use Rattle.paper.specs.declared.Shape.{Shape}
@@ -12,6 +12,14 @@ use Rattle.paper.specs.declared.Woken.{Woken}
 use Rattle.paper.specs.declared.Answer.{Answer}
 use Rattle.paper.specs.declared.Refusal.{Refusal}
 use Rattle.paper.specs.declared.Reply.{Reply}
+
+-- what a tick comes to: its answer, and the image after it
+pub record Answered : Type 0 where
+  pub answer : Answer
+  pub image : List ℕ
+
+abbrev pub answered : Answer → List ℕ → Answered
+answered a im = record { answer = a; image = im }
 
 -- what an event comes to: the reply, and the image after it
 pub record Outcome : Type 0 where
@@ -23,6 +31,9 @@ outcome r im = record { reply = r; image = im }
 
 abbrev pub accepted : Answer → List ℕ → Outcome
 accepted a im = outcome (Reply.Accepted a) im
+
+abbrev pub accepting : Answered → Outcome
+accepting t = accepted (t .answer) (t .image)
 
 abbrev pub refused : Refusal → List ℕ → Outcome
 refused r im = outcome (Reply.Refused r) im
@@ -54,8 +65,3 @@ one-if b i = cond b (Woken.One i) Woken.Nobody
 unfoldable pub with-woken : Shape → List ℕ → Woken → List ℕ
 with-woken s im Woken.Nobody = im
 with-woken s im (Woken.One i) = woken s im i
-
--- number 10: a wake finds the ready queue full; refused before any word changes
-unfoldable pub unless-full : Shape → List ℕ → Woken → Outcome → Outcome
-unless-full s im Woken.Nobody o = o
-unless-full s im (Woken.One i) o = cond (full s im Queue.Ready) (refused Refusal.ReadyFull im) o

@@ -325,7 +325,6 @@ pub enum Refusal {
     MalformedEvent,
     InputFull,
     PortIdle,
-    ReadyFull,
     BadPlan,
     WrongTarget,
     CountFull,
