@@ -1,15 +1,16 @@
--- Whether the first task keeps its place in the ready queue, as the reply of a tick tells. Assumes nothing.
+-- Whether the first task keeps its place in the ready queue, as the answer of a tick tells. Assumes nothing.
 use mathlib.Core.Path.{_≡_, refl, sym, ap, _∙_}
 use mathlib.Core.List.{List, [], _∷_, _++_, append-nil}
 use mathlib.Core.Bool.{Bool, true, false, true≢false}
-use mathlib.Core.Logic.{inl, inr}
+use mathlib.Core.Logic.{_≢_, inl, inr}
 use Prim.Native.Nat.{ℕ, suc, _<_}
 use native.Mathlib.Omega.{arith}
 use borrow.Author.Tests.{ne-eqb}
 use lib.ListN.{length, getD}
-use Rattle.paper.specs.Image.{ord, cell, at, flags}
-use Rattle.paper.specs.Queues.{count, first, taken, held, empty, full}
-use Rattle.paper.specs.Waking.{woken}
+use Rattle.paper.specs.Image.{ord, cell, at, flags, status}
+use Rattle.paper.specs.Queues.{count, first, taken, held, empty}
+use Rattle.paper.specs.Flags.{is-ready}
+use Rattle.paper.specs.Waking.{Answered, woken}
 use Rattle.paper.specs.Services.{fault-of, service-faulted, blocked, served, wakes}
 use Rattle.paper.specs.Events.{running, tick}
 use Rattle.paper.specs.Rules.{Good}
@@ -21,11 +22,11 @@ use Rattle.paper.specs.declared.Service.{Service}
 use Rattle.paper.specs.declared.Fault.{Fault}
 use Rattle.paper.specs.declared.Woken.{Woken}
 use Rattle.paper.specs.declared.Answer.{Answer}
-use Rattle.paper.specs.declared.Reply.{Reply}
 use Rattle.laws.specs.Queues.{held-length, taken-held}
 use Rattle.laws.specs.Sound.{Sound, sound, has-word}
 use Rattle.laws.specs.Checked.{good-sound}
 use Rattle.laws.specs.Frame.{Apart, frame-none, frame-put, kept-full, kept-held}
+use Rattle.laws.specs.Room.{finds-room, good-roomy}
 use Rattle.laws.specs.Changes.{moved-parts}
 use Rattle.event_laws.specs.Own.{own-parts, header-part, clock-apart}
 use Rattle.event_laws.specs.Turns.{woken-tail, Leads, leads-sound, leads-in, leads-list}
@@ -56,11 +57,12 @@ module _ (s : Shape) (im : List ℕ) (x : ℕ) (l : List ℕ) (h : held s im Que
 pub apart-keeps : {s : Shape} (P : Part → Bool) {im m : List ℕ} → Apart s P im m → P Part.ReadyQueue ≡ false → Sound s im → KeepsPlace s im m
 apart-keeps P a f lies = record { joined = []; now = kept-held P a Queue.Ready tt f lies ∙ sym (append-nil _) }
 
-pub woke-keeps : {s : Shape} {im m : List ℕ} → Apart s moved-parts im m → Sound s im → Sound s m → (k : Task) → k .0 < s .n → full s im Queue.Ready ≡ false → KeepsPlace s im (woken s m k)
-woke-keeps {s} {im} {m} a lies h k hk room =
+pub woke-keeps : {s : Shape} {im m : List ℕ} → Apart s moved-parts im m → Good s im → Sound s m → (k : Task) → k .0 < s .n → at s im (status k) ≢ is-ready → KeepsPlace s im (woken s m k)
+woke-keeps {s} {im} {m} a g h k hk waited =
+    let room = finds-room s im (good-roomy g) k hk waited in
     record {
       joined = k .0 ∷ [];
-      now = woken-tail s m k hk h (kept-full moved-parts a Queue.Ready tt refl ∙ room) ∙ rw (kept-held moved-parts a Queue.Ready tt refl lies);
+      now = woken-tail s m k hk h (kept-full moved-parts a Queue.Ready tt refl ∙ room) ∙ rw (kept-held moved-parts a Queue.Ready tt refl (good-sound s im g));
     }
 
 module _ {s : Shape} {im : List ℕ} {i : Task} (l : Leads s im i) where
@@ -84,9 +86,10 @@ module _ {s : Shape} {im : List ℕ} {i : Task} (l : Leads s im i) where
     pub served-keeps : KeepsPlace s im (served s im i v)
     served-keeps = apart-keeps moved-parts (served-apart l v right clear) refl (leads-sound l)
 
-    pub served-woke : (k : Task) → wakes s im i v ≡ Woken.One k → full s im Queue.Ready ≡ false → KeepsPlace s im (woken s (served s im i v) k)
-    served-woke k one room =
-        woke-keeps (served-apart l v right clear) (leads-sound l) (served-nearly l v right clear .lies) k (wakes-whom l v right k one .0) room
+    pub served-woke : (k : Task) → wakes s im i v ≡ Woken.One k → KeepsPlace s im (woken s (served s im i v) k)
+    served-woke k one =
+        let w = wakes-whom l v right k one in
+        woke-keeps (served-apart l v right clear) (l .rules) (served-nearly l v right clear .lies) k (w .0) (w .1)
 
 -- from the image that a service begins from
 module _ {s : Shape} {im m : List ℕ} (b : Begins s im m) (lies : Sound s im) where
@@ -96,26 +99,25 @@ module _ {s : Shape} {im m : List ℕ} (b : Begins s im m) (lies : Sound s im) w
   pub begins-keeps : {o : List ℕ} → KeepsPlace s m o → KeepsPlace s im o
   begins-keeps k = record { joined = k .joined; now = k .now ∙ rw begins-held }
 
--- whether a rule before an order leaves the first task first, as its reply tells: a service that is done or faulted
-abbrev stays-by : Answer → Bool
-stays-by Answer.Idle = false
-stays-by (Answer.ErrorStop i) = false
-stays-by (Answer.TurnPassed i) = false
-stays-by (Answer.ServiceDone i) = true
-stays-by (Answer.ServiceWaits i) = false
-stays-by (Answer.ServiceFaulted i) = true
-stays-by (Answer.OrderDone i) = false
-stays-by (Answer.OrderFaulted i) = false
-stays-by (Answer.Input i) = false
-stays-by (Answer.OutputDone i) = false
-
-abbrev pub stays-first : Reply → Bool
-stays-first (Reply.Accepted a) = stays-by a
-stays-first (Reply.Refused r) = false
+-- whether a rule before an order leaves the first task first, as its answer tells: a service that is done or faulted
+abbrev pub stays-first : Answer → Bool
+stays-first Answer.Idle = false
+stays-first (Answer.ErrorStop i) = false
+stays-first (Answer.TurnPassed i) = false
+stays-first (Answer.ServiceDone i) = true
+stays-first (Answer.ServiceWaits i) = false
+stays-first (Answer.ServiceFaulted i) = true
+stays-first (Answer.OrderDone i) = false
+stays-first (Answer.OrderFaulted i) = false
+stays-first (Answer.Input i) = false
+stays-first (Answer.OutputDone i) = false
 
 module _ (s : Shape) (im : List ℕ) (g : Good s im) where
-  service-stays : (some : empty s im Queue.Ready ≡ false) (v : Service) (m : List ℕ) → Begins s im m
-      → ServiceCases s im m (running s im) v (λ o. stays-first (o .reply) ≡ true → KeepsPlace s im (o .image))
+  -- what a tick comes to leaves the first task its place, where the answer tells so
+  abbrev Keeping : Answered → Type 0
+  Keeping t = stays-first (t .answer) ≡ true → KeepsPlace s im (t .image)
+
+  service-stays : (some : empty s im Queue.Ready ≡ false) (v : Service) (m : List ℕ) → Begins s im m → ServiceCases s m (running s im) v Keeping
   service-stays some v m b =
       let l = begins-leads (first-leads s im g some) b in
       let h = good-sound s im g in
@@ -123,13 +125,12 @@ module _ (s : Shape) (im : List ℕ) (g : Good s im) where
         faults = λ e f z. begins-keeps b h (faulted-keeps l e);
         stuck = λ _ _ z. absurd (true≢false (sym z));
         alone = λ right clear _ z. begins-keeps b h (served-keeps l v right clear);
-        woke = λ k right clear one room z. begins-keeps b h (served-woke l v right clear k one room);
-        no-room = λ _ _ _ z. absurd (true≢false (sym z));
+        woke = λ k right clear one z. begins-keeps b h (served-woke l v right clear k one);
       }
 
-  tick-keeps : stays-first (tick s im .reply) ≡ true → KeepsPlace s im (tick s im .image)
+  tick-keeps : Keeping (tick s im)
   tick-keeps =
-      tick-any (λ o. stays-first (o .reply) ≡ true → KeepsPlace s im (o .image))
+      tick-any Keeping
       record {
         idle = λ _ z. absurd (true≢false (sym z));
         stops = λ _ _ z. absurd (true≢false (sym z));
@@ -145,10 +146,10 @@ module _ (s : Shape) (im : List ℕ) (g : Good s im) where
   off-table i j r (inr (inr (p, _))) = absurd (let z : _≡_ {A = ℕ} 8 9 = ap ord p in omega arith)
 
   -- so after a tick that tells of a service done or faulted the first task is first still, and the segment table as it was
-  pub tick-stays : empty s im Queue.Ready ≡ false → (told : Answer) → tick s im .reply ≡ Reply.Accepted told → stays-first (Reply.Accepted told) ≡ true
+  pub tick-stays : empty s im Queue.Ready ≡ false → stays-first (tick s im .answer) ≡ true
       → (empty s (tick s im .image) Queue.Ready ≡ false) × (first s (tick s im .image) Queue.Ready ≡ first s im Queue.Ready)
       × ((i : Task) (k : ℕ) → i .0 < s .n → k < 2 → at s (tick s im .image) (cell Part.SegmentTable (i .0) k) ≡ at s im (cell Part.SegmentTable (i .0) k))
-  tick-stays some told t f =
+  tick-stays some f =
       let l = first-leads s im g some in
-      let k = tick-keeps (ap stays-first t ∙ f) in
+      let k = tick-keeps f in
       (keeps-some l k, keeps-first l k (good-sound s _ (tick-good s im g)), λ i r hi hr. tick-frame s im g .others _ (hi, hr) (off-table (running s im) i r))

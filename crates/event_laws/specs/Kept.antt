@@ -6,7 +6,7 @@ use Prim.Native.Nat.{ℕ, _<_, _≤_}
 use Rattle.paper.specs.Image.{at, clock, flags, status}
 use Rattle.paper.specs.Queues.{part-of, Has, held}
 use Rattle.paper.specs.Flags.{waits}
-use Rattle.paper.specs.Rules.{Flagged, Empty, Characters, times, Ready, Ported, Stands, Good}
+use Rattle.paper.specs.Rules.{Flagged, Empty, Characters, Ported, Stands, Good}
 use Rattle.paper.specs.declared.Task.{Task}
 use Rattle.paper.specs.declared.Shape.{Shape}
 use Rattle.paper.specs.declared.Part.{Part}
@@ -15,6 +15,7 @@ use Rattle.paper.specs.declared.Service.{Service}
 use Rattle.paper.specs.declared.Woken.{Woken}
 use Rattle.laws.specs.Sound.{Sound, shut, sound}
 use Rattle.laws.specs.Frame.{Apart, Same, kept-clock, kept-status, kept-count, kept-held, kept-port}
+use Rattle.laws.specs.Room.{Listed}
 use Rattle.event_laws.specs.Standing.{awaits, stands-frame}
 
 -- the task that an event is about to wake
@@ -28,10 +29,6 @@ Chars s im Queue.Ready = Unit {0}
 Chars s im (Queue.Input i) = Characters (held s im (Queue.Input i))
 Chars s im (Queue.Output i) = Characters (held s im (Queue.Output i))
 Chars s im (Queue.Message i j) = Unit {0}
-
--- the ready queue holds each task of status 0 exactly once, and no other
-abbrev pub Listed : Shape → List ℕ → Type 0
-Listed s im = (i : Task) → (Ready s im i → times (i .0) (held s im Queue.Ready) ≡ 1) × (¬ Ready s im i → times (i .0) (held s im Queue.Ready) ≡ 0)
 
 -- clock at most S; 0 where the ready queue is empty
 abbrev pub Clocked : Shape → List ℕ → Type 0

@@ -37,10 +37,9 @@ use Rattle.event_laws.specs.Serving.{faulted-good, waiting-good, served-
 use Rattle.event_laws.specs.Walk.{asked-nothing, ServiceCases, Begins, Spends, tick-any, input-any, done-any, event-any}
 
 -- an image good but for a task that waits, with that task woken
-module _ {s : Shape} {im m : List ℕ} (a : Apart s moved-parts im m) (k : Task) (hk : k .0 < s .n) (waited : at s im (status k) ≢ is-ready) (room : full s im Queue.Ready ≡ false) where
+module _ {s : Shape} {im m : List ℕ} (a : Apart s moved-parts im m) (k : Task) (hk : k .0 < s .n) (waited : at s im (status k) ≢ is-ready) where
   woke-good : Nearly s m (Woken.One k) → Good s (woken s m k)
-  woke-good h =
-      nearly-good (woken-nearly k hk h (λ z. waited (sym (kept-status moved-parts a refl k hk) ∙ z)) (kept-full moved-parts a Queue.Ready tt refl ∙ room))
+  woke-good h = nearly-good (woken-nearly k hk h (λ z. waited (sym (kept-status moved-parts a refl k hk) ∙ z)))
 
 module _ {s : Shape} {im : List ℕ} {i : Task} (l : Leads s im i) where
   hi : i .0 < s .n
@@ -65,16 +64,15 @@ module _ {s : Shape} {im : List ℕ} {i : Task} (l : Leads s im i) where
   pub served-apart : (v : Service) → fault-of s im i v ≡ Fault.Nothing → blocked s im i v ≡ false → Apart s moved-parts im (served s im i v)
   served-apart v right clear = frame-served frame-none (leads-sound l) i hi (λ c t. rw t) (λ r. refl) v right clear
 
-  service-good : (before : List ℕ) → Good s before → (v : Service) → pending s im i ≡ waits v → ServiceCases s before im i v (λ o. Good s (o .image))
-  service-good before g v asks =
+  service-good : (v : Service) → pending s im i ≡ waits v → ServiceCases s im i v (λ o. Good s (o .image))
+  service-good v asks =
       record {
         faults = λ e f. faulted-good l e (small-error s im i v e f .1);
         stuck = waiting-good l v asks;
         alone = λ right clear none. nearly-good (rw none at (served-nearly l v right clear));
-        woke = λ k right clear one room.
+        woke = λ k right clear one.
             let w = wakes-whom l v right k one in
-            woke-good (served-apart v right clear) k (w .0) (w .1) room (rw one at (served-nearly l v right clear));
-        no-room = λ _ _ _. g;
+            woke-good (served-apart v right clear) k (w .0) (w .1) (rw one at (served-nearly l v right clear));
       }
 
   -- rule 2: stopped by an error
@@ -125,7 +123,7 @@ module _ (s : Shape) (im : List ℕ) (g : Good s im) where
         idle = λ _. g;
         stops = λ some. stopped-good (first-leads some);
         turns = λ some _ _. turned-good (first-leads some);
-        serves = λ some _ _ v asks m b. service-good (begins-leads (first-leads some) b) im g v (begins-pending (first-leads some) b ∙ asks);
+        serves = λ some _ _ v asks m b. service-good (begins-leads (first-leads some) b) v (begins-pending (first-leads some) b ∙ asks);
         orders = λ some calm runs none m b.
             let still = ordered-good (first-leads some) b calm (asked-nothing _ (g .flags (running s im) (first-task some) .pending-range) none) in
             record { does = λ _ _ _. still; faults = λ _ _. still };
@@ -144,8 +142,8 @@ module _ (s : Shape) (im : List ℕ) (g : Good s im) where
 
     input-good : (c : ℕ) → c ≤ most-character → Good s (input s im i c .image)
     input-good c low =
-        input-any s im i (λ o. Good s (o .image)) (λ _. g) c (λ _. g) (λ clear ne. nearly-good (input-nearly c low clear Woken.Nobody ne))
-        (λ clear waiting room. woke-good (input-apart c) i hi (λ z. waits-not Service.Input (sym z ∙ waiting)) room (input-nearly c low clear (Woken.One i) (λ _. refl)))
+        input-any s im i (λ o. Good s (o .image)) c (λ _. g) (λ clear ne. nearly-good (input-nearly c low clear Woken.Nobody ne))
+        (λ clear waiting. woke-good (input-apart c) i hi (λ z. waits-not Service.Input (sym z ∙ waiting)) (input-nearly c low clear (Woken.One i) (λ _. refl)))
 
     pub next-apart : Apart s moved-parts im (port-next s im i)
     next-apart = frame-next frame-none (good-sound s im g) i hi (λ r. refl) (λ r. refl)
@@ -155,8 +153,8 @@ module _ (s : Shape) (im : List ℕ) (g : Good s im) where
 
     output-done-good : Good s (output-done s im i .image)
     output-done-good =
-        done-any s im i (λ o. Good s (o .image)) (λ _. g) (λ _. g) (λ ne. nearly-good (next-owner Woken.Nobody ne))
-        (λ waiting room. woke-good next-apart i hi (λ z. waits-not Service.Output (sym z ∙ waiting)) room (next-owner (Woken.One i) (λ _. refl)))
+        done-any s im i (λ o. Good s (o .image)) (λ _. g) (λ _ ne. nearly-good (next-owner Woken.Nobody ne))
+        (λ _ waiting. woke-good next-apart i hi (λ z. waits-not Service.Output (sym z ∙ waiting)) (next-owner (Woken.One i) (λ _. refl)))
 
 -- whatever event comes, a good image stays good
 pub happening-good : (s : Shape) (im : List ℕ) → Good s im → (e : Event) → Formed s e → Good s (happening s im e .image)

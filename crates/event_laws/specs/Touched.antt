@@ -39,7 +39,7 @@ module _ {s : Shape} {im m : List ℕ} {i : Task} (l : Leads s m i) (b : Begins 
   begun : Frame s (TickCell s im i) im m
   begun = frame-more (b .but-clock) (λ c e. inl (ap (λ (x : Cell). event-parts (x .part)) e))
 
-  service-frame : (v : Service) → ServiceCases s im m i v (λ o. Frame s (TickCell s im i) im (o .image))
+  service-frame : (v : Service) → ServiceCases s m i v (λ o. Frame s (TickCell s im i) im (o .image))
   unfolding service-faulted waiting
   service-frame v =
       record {
@@ -47,9 +47,8 @@ module _ {s : Shape} {im m : List ℕ} {i : Task} (l : Leads s m i) (b : Begins 
         stuck = λ right stuck.
             frame-left (frame-status begun i hi _ _ (λ r. inl refl)) (status-sound s m i hi (leads-sound l) (waits v) (awaited s m i v)) (λ r. inl refl) (inl refl);
         alone = λ right clear none. moves right clear;
-        woke = λ k right clear one room.
+        woke = λ k right clear one.
             frame-woken (moves right clear) (served-nearly l v right clear .lies) (λ r. inl refl) (inl refl) k (wakes-whom l v right k one .0) (λ r. inl refl);
-        no-room = λ _ _ _. frame-none;
       }
     where
       moves : fault-of s m i v ≡ Fault.Nothing → blocked s m i v ≡ false → Frame s (TickCell s im i) im (served s m i v)

@@ -28,9 +28,10 @@ use Rattle.laws.specs.Queues.{same-task, appended-held, appended-count, taken-h
 use Rattle.laws.specs.Checked.{good-sound}
 use Rattle.laws.specs.Sound.{Sound, sound, has-space, has-word, put-sound, appended-sound, taken-sound}
 use Rattle.laws.specs.Frame.{Frame, Apart, frame-none, frame-more, frame-put, frame-appended, frame-taken, kept, kept-flags, kept-clock, kept-status, kept-peer, kept-count, kept-empty, kept-full, kept-held, kept-same}
+use Rattle.laws.specs.Room.{Listed, listed-room}
 use Rattle.laws.specs.Changes.{dispatch-parts, turn-parts, status-sound, status-is, peer-is, frame-status, frame-left}
 use Rattle.event_laws.specs.Standing.{ready-stands}
-use Rattle.event_laws.specs.Kept.{Spared, Listed, Clocked, Nearly, good-nearly, nearly-good, kept-stands, kept-nearly}
+use Rattle.event_laws.specs.Kept.{Spared, Clocked, Nearly, good-nearly, nearly-good, kept-stands, kept-nearly}
 use Rattle.event_laws.specs.Own.{header-part, clock-apart, clock-nearly}
 
 -- a cell that a turn of task i changes: of the header and the ready queue, or its entry of the status table
@@ -176,9 +177,11 @@ module _ (s : Shape) (im : List ℕ) (j : Task) (hj : j .0 < s .n) (h : Sound s 
       kept-clock ready-part (frame-appended frame-none Queue.Ready tt entry-sound (λ r. refl) (j .0)) refl ∙
       kept-clock status-part (entry-apart s im j hj h is-ready 0) refl
 
--- and the image is good, where it was but for that task
-module _ {s : Shape} {im : List ℕ} (j : Task) (hj : j .0 < s .n) (h : Nearly s im (Woken.One j)) (waited : at s im (status j) ≢ is-ready)
-    (room : full s im Queue.Ready ≡ false) where
+-- and the image is good, where it was but for that task, which finds room
+module _ {s : Shape} {im : List ℕ} (j : Task) (hj : j .0 < s .n) (h : Nearly s im (Woken.One j)) (waited : at s im (status j) ≢ is-ready) where
+  room : full s im Queue.Ready ≡ false
+  room = listed-room s im (h .listed) (sound (h .lies) .queues Queue.Ready tt) j hj waited
+
   joined-times : (x : ℕ) → times x (held s (readied s im j) Queue.Ready) ≡ times x (held s im Queue.Ready) + (cond (eqb x (j .0)) 1 0 + 0)
   joined-times x = rw (joined-list s im j hj (h .lies) room, times-append)
 

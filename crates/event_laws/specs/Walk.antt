@@ -1,5 +1,5 @@
 -- Every outcome of an event, told apart once: what holds of each holds of the event. Assumes nothing.
-use mathlib.Core.Path.{_≡_, refl, _∙_}
+use mathlib.Core.Path.{_≡_, refl}
 use mathlib.Core.List.{List, [], _∷_}
 use mathlib.Core.Bool.{Bool, true, false, not, cond}
 use mathlib.Core.Logic.{_≢_}
@@ -11,7 +11,7 @@ use lib.ListN.{length}
 use Rattle.paper.specs.Image.{at, clock, status, busy}
 use Rattle.paper.specs.Queues.{appended, empty, full}
 use Rattle.paper.specs.Flags.{error, pending, waits}
-use Rattle.paper.specs.Waking.{Outcome, accepted, refused, woken, one-if, with-woken, unless-full}
+use Rattle.paper.specs.Waking.{Answered, answered, Outcome, accepted, accepting, refused, woken, one-if, with-woken}
 use Rattle.paper.specs.Services.{services, numbered, asked, fault-of, unless-wrong, service-faulted, blocked, waiting, served, wakes, finished, service}
 use Rattle.paper.specs.Orders.{order, after-order, order-answer}
 use Rattle.paper.specs.Events.{running, stopped, turned, spent, serving, ordered, acting, turn-of, tick, input, port-next, output-done, happening}
@@ -31,8 +31,7 @@ use Rattle.paper.specs.declared.Reply.{Reply}
 use Rattle.laws.specs.Cases.{when}
 use Rattle.laws.specs.Cells.{at-same}
 use Rattle.laws.specs.Sound.{Sound, sound}
-use Rattle.laws.specs.Frame.{Frame, frame-none, frame-put, kept-full}
-use Rattle.event_laws.specs.Own.{header-part, clock-apart}
+use Rattle.laws.specs.Frame.{Frame, frame-none, frame-put}
 
 -- what pending asks for
 asked-for : (p : ℕ) (v : Service) → asked p ≡ Asked.For v → p ≡ waits v
@@ -58,42 +57,37 @@ pub asked-nothing : (p : ℕ) → p ≤ length services → asked p ≡ Asked.No
 asked-nothing zero l e = refl
 asked-nothing (suc k) l e = absurd (numbered-some services k (omega arith) e)
 
--- what an event comes to that has made m of im, and wakes whom it wakes
-module _ (s : Shape) (im m : List ℕ) (P : Outcome → Type 0) (a : Answer) (no-room : full s im Queue.Ready ≡ true → P (refused Refusal.ReadyFull im)) where
-  wakes-any : (w : Woken) → (w ≡ Woken.Nobody → P (accepted a m)) → ((k : Task) → w ≡ Woken.One k → full s im Queue.Ready ≡ false → P (accepted a (woken s m k)))
-      → P (unless-full s im w (accepted a (with-woken s m w)))
-  unfolding unless-full with-woken
+-- the image m of an event, with whom it wakes woken
+module _ (s : Shape) (m : List ℕ) (P : List ℕ → Type 0) where
+  wakes-any : (w : Woken) → (w ≡ Woken.Nobody → P m) → ((k : Task) → w ≡ Woken.One k → P (woken s m k)) → P (with-woken s m w)
+  unfolding with-woken
   wakes-any Woken.Nobody alone woke = alone refl
-  wakes-any (Woken.One k) alone woke = when P (full s im Queue.Ready) no-room (woke k refl)
+  wakes-any (Woken.One k) alone woke = woke k refl
 
-  owner-any : (i : Task) (v : Service) → (at s im (status i) ≢ waits v → P (accepted a m)) → (at s im (status i) ≡ waits v → full s im Queue.Ready ≡ false → P (accepted a (woken s m i)))
-      → P (unless-full s im (one-if (eqb (at s im (status i)) (waits v)) i) (accepted a (with-woken s m (one-if (eqb (at s im (status i)) (waits v)) i))))
-  owner-any i v alone woke = go (eqb (at s im (status i)) (waits v)) refl
-    where
-      go : (b : Bool) → eqb (at s im (status i)) (waits v) ≡ b → P (unless-full s im (one-if b i) (accepted a (with-woken s m (one-if b i))))
-      go true e = wakes-any (Woken.One i) (λ f. absurd (let z : _≡_ {A = ℕ} 0 1 = cc in omega arith)) (λ k f r. let z : i ≡ k = cc in rw (← z) (woke (eqb-true _ _ e) r))
-      go false e = wakes-any Woken.Nobody (λ _. alone (eqb-false _ _ e)) (λ k f r. absurd (let z : _≡_ {A = ℕ} 0 1 = cc in omega arith))
+  owner-any : (im : List ℕ) (i : Task) (v : Service) → (at s im (status i) ≢ waits v → P m) → (at s im (status i) ≡ waits v → P (woken s m i))
+      → P (with-woken s m (one-if (eqb (at s im (status i)) (waits v)) i))
+  unfolding with-woken
+  owner-any im i v alone woke =
+      when (λ w. P (with-woken s m w)) (eqb (at s im (status i)) (waits v)) (λ e. woke (eqb-true _ _ e)) (λ e. alone (eqb-false _ _ e))
 
--- what a service v of task i comes to from image m: faulted, waiting, done, done with a task woken, or refused with im as it was
-pub record ServiceCases (s : Shape) (im m : List ℕ) (i : Task) (v : Service) (P : Outcome → Type 0) : Type 0 where
-  pub faults : (e : ℕ) → fault-of s m i v ≡ Fault.Error e → P (accepted (Answer.ServiceFaulted i) (service-faulted s m i e))
-  pub stuck : fault-of s m i v ≡ Fault.Nothing → blocked s m i v ≡ true → P (accepted (Answer.ServiceWaits i) (waiting s m i v))
-  pub alone : fault-of s m i v ≡ Fault.Nothing → blocked s m i v ≡ false → wakes s m i v ≡ Woken.Nobody → P (accepted (Answer.ServiceDone i) (served s m i v))
-  pub woke : (k : Task) → fault-of s m i v ≡ Fault.Nothing → blocked s m i v ≡ false → wakes s m i v ≡ Woken.One k → full s m Queue.Ready ≡ false
-      → P (accepted (Answer.ServiceDone i) (woken s (served s m i v) k))
-  pub no-room : fault-of s m i v ≡ Fault.Nothing → blocked s m i v ≡ false → full s im Queue.Ready ≡ true → P (refused Refusal.ReadyFull im)
+-- what a service v of task i comes to from image m: faulted, waiting, done, or done with a task woken
+pub record ServiceCases (s : Shape) (m : List ℕ) (i : Task) (v : Service) (P : Answered → Type 0) : Type 0 where
+  pub faults : (e : ℕ) → fault-of s m i v ≡ Fault.Error e → P (answered (Answer.ServiceFaulted i) (service-faulted s m i e))
+  pub stuck : fault-of s m i v ≡ Fault.Nothing → blocked s m i v ≡ true → P (answered (Answer.ServiceWaits i) (waiting s m i v))
+  pub alone : fault-of s m i v ≡ Fault.Nothing → blocked s m i v ≡ false → wakes s m i v ≡ Woken.Nobody → P (answered (Answer.ServiceDone i) (served s m i v))
+  pub woke : (k : Task) → fault-of s m i v ≡ Fault.Nothing → blocked s m i v ≡ false → wakes s m i v ≡ Woken.One k
+      → P (answered (Answer.ServiceDone i) (woken s (served s m i v) k))
 
-service-any : {s : Shape} {im m : List ℕ} {i : Task} {v : Service} (P : Outcome → Type 0) → full s m Queue.Ready ≡ full s im Queue.Ready
-    → ServiceCases s im m i v P → P (service s im m i v)
+service-any : {s : Shape} {m : List ℕ} {i : Task} {v : Service} (P : Answered → Type 0) → ServiceCases s m i v P → P (service s m i v)
 unfolding service finished
-service-any {s} {im} {m} {i} {v} P same c = go (fault-of s m i v) refl
+service-any {s} {m} {i} {v} P c = go (fault-of s m i v) refl
   where
     go : (x : Fault) → fault-of s m i v ≡ x
-        → P (unless-wrong x s m i (cond (blocked s m i v) (accepted (Answer.ServiceWaits i) (waiting s m i v)) (finished s im m i v)))
+        → P (unless-wrong x s m i (cond (blocked s m i v) (answered (Answer.ServiceWaits i) (waiting s m i v)) (finished s m i v)))
     go (Fault.Error e) f = c .faults e f
     go Fault.Nothing f =
         when P (blocked s m i v) (c .stuck f) (λ e.
-        wakes-any s im (served s m i v) P (Answer.ServiceDone i) (c .no-room f e) (wakes s m i v) (c .alone f e) (λ k one room. c .woke k f e one (same ∙ room)))
+        wakes-any s (served s m i v) (λ n. P (answered (Answer.ServiceDone i) n)) (wakes s m i v) (c .alone f e) (λ k. c .woke k f e))
 
 -- an image that differs from im in the clock alone, which is v
 pub record ButClock (s : Shape) (im : List ℕ) (v : ℕ) (m : List ℕ) : Type 0 where
@@ -109,26 +103,24 @@ spends s m =
 abbrev pub Begins : Shape → List ℕ → List ℕ → Type 0
 Begins s im m = ButClock s im (at s im clock - 1) m
 
-serving-any : {s : Shape} {im : List ℕ} {i : Task} {v : Service} (P : Outcome → Type 0) → ((m : List ℕ) → Begins s im m → ServiceCases s im m i v P)
+serving-any : {s : Shape} {im : List ℕ} {i : Task} {v : Service} (P : Answered → Type 0) → ((m : List ℕ) → Begins s im m → ServiceCases s m i v P)
     → P (serving s im i v)
-serving-any {s} {im} P c =
-    let b = spends s im in
-    service-any P (kept-full header-part (clock-apart (b .but-clock)) Queue.Ready tt refl) (c (spent s im) b)
+serving-any {s} {im} P c = service-any P (c (spent s im) (spends s im))
 
 -- rule 5 leaves the image after the task's order but for the clock, which has fallen by 1
 abbrev pub Spends : Shape → List ℕ → Task → List ℕ → Type 0
 Spends s im i m = ButClock s (after-order s im i (order s im i)) (at s (after-order s im i (order s im i)) clock - 1) m
 
 -- what it comes to, leaving m: the order of task i is done, or it faulted
-pub record OrderCases (s : Shape) (im m : List ℕ) (i : Task) (P : Outcome → Type 0) : Type 0 where
-  pub does : (next : ℕ) (c : Change) → order s im i ≡ Effect.Does next c → P (accepted (Answer.OrderDone i) m)
-  pub faults : (e : ℕ) → order s im i ≡ Effect.Faults e → P (accepted (Answer.OrderFaulted i) m)
+pub record OrderCases (s : Shape) (im m : List ℕ) (i : Task) (P : Answered → Type 0) : Type 0 where
+  pub does : (next : ℕ) (c : Change) → order s im i ≡ Effect.Does next c → P (answered (Answer.OrderDone i) m)
+  pub faults : (e : ℕ) → order s im i ≡ Effect.Faults e → P (answered (Answer.OrderFaulted i) m)
 
-order-any : {s : Shape} {im m : List ℕ} {i : Task} (P : Outcome → Type 0) → OrderCases s im m i P → (e : Effect) → order s im i ≡ e → P (accepted (order-answer i e) m)
+order-any : {s : Shape} {im m : List ℕ} {i : Task} (P : Answered → Type 0) → OrderCases s im m i P → (e : Effect) → order s im i ≡ e → P (answered (order-answer i e) m)
 order-any P c (Effect.Does next f) e = c .does next f e
 order-any P c (Effect.Faults f) e = c .faults f e
 
-pub ordered-any : {s : Shape} {im : List ℕ} {i : Task} (P : Outcome → Type 0) → ((m : List ℕ) → Spends s im i m → OrderCases s im m i P)
+pub ordered-any : {s : Shape} {im : List ℕ} {i : Task} (P : Answered → Type 0) → ((m : List ℕ) → Spends s im i m → OrderCases s im m i P)
     → P (ordered s im i (order s im i))
 unfolding ordered
 ordered-any {s} {im} {i} P c =
@@ -136,16 +128,16 @@ ordered-any {s} {im} {i} P c =
     order-any P (c (spent s m) (spends s m)) (order s im i) refl
 
 -- what a tick comes to, rule by rule
-pub record TickCases (s : Shape) (im : List ℕ) (P : Outcome → Type 0) : Type 0 where
-  pub idle : empty s im Queue.Ready ≡ true → P (accepted Answer.Idle im)
-  pub stops : empty s im Queue.Ready ≡ false → error s im (running s im) ≢ 0 → P (accepted (Answer.ErrorStop (running s im)) (stopped s im (running s im)))
-  pub turns : empty s im Queue.Ready ≡ false → error s im (running s im) ≡ 0 → at s im clock ≡ 0 → P (accepted (Answer.TurnPassed (running s im)) (turned s im (running s im)))
+pub record TickCases (s : Shape) (im : List ℕ) (P : Answered → Type 0) : Type 0 where
+  pub idle : empty s im Queue.Ready ≡ true → P (answered Answer.Idle im)
+  pub stops : empty s im Queue.Ready ≡ false → error s im (running s im) ≢ 0 → P (answered (Answer.ErrorStop (running s im)) (stopped s im (running s im)))
+  pub turns : empty s im Queue.Ready ≡ false → error s im (running s im) ≡ 0 → at s im clock ≡ 0 → P (answered (Answer.TurnPassed (running s im)) (turned s im (running s im)))
   pub serves : empty s im Queue.Ready ≡ false → error s im (running s im) ≡ 0 → at s im clock ≢ 0 → (v : Service) → pending s im (running s im) ≡ waits v
-      → (m : List ℕ) → Begins s im m → ServiceCases s im m (running s im) v P
+      → (m : List ℕ) → Begins s im m → ServiceCases s m (running s im) v P
   pub orders : empty s im Queue.Ready ≡ false → error s im (running s im) ≡ 0 → at s im clock ≢ 0 → asked (pending s im (running s im)) ≡ Asked.Nothing
       → (m : List ℕ) → Spends s im (running s im) m → OrderCases s im m (running s im) P
 
-pub tick-any : {s : Shape} {im : List ℕ} (P : Outcome → Type 0) → TickCases s im P → P (tick s im)
+pub tick-any : {s : Shape} {im : List ℕ} (P : Answered → Type 0) → TickCases s im P → P (tick s im)
 unfolding tick turn-of
 tick-any {s} {im} P c =
     when P (empty s im Queue.Ready) (c .idle) (λ some.
@@ -158,33 +150,32 @@ tick-any {s} {im} P c =
 
 -- where a service is pending, with no error and time left, a tick is by rule 4
 pub serves-any : (s : Shape) (im : List ℕ) → empty s im Queue.Ready ≡ false → error s im (running s im) ≡ 0 → at s im clock ≢ 0
-    → (v : Service) → pending s im (running s im) ≡ waits v → (P : Outcome → Type 0) → ((m : List ℕ) → Begins s im m → ServiceCases s im m (running s im) v P) → P (tick s im)
+    → (v : Service) → pending s im (running s im) ≡ waits v → (P : Answered → Type 0) → ((m : List ℕ) → Begins s im m → ServiceCases s m (running s im) v P) → P (tick s im)
 unfolding tick turn-of
 serves-any s im some calm runs v asks P c =
     rw (some, eq-eqb (error s im (running s im)) 0 calm, ne-eqb (at s im clock) 0 runs, asks, asked-waits v) (serving-any P c)
 
 -- what an event of a device comes to
-module _ (s : Shape) (im : List ℕ) (i : Task) (P : Outcome → Type 0) (no-room : full s im Queue.Ready ≡ true → P (refused Refusal.ReadyFull im)) where
+module _ (s : Shape) (im : List ℕ) (i : Task) (P : Outcome → Type 0) where
   pub input-any : (c : ℕ) → (full s im (Queue.Input i) ≡ true → P (refused Refusal.InputFull im))
       → (full s im (Queue.Input i) ≡ false → at s im (status i) ≢ waits Service.Input → P (accepted (Answer.Input i) (appended s im (Queue.Input i) c)))
-      → (full s im (Queue.Input i) ≡ false → at s im (status i) ≡ waits Service.Input → full s im Queue.Ready ≡ false → P (accepted (Answer.Input i) (woken s (appended s im (Queue.Input i) c) i)))
+      → (full s im (Queue.Input i) ≡ false → at s im (status i) ≡ waits Service.Input → P (accepted (Answer.Input i) (woken s (appended s im (Queue.Input i) c) i)))
       → P (input s im i c)
   unfolding input
   input-any c stopped alone woke =
-      when P (full s im (Queue.Input i)) stopped (λ e.
-      owner-any s im (appended s im (Queue.Input i) c) P (Answer.Input i) no-room i Service.Input (alone e) (woke e))
+      when P (full s im (Queue.Input i)) stopped (λ e. owner-any s (appended s im (Queue.Input i) c) (λ m. P (accepted (Answer.Input i) m)) im i Service.Input (alone e) (woke e))
 
   pub done-any : (at s im (busy i) ≡ 0 → P (refused Refusal.PortIdle im))
-      → (at s im (status i) ≢ waits Service.Output → P (accepted (Answer.OutputDone i) (port-next s im i)))
-      → (at s im (status i) ≡ waits Service.Output → full s im Queue.Ready ≡ false → P (accepted (Answer.OutputDone i) (woken s (port-next s im i) i)))
+      → (at s im (busy i) ≢ 0 → at s im (status i) ≢ waits Service.Output → P (accepted (Answer.OutputDone i) (port-next s im i)))
+      → (at s im (busy i) ≢ 0 → at s im (status i) ≡ waits Service.Output → P (accepted (Answer.OutputDone i) (woken s (port-next s im i) i)))
       → P (output-done s im i)
   unfolding output-done
   done-any idle alone woke =
-      when P (eqb (at s im (busy i)) 0) (λ e. idle (eqb-true _ 0 e)) (λ _.
-      owner-any s im (port-next s im i) P (Answer.OutputDone i) no-room i Service.Output alone woke)
+      when P (eqb (at s im (busy i)) 0) (λ e. idle (eqb-true _ 0 e)) (λ e.
+      owner-any s (port-next s im i) (λ m. P (accepted (Answer.OutputDone i) m)) im i Service.Output (alone (eqb-false _ 0 e)) (woke (eqb-false _ 0 e)))
 
 -- and any event
-pub event-any : (s : Shape) (im : List ℕ) (P : Event → Outcome → Type 0) → P Event.Tick (tick s im) → ((i : Task) (c : ℕ) → P (Event.Input i c) (input s im i c))
+pub event-any : (s : Shape) (im : List ℕ) (P : Event → Outcome → Type 0) → P Event.Tick (accepting (tick s im)) → ((i : Task) (c : ℕ) → P (Event.Input i c) (input s im i c))
     → ((i : Task) → P (Event.OutputDone i) (output-done s im i)) → P Event.Malformed (refused Refusal.MalformedEvent im) → (e : Event) → P e (happening s im e)
 unfolding happening
 event-any s im P ticks inputs dones others Event.Tick = ticks
@@ -196,19 +187,8 @@ event-any s im P ticks inputs dones others Event.Malformed = others
 module _ (s : Shape) (im : List ℕ) (P : Outcome → Type 0) (taken : (a : Answer) (m : List ℕ) → P (accepted a m)) (kept : (r : Refusal) → P (refused r im)) where
   pub made-any : (e : Event) → P (happening s im e)
   made-any =
-      event-any s im (λ _ o. P o)
-      (tick-any P
-      record {
-        idle = λ _. taken _ _;
-        stops = λ _ _. taken _ _;
-        turns = λ _ _ _. taken _ _;
-        serves = λ _ _ _ _ _ _ _.
-            record { faults = λ _ _. taken _ _; stuck = λ _ _. taken _ _; alone = λ _ _ _. taken _ _; woke = λ _ _ _ _ _. taken _ _; no-room = λ _ _ _. kept _ };
-        orders = λ _ _ _ _ _ _. record { does = λ _ _ _. taken _ _; faults = λ _ _. taken _ _ };
-      })
-      (λ i c. input-any s im i P (λ _. kept _) c (λ _. kept _) (λ _ _. taken _ _) (λ _ _ _. taken _ _))
-      (λ i. done-any s im i P (λ _. kept _) (λ _. kept _) (λ _. taken _ _) (λ _ _. taken _ _))
-      (kept _)
+      event-any s im (λ _ o. P o) (taken _ _) (λ i c. input-any s im i P c (λ _. kept _) (λ _ _. taken _ _) (λ _ _. taken _ _))
+      (λ i. done-any s im i P (λ _. kept _) (λ _ _. taken _ _) (λ _ _. taken _ _)) (kept _)
 
 -- so a refusal alters nothing
 pub happening-unchanged : (s : Shape) (im : List ℕ) (e : Event) (r : Refusal) → happening s im e .reply ≡ Reply.Refused r → happening s im e .image ≡ im

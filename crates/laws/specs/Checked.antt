@@ -311,7 +311,6 @@ number-some Refusal.RuleBroken = omega arith
 number-some Refusal.MalformedEvent = omega arith
 number-some Refusal.InputFull = omega arith
 number-some Refusal.PortIdle = omega arith
-number-some Refusal.ReadyFull = omega arith
 number-some Refusal.BadPlan = omega arith
 number-some Refusal.WrongTarget = omega arith
 number-some Refusal.CountFull = omega arith

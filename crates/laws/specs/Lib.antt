@@ -16,4 +16,5 @@ pub mod Orders
 pub mod Agree
 pub mod Changes
 pub mod Events
+pub mod Room
 pub mod Decimal
