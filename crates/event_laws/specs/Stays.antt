@@ -25,7 +25,7 @@ use Rattle.laws.specs.Cells.{at-other, put-held}
 use Rattle.laws.specs.Sound.{sound}
 use Rattle.laws.specs.Checked.{good-sound}
 use Rattle.laws.specs.Events.{Formed, event-formed}
-use Rattle.laws.specs.Frame.{Frame, Apart, frame-none, frame-more, frame-then, frame-appended, kept, kept-status, kept-empty, kept-full, kept-first}
+use Rattle.laws.specs.Frame.{Frame, Apart, frame-none, frame-more, frame-then, frame-appended, kept, kept-status, kept-empty, kept-first}
 use Rattle.laws.specs.Changes.{moved-parts, small-error, status-is, peer-is, frame-next, frame-served}
 use Rattle.laws.specs.Orders.{OwnCell, Keeps, order-keeps, not-own, keeps-sound, order-flagged}
 use Rattle.event_laws.specs.Standing.{waits-not, waits-on, make-stands}

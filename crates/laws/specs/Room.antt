@@ -1,5 +1,5 @@
 -- A task that is not ready finds room in the ready queue. Assumes nothing.
-use mathlib.Core.Path.{_≡_, refl, sym, _∙_}
+use mathlib.Core.Path.{_≡_, refl, _∙_}
 use mathlib.Core.List.{List, [], _∷_}
 use mathlib.Core.Bool.{Bool, false}
 use mathlib.Core.Logic.{_≢_, dite}
@@ -9,7 +9,7 @@ use native.Mathlib.Omega.{arith}
 use borrow.Author.Tests.{eq-eqb, ne-eqb}
 use lib.ListN.{length}
 use Rattle.paper.specs.Image.{task, at, status}
-use Rattle.paper.specs.Queues.{header-capacity, count, capacity, held, full}
+use Rattle.paper.specs.Queues.{count, capacity, held, full}
 use Rattle.paper.specs.Flags.{is-ready}
 use Rattle.paper.specs.Rules.{times, Ready, Queued, Good}
 use Rattle.paper.specs.declared.Task.{Task}
