@@ -29,7 +29,7 @@ use Rattle.laws.specs.Queues.{same-task, appended-held, taken-held}
 use Rattle.laws.specs.Sound.{Sound, sound, has-space, has-word, put-sound, appended-sound, appended-some, taken-sound}
 use Rattle.laws.specs.Frame.{Frame, Apart, frame-none, frame-more, frame-put, frame-appended, frame-taken, ported-frame, kept, kept-port, kept-held, kept-count}
 use Rattle.laws.specs.Changes.{message-parts, out-sound, frame-printing}
-use Rattle.event_laws.specs.Standing.{waits-not}
+use Rattle.laws.specs.Room.{waits-not}
 use Rattle.event_laws.specs.Kept.{Spared, Chars, Nearly}
 use Rattle.event_laws.specs.Buffers.{BufferCell, Free, buffer-nearly}
 

@@ -24,7 +24,8 @@ use Rattle.laws.specs.Effects.{fields}
 use Rattle.laws.specs.Frame.{Apart, SameCount, frame-none, frame-put, frame-taken, flagged-frame, kept, kept-status, kept-peer, kept-count}
 use Rattle.laws.specs.Changes.{device-parts, moved-parts, error-none, buffer-has, status-is, peer-is, frame-moved}
 use Rattle.laws.specs.Orders.{register-apart}
-use Rattle.event_laws.specs.Standing.{Standing, Alone, waits-not, waiting-stands}
+use Rattle.laws.specs.Room.{waits-not}
+use Rattle.event_laws.specs.Standing.{Standing, Alone, waiting-stands}
 use Rattle.event_laws.specs.Kept.{Nearly, good-nearly, nearly-good}
 use Rattle.event_laws.specs.Own.{own-nearly}
 use Rattle.event_laws.specs.Turns.{status-part, entry-apart, Leads, leads-sound, leads-in, leads-ready, leads-peer, left-good}

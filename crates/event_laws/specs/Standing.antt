@@ -2,7 +2,7 @@
 use mathlib.Core.Path.{_≡_, refl, sym, ap, _∙_}
 use mathlib.Core.List.{List}
 use mathlib.Core.Logic.{_≢_}
-use Prim.Native.Nat.{ℕ, _-_, _<_, _≤_}
+use Prim.Native.Nat.{ℕ, _-_, _≤_}
 use native.Mathlib.Omega.{arith}
 use lib.ListN.{getD}
 use Rattle.paper.specs.Image.{most-character, at, reg, status, peer}
@@ -14,6 +14,7 @@ use Rattle.paper.specs.declared.Shape.{Shape}
 use Rattle.paper.specs.declared.Queue.{Queue}
 use Rattle.paper.specs.declared.Service.{Service}
 use Rattle.laws.specs.Frame.{Same, SameCount}
+use Rattle.laws.specs.Room.{waits-between, waits-not, waits-on}
 
 -- what a task that waits with a service must hold
 abbrev pub Standing : Shape → List ℕ → Task → Service → Type 0
@@ -43,19 +44,6 @@ pub make-stands : (s : Shape) (im : List ℕ) (i : Task) → at s im (status i) 
     → Stands s im i
 make-stands s im i k w x p =
     record { known = k; sends = w Service.Send; receives = w Service.Receive; inputs = w Service.Input; outputs = w Service.Output; stopped = x; peerless = p }
-
--- a status that waits is neither ready nor stopped
-waits-between : (v : Service) → (is-ready < waits v) × (waits v < is-stopped)
-waits-between Service.Send = (omega arith, omega arith)
-waits-between Service.Receive = (omega arith, omega arith)
-waits-between Service.Input = (omega arith, omega arith)
-waits-between Service.Output = (omega arith, omega arith)
-
-pub waits-not : (v : Service) → is-ready ≢ waits v
-waits-not v e = omega (arith, waits-between v)
-
-pub waits-on : (v : Service) → is-stopped ≢ waits v
-waits-on v e = omega (arith, waits-between v)
 
 -- a ready task's status asks only that its peer is 0
 pub ready-stands : (s : Shape) (im : List ℕ) (i : Task) → at s im (status i) ≡ is-ready → at s im (peer i) ≡ 0 → Stands s im i

@@ -1,35 +1,34 @@
 -- Each branch of this crate's functions comes to what the definition says there. Assumes nothing.
 use mathlib.Core.Path.{_≡_, refl, sym, _∙_}
 use mathlib.Core.List.{List}
-use mathlib.Core.Bool.{Bool, true, false, not, cond, _&&_}
+use mathlib.Core.Bool.{Bool, true, false, cond, _&&_}
 use mathlib.Core.Logic.{_≢_}
 use Prim.Native.Nat.{ℕ, zero, suc, _-_, _/_, _<_, _≤_}
 use native.Mathlib.Omega.{arith}
-use borrow.Author.Tests.{eqb-false, eq-eqb, ne-eqb, not-true, not-false}
+use borrow.Author.Tests.{eqb-true, eqb-false, eq-eqb, ne-eqb}
 use lib.Dec.{eqb, leb, ltb}
 use Rattle.paper.specs.Image.{task, at, put, clock, flags, status, busy, character}
 use Rattle.paper.specs.Queues.{count, capacity, appended, taken, empty, full}
-use Rattle.paper.specs.Flags.{error-of, pending-of}
-use Rattle.paper.specs.Waking.{Outcome, outcome, accepted, refused, left, one-if, with-woken, unless-full}
+use Rattle.paper.specs.Flags.{error-of, pending-of, waits}
+use Rattle.paper.specs.Waking.{Answered, answered, Outcome, accepted, refused, left, woken, one-if, with-woken}
 use Rattle.paper.specs.Services.{asked, printing}
 use Rattle.paper.specs.Rules.{Flagged}
 use Rattle.paper.specs.Events.{is-tick, is-input, is-output-done, event-of, stopped, turned, acting, turn-of, input, port-next, output-done, happening}
 use Rattle.paper.specs.declared.Task.{Task}
 use Rattle.paper.specs.declared.Shape.{Shape}
 use Rattle.paper.specs.declared.Queue.{Queue}
+use Rattle.paper.specs.declared.Service.{Service}
 use Rattle.paper.specs.declared.Event.{Event}
-use Rattle.paper.specs.declared.Woken.{Woken}
 use Rattle.paper.specs.declared.Answer.{Answer}
 use Rattle.paper.specs.declared.Refusal.{Refusal}
-use Rattle.paper.specs.declared.Reply.{Reply}
 use Rattle.laws.specs.Cells.{cells}
 use Rattle.laws.specs.Queues.{taken-count, taken-rest}
 use Rattle.laws.specs.Sound.{Sound, sound}
 use Rattle.laws.specs.Events.{Formed}
-use Rattle.waking.specs.Room.{Room, has-room}
-use Rattle.laws.specs.Frame.{frame-none, frame-appended, kept-full}
+use Rattle.laws.specs.Room.{Roomy, waiting-room}
+use Rattle.laws.specs.Frame.{Apart, frame-none, frame-appended, kept-full}
 use Rattle.laws.specs.Changes.{device-parts, frame-next}
-use Rattle.services.proofs.Needs.{outcomes, no-room, some-room, room-stays, the-one}
+use Rattle.services.proofs.Needs.{answers}
 
 -- three tests, as the code joins them
 three : (a b c p t : Bool) → p ≡ (b && c) → t ≡ (a && p) → (a && b && c) ≡ t
@@ -107,9 +106,9 @@ module _ (s : Shape) (im : List ℕ) (i : Task) (f : ℕ) (ef : f ≡ at s im (f
     wrong : eqb (error-of f) 0 ≡ false
     wrong = ne-eqb (error-of f) 0 (λ z. omega arith)
 
-    pub comes-to-stop : (r : Reply) (out : List ℕ) → r ≡ Reply.Accepted (Answer.ErrorStop i) → out ≡ stopped s im i → outcome r out ≡ turn-of s im i
+    pub comes-to-stop : (r : Answer) (out : List ℕ) → r ≡ Answer.ErrorStop i → out ≡ stopped s im i → answered r out ≡ turn-of s im i
     unfolding turn-of
-    comes-to-stop r out er eo = rw (← ef, wrong) (outcomes er eo)
+    comes-to-stop r out er eo = rw (← ef, wrong) (answers er eo)
 
   module _ (fl : Flagged s im i) where
     pub service-known : f / 32 ≤ 4
@@ -120,24 +119,13 @@ module _ (s : Shape) (im : List ℕ) (i : Task) (f : ℕ) (ef : f ≡ at s im (f
     right = eq-eqb (error-of f) 0 (no-error (error-of f) (pending-of f) (omega arith) (λ n. rw ef (fl .never-both (rw (← ef) n))))
 
     module _ (k : ℕ) (ek : k ≡ at s im clock) where
-      pub comes-to-turn : (r : Reply) (out : List ℕ) → k ≡ 0 → r ≡ Reply.Accepted (Answer.TurnPassed i) → out ≡ turned s im i → outcome r out ≡ turn-of s im i
+      pub comes-to-turn : (r : Answer) (out : List ℕ) → k ≡ 0 → r ≡ Answer.TurnPassed i → out ≡ turned s im i → answered r out ≡ turn-of s im i
       unfolding turn-of
-      comes-to-turn r out kz er eo = rw (← ef, right, ← ek, eq-eqb k 0 kz) (outcomes er eo)
+      comes-to-turn r out kz er eo = rw (← ef, right, ← ek, eq-eqb k 0 kz) (answers er eo)
 
-      pub comes-to-serve : (o : Outcome) → k ≢ 0 → o ≡ acting s im i (asked (f / 32)) → o ≡ turn-of s im i
+      pub comes-to-serve : (o : Answered) → k ≢ 0 → o ≡ acting s im i (asked (f / 32)) → o ≡ turn-of s im i
       unfolding turn-of
       comes-to-serve o kn eo = rw (← ef, right, ← ek, ne-eqb k 0 kn) eo
-
--- whom an event wakes
-module _ (s : Shape) (im : List ℕ) (i : Task) (x k : ℕ) (ek : k ≡ at s im (status i)) where
-  pub wakes-owner : k ≡ x → Woken.One i ≡ one-if (eqb (at s im (status i)) x) i
-  wakes-owner e = rw (← ek, eq-eqb k x e)
-
-  pub wakes-none : k ≢ x → Woken.Nobody ≡ one-if (eqb (at s im (status i)) x) i
-  wakes-none e = rw (← ek, ne-eqb k x e)
-
-owner-in : (s : Shape) (b : Bool) (i j : Task) (w : Woken) → i .0 < s .n → w ≡ one-if b i → w ≡ Woken.One j → j .0 < s .n
-owner-in s b i j w hi ew e = rw (← the-one b i j (sym ew ∙ e)) hi
 
 -- a port's test, by its word
 module _ (s : Shape) (im : List ℕ) (i : Task) (b : ℕ) (eb : b ≡ at s im (busy i)) where
@@ -147,50 +135,45 @@ module _ (s : Shape) (im : List ℕ) (i : Task) (b : ℕ) (eb : b ≡ at s im (b
   pub port-busy : b ≢ 0 → eqb (at s im (busy i)) 0 ≡ false
   port-busy e = rw (← eb) (ne-eqb b 0 e)
 
--- an event of a device: refused by a test of its own, or else a word moves, which makes im into m, and the owner is woken if its status is x
-unfoldable pub moved-or-refused : Shape → List ℕ → Task → Bool → Refusal → ℕ → Answer → List ℕ → Outcome
-moved-or-refused s im i b f x a m =
-    let w = one-if (eqb (at s im (status i)) x) i in
-    cond b (refused f im) (unless-full s im w (accepted a (with-woken s m w)))
+-- an event of a device: refused by a test of its own, or else a word moves, which makes im into m, and the owner is woken if it waits with service v
+unfoldable pub moved-or-refused : Shape → List ℕ → Task → Bool → Refusal → Service → Answer → List ℕ → Outcome
+moved-or-refused s im i b f v a m =
+    cond b (refused f im) (accepted a (with-woken s m (one-if (eqb (at s im (status i)) (waits v)) i)))
 
 pub input-is : (s : Shape) (im : List ℕ) (i : Task) (c : ℕ)
-    → input s im i c ≡ moved-or-refused s im i (full s im (Queue.Input i)) Refusal.InputFull 3 (Answer.Input i) (appended s im (Queue.Input i) c)
+    → input s im i c ≡ moved-or-refused s im i (full s im (Queue.Input i)) Refusal.InputFull Service.Input (Answer.Input i) (appended s im (Queue.Input i) c)
 unfolding input moved-or-refused
 input-is s im i c = refl
 
 pub output-done-is : (s : Shape) (im : List ℕ) (i : Task)
-    → output-done s im i ≡ moved-or-refused s im i (eqb (at s im (busy i)) 0) Refusal.PortIdle 4 (Answer.OutputDone i) (port-next s im i)
+    → output-done s im i ≡ moved-or-refused s im i (eqb (at s im (busy i)) 0) Refusal.PortIdle Service.Output (Answer.OutputDone i) (port-next s im i)
 unfolding output-done moved-or-refused
 output-done-is s im i = refl
 
-module _ (s : Shape) (im : List ℕ) (i : Task) (b : Bool) (f : Refusal) (x : ℕ) (a : Answer) (m : List ℕ) (o : Outcome) (eo : o ≡ moved-or-refused s im i b f x a m) where
+module _ (s : Shape) (im : List ℕ) (i : Task) (b : Bool) (f : Refusal) (v : Service) (a : Answer) (m : List ℕ) (o : Outcome) (eo : o ≡ moved-or-refused s im i b f v a m) where
   pub refused-by-test : b ≡ true → refused f im ≡ o
   unfolding moved-or-refused
   refused-by-test t = sym (eo ∙ rw t)
 
-  module _ (t : b ≡ false) (w : Woken) (ew : w ≡ one-if (eqb (at s im (status i)) x) i) (r : Bool) (er : r ≡ has-room s im w) where
-    pub refused-by-room : not r ≡ true → refused Refusal.ReadyFull im ≡ o
-    unfolding moved-or-refused
-    refused-by-room g = sym (eo ∙ rw (t, ← ew, no-room s im w _ (sym er ∙ not-true r g)))
+  module _ (t : b ≡ false) (k : ℕ) (ek : k ≡ at s im (status i)) (l : List ℕ) (el : l ≡ m) where
+    pub moved-alone : eqb k (waits v) ≡ false → accepted a l ≡ o
+    unfolding moved-or-refused with-woken
+    moved-alone g = sym (eo ∙ rw (t, ← ek, g, el))
 
-    pub moved-and-woken : not r ≡ false → (l out : List ℕ) → l ≡ m → out ≡ with-woken s l w → outcome (Reply.Accepted a) out ≡ o
-    unfolding moved-or-refused
-    moved-and-woken g l out el ei = rw (ei, el) (sym (eo ∙ rw (t, ← ew, some-room s im w _ (sym er ∙ not-false r g))))
+    pub moved-waking : eqb k (waits v) ≡ true → (out : List ℕ) → out ≡ woken s l i → accepted a out ≡ o
+    unfolding moved-or-refused with-woken
+    moved-waking g out ei = rw (ei, el) (sym (eo ∙ rw (t, ← ek, g)))
 
--- what moves leaves the ready queue's room as it was, so room for the owner
-module _ (s : Shape) (im m : List ℕ) (i : Task) (h : Sound s im) (hi : i .0 < s .n) where
-  pub input-room : (c : ℕ) → m ≡ appended s im (Queue.Input i) c → full s m Queue.Ready ≡ full s im Queue.Ready
-  input-room c em =
-      let q = Queue.Input i in
-      rw em (kept-full device-parts (frame-appended frame-none q hi h (λ r. refl) c) Queue.Ready tt refl)
+-- an owner that waits finds room, also once a word has moved
+module _ (s : Shape) (im m : List ℕ) (i : Task) (h : Sound s im) (hi : i .0 < s .n) (roomy : Roomy s im) (v : Service) (k : ℕ) (ek : k ≡ at s im (status i)) (g : eqb k (waits v) ≡ true) where
+  owner-room : Apart s device-parts im m → full s m Queue.Ready ≡ false
+  owner-room a = kept-full device-parts a Queue.Ready tt refl ∙ waiting-room s im roomy i hi v (sym ek ∙ eqb-true k (waits v) g)
 
-  pub port-room : m ≡ port-next s im i → full s m Queue.Ready ≡ full s im Queue.Ready
-  port-room em = rw em (kept-full device-parts (frame-next frame-none h i hi (λ r. refl) (λ r. refl)) Queue.Ready tt refl)
+  pub input-room : (c : ℕ) → m ≡ appended s im (Queue.Input i) c → full s m Queue.Ready ≡ false
+  input-room c em = owner-room (rw em (frame-appended frame-none (Queue.Input i) hi h (λ r. refl) c))
 
-  pub owner-room : (x : ℕ) (w : Woken) (r : Bool) → w ≡ one-if (eqb (at s im (status i)) x) i → r ≡ has-room s im w → not r ≡ false
-      → full s m Queue.Ready ≡ full s im Queue.Ready → Room s m w
-  owner-room x w r ew er g e =
-      room-stays s im m w e (λ j ej. owner-in s (eqb (at s im (status i)) x) i j w hi ew ej) (sym er ∙ not-false r g)
+  pub port-room : m ≡ port-next s im i → full s m Queue.Ready ≡ false
+  port-room em = owner-room (rw em (frame-next frame-none h i hi (λ r. refl) (λ r. refl)))
 
 -- the port goes on
 module _ (s : Shape) (im : List ℕ) (i : Task) (b : Bool) (eb : b ≡ empty s im (Queue.Output i)) where

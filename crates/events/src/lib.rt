@@ -1,17 +1,17 @@
-// Events: the rules of a tick that come before an order, input and output done, on a sound image.
+// Events: the rules of a tick that come before an order, input and output done, on a sound image in which a task that waits finds room.
 ghost use mathlib.Core.Path.{_≡_};
 ghost use mathlib.Core.Bool.{false};
 ghost use mathlib.Core.Logic.{_≢_};
 ghost use Prim.Native.Nat.{_<_, _≤_};
-ghost use lib.Dec.{eqb};
-ghost use Rattle.paper.specs.Image.{at as word-at, clock as clock-cell, flags as flags-cell, status as status-cell};
+ghost use Rattle.paper.specs.Image.{at as word-at, clock as clock-cell, flags as flags-cell};
 ghost use Rattle.paper.specs.Rules.{Flagged};
-ghost use Rattle.paper.specs.Waking.{outcome, one-if};
+ghost use Rattle.paper.specs.Waking.{answered, outcome};
 ghost use Rattle.paper.specs.Queues.{empty as empty-of};
 ghost use Rattle.paper.specs.Events.{event-of as event-by, stopped, turned, turn-of as turn-by, input as input-by, port-next, output-done as output-done-by, happening};
 ghost use Rattle.paper.specs.declared.Event.the-variants.{Tick};
 ghost use Rattle.paper.specs.declared.Queue.the-variants.{Ready};
 ghost use Rattle.laws.specs.Sound.{Sound};
+ghost use Rattle.laws.specs.Room.{Roomy};
 ghost use Rattle.laws.specs.Events.{Formed};
 ghost use Rattle.words.specs.Spots.{Rowed};
 use connectives::both;
@@ -31,12 +31,10 @@ use paper::TICK;
 use paper::Task;
 use paper::WAITS_FOR_INPUT;
 use paper::WAITS_FOR_OUTPUT;
-use paper::Woken;
 use services::print;
 use services::service;
-use waking::fits;
 use waking::leave;
-use waking::with_woken;
+use waking::wake;
 use words::Row;
 use words::Spot;
 use words::append;
@@ -88,45 +86,34 @@ pub fn turn(s: Shape, im: &mut [u16], t: Task)
 }
 
 // Rules 2 to 4, of the first task, whose flags have an error or a service pending.
-pub fn before_order(s: Shape, im: &mut [u16], x: Row, flags: u16, clock: u16) -> Reply
+pub fn before_order(s: Shape, im: &mut [u16], x: Row, flags: u16, clock: u16) -> Answer
     requires { ⌜ Sound s (now im) ⌝ }
     requires { ⌜ Rowed s x ⌝ }
+    requires { ⌜ Roomy s (now im) ⌝ }
     requires { ⌜ empty-of s (now im) Ready ≡ false ⌝ }
     requires { ⌜ Flagged s (now im) (x .task) ⌝ }
     requires { ⌜ flags ≡ word-at s (now im) (flags-cell (x .task)) ⌝ }
     requires { ⌜ clock ≡ word-at s (now im) clock-cell ⌝ }
     requires { ⌜ 4 ≤ flags ⌝ }
-    ensures { λ r. ⌜ outcome r (now (im .exit)) ≡ turn-by s (now (im .entry)) (x .task) ⌝ }
+    ensures { λ r. ⌜ answered r (now (im .exit)) ≡ turn-by s (now (im .entry)) (x .task) ⌝ }
     ensures { λ _. ⌜ Sound s (now (im .exit)) ⌝ }
 {
     let t = x.task;
     if flags < PENDING {
         stop(s, im, t);
-        return Reply::Accepted(Answer::ErrorStop(t));
+        return Answer::ErrorStop(t);
     }
     if clock == 0 {
         turn(s, im, t);
-        return Reply::Accepted(Answer::TurnPassed(t));
+        return Answer::TurnPassed(t);
     }
     service(s, im, x, clock, flags / PENDING)
-}
-
-// Whom an event wakes: a task, where its status is the one given.
-fn woken_if(s: Shape, im: &[u16], t: Task, status: u16) -> Woken
-    requires { ⌜ Sound s (now im) ⌝ }
-    requires { ⌜ t .0 < s .n ⌝ }
-    ensures { λ r. ⌜ r ≡ one-if (eqb (word-at s (now (im .entry)) (status-cell t)) status) t ⌝ }
-{
-    if get(s, im, Spot::Status(t)) == status {
-        Woken::One(t)
-    } else {
-        Woken::Nobody
-    }
 }
 
 // Input: the character is appended, and the owner is woken if it waits for input.
 pub fn input(s: Shape, im: &mut [u16], t: Task, c: u16) -> Reply
     requires { ⌜ Sound s (now im) ⌝ }
+    requires { ⌜ Roomy s (now im) ⌝ }
     requires { ⌜ t .0 < s .n ⌝ }
     ensures { λ r. ⌜ outcome r (now (im .exit)) ≡ input-by s (now (im .entry)) t c ⌝ }
     ensures { λ _. ⌜ Sound s (now (im .exit)) ⌝ }
@@ -134,12 +121,11 @@ pub fn input(s: Shape, im: &mut [u16], t: Task, c: u16) -> Reply
     if full(s, im, Queue::Input(t)) {
         return Reply::Refused(Refusal::InputFull);
     }
-    let w = woken_if(s, im, t, WAITS_FOR_INPUT);
-    if !fits(s, im, w) {
-        return Reply::Refused(Refusal::ReadyFull);
-    }
+    let waiting = get(s, im, Spot::Status(t)) == WAITS_FOR_INPUT;
     append(s, im, Queue::Input(t), c);
-    with_woken(s, im, w);
+    if waiting {
+        wake(s, im, t);
+    }
     Reply::Accepted(Answer::Input(t))
 }
 
@@ -161,6 +147,7 @@ fn next_output(s: Shape, im: &mut [u16], t: Task)
 // Output done: the port goes on, and the owner is woken if it waits for output.
 pub fn output_done(s: Shape, im: &mut [u16], t: Task) -> Reply
     requires { ⌜ Sound s (now im) ⌝ }
+    requires { ⌜ Roomy s (now im) ⌝ }
     requires { ⌜ t .0 < s .n ⌝ }
     ensures { λ r. ⌜ outcome r (now (im .exit)) ≡ output-done-by s (now (im .entry)) t ⌝ }
     ensures { λ _. ⌜ Sound s (now (im .exit)) ⌝ }
@@ -168,18 +155,18 @@ pub fn output_done(s: Shape, im: &mut [u16], t: Task) -> Reply
     if get(s, im, Spot::Busy(t)) == IDLE {
         return Reply::Refused(Refusal::PortIdle);
     }
-    let w = woken_if(s, im, t, WAITS_FOR_OUTPUT);
-    if !fits(s, im, w) {
-        return Reply::Refused(Refusal::ReadyFull);
-    }
+    let waiting = get(s, im, Spot::Status(t)) == WAITS_FOR_OUTPUT;
     next_output(s, im, t);
-    with_woken(s, im, w);
+    if waiting {
+        wake(s, im, t);
+    }
     Reply::Accepted(Answer::OutputDone(t))
 }
 
 // An event that is no tick.
 pub fn report(s: Shape, im: &mut [u16], e: Event) -> Reply
     requires { ⌜ Sound s (now im) ⌝ }
+    requires { ⌜ Roomy s (now im) ⌝ }
     requires { ⌜ Formed s e ⌝ }
     requires { ⌜ e ≢ Tick ⌝ }
     ensures { λ r. ⌜ outcome r (now (im .exit)) ≡ happening s (now (im .entry)) e ⌝ }

@@ -1,5 +1,5 @@
 -- A task that is not ready finds room in the ready queue. Assumes nothing.
-use mathlib.Core.Path.{_≡_, refl, _∙_}
+use mathlib.Core.Path.{_≡_, refl, sym, _∙_}
 use mathlib.Core.List.{List, [], _∷_}
 use mathlib.Core.Bool.{Bool, false}
 use mathlib.Core.Logic.{_≢_, dite}
@@ -10,12 +10,13 @@ use borrow.Author.Tests.{eq-eqb, ne-eqb}
 use lib.ListN.{length}
 use Rattle.paper.specs.Image.{task, at, status}
 use Rattle.paper.specs.Queues.{count, capacity, held, full}
-use Rattle.paper.specs.Flags.{is-ready}
+use Rattle.paper.specs.Flags.{is-ready, waits, is-stopped}
 use Rattle.paper.specs.Rules.{times, Ready, Queued, Good}
 use Rattle.paper.specs.declared.Task.{Task}
 use Rattle.paper.specs.declared.Shape.{Shape}
 use Rattle.paper.specs.declared.Part.{Part}
 use Rattle.paper.specs.declared.Queue.{Queue}
+use Rattle.paper.specs.declared.Service.{Service}
 use Rattle.laws.specs.Queues.{held-length}
 use Rattle.laws.specs.Frame.{Apart, kept-status, kept-full}
 use Rattle.laws.specs.Events.{Lawful, good}
@@ -51,9 +52,11 @@ together-all n (w ∷ ws) below =
 together-few : (n : ℕ) (ws : List ℕ) → ((x : ℕ) → times x ws ≤ 1) → (together n ws ≤ n) × ((k : ℕ) → k < n → times k ws ≡ 0 → together n ws < n)
 together-few zero ws once = (omega arith, λ k h e. omega arith)
 together-few (suc n) ws once =
-    let h = together-few n ws once in
-    (omega (arith, h .0, once n), λ k l e.
-    dite (ℕ-discrete k n) (λ same. omega (arith, h .0, rw same at e)) (λ ne. omega (arith, h .1 k (omega arith) e, once n)))
+    let h = together-few n ws once in (
+      omega (arith, h .0, once n),
+      λ k l e.
+          dite (ℕ-discrete k n) (λ same. omega (arith, h .0, rw same at e)) (λ ne. omega (arith, h .1 k (omega arith) e, once n)),
+    )
 
 -- THE COUNT: a list of numbers below n, without repeats, that leaves one of them out has fewer than n words
 pub fewer : (n : ℕ) (ws : List ℕ) → ((x : ℕ) → n ≤ x → times x ws ≡ 0) → ((x : ℕ) → times x ws ≤ 1) → (k : ℕ) → k < n → times k ws ≡ 0 → length ws < n
@@ -76,9 +79,9 @@ module _ (s : Shape) (im : List ℕ) (l : Listed s im) where
   -- so it has room for a task that is not ready
   pub listed-room : Queued s im Queue.Ready → (i : Task) → i .0 < s .n → at s im (status i) ≢ is-ready → full s im Queue.Ready ≡ false
   unfolding full
-  listed-room q i hi waits =
+  listed-room q i hi ne =
       let n = held-length s im Queue.Ready in
-      let few = fewer (s .n) (held s im Queue.Ready) ready-below ready-once (i .0) hi (l i .1 (λ r. waits (r .1))) in
+      let few = fewer (s .n) (held s im Queue.Ready) ready-below ready-once (i .0) hi (l i .1 (λ r. ne (r .1))) in
       ne-eqb (at s im (count s Queue.Ready)) (at s im (capacity s Queue.Ready)) (λ e. omega (arith, n, few, e, q .sized))
 
 -- a task that is not ready finds room; shut, as contracts say it
@@ -92,9 +95,26 @@ finds-room s im r = r
 -- it does where statuses and the ready queue are as they were
 pub kept-roomy : {s : Shape} (P : Part → Bool) {im m : List ℕ} → Apart s P im m → P Part.StatusTable ≡ false → P Part.ReadyQueue ≡ false → Roomy s im → Roomy s m
 unfolding Roomy
-kept-roomy P a f g r i hi waits = kept-full P a Queue.Ready tt g ∙ r i hi (λ e. waits (kept-status P a f i hi ∙ e))
+kept-roomy P a f g r i hi n = kept-full P a Queue.Ready tt g ∙ r i hi (λ e. n (kept-status P a f i hi ∙ e))
 
--- so it is in a good image
+-- a status that waits is neither ready nor stopped
+pub waits-between : (v : Service) → (is-ready < waits v) × (waits v < is-stopped)
+waits-between Service.Send = (omega arith, omega arith)
+waits-between Service.Receive = (omega arith, omega arith)
+waits-between Service.Input = (omega arith, omega arith)
+waits-between Service.Output = (omega arith, omega arith)
+
+pub waits-not : (v : Service) → is-ready ≢ waits v
+waits-not v e = omega (arith, waits-between v)
+
+pub waits-on : (v : Service) → is-stopped ≢ waits v
+waits-on v e = omega (arith, waits-between v)
+
+-- so a task that waits finds room
+pub waiting-room : (s : Shape) (im : List ℕ) → Roomy s im → (i : Task) → i .0 < s .n → (v : Service) → at s im (status i) ≡ waits v → full s im Queue.Ready ≡ false
+waiting-room s im r i hi v e = finds-room s im r i hi (λ z. waits-not v (sym z ∙ e))
+
+-- a good image is such
 pub good-roomy : {s : Shape} {im : List ℕ} → Good s im → Roomy s im
 unfolding Roomy
 good-roomy {s} {im} g = listed-room s im (λ i. (g .ready i, g .no-other i)) (g .queues Queue.Ready tt)

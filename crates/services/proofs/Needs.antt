@@ -5,33 +5,30 @@ use mathlib.Core.Bool.{Bool, true, false, _&&_}
 use mathlib.Core.Logic.{_≢_}
 use Prim.Native.Nat.{ℕ, _<_, _≤_}
 use native.Mathlib.Omega.{arith}
-use borrow.Author.Tests.{lt-ltb, le-ltb, le-leb, lt-leb, eq-eqb, ne-eqb, not-true, not-false}
+use borrow.Author.Tests.{lt-ltb, le-ltb, le-leb, lt-leb, eqb-true, eq-eqb, ne-eqb}
 use lib.Dec.{eqb, leb, ltb}
 use Rattle.paper.specs.Image.{task, most-character, at, put, reg, flags, status, peer, busy, character}
 use Rattle.paper.specs.Queues.{part-of, Has, count, appended, first, taken, empty, full}
 use Rattle.paper.specs.Flags.{flags-of, cc-of, cc as cc-in, error, waits}
-use Rattle.paper.specs.Waking.{Outcome, outcome, accepted, refused, with-status, left, woken, one-if, with-woken, unless-full}
-use Rattle.paper.specs.Services.{asked, other, given, error-if, service-faulted, no-such-task, no-character, fault-of, buffer, blocks, blocked, awaited, waiting, delivered, printing, printing-if-idle, moves, moved, served, waits-for, wakes, finished, service}
+use Rattle.paper.specs.Waking.{Answered, answered, with-status, left, woken, one-if, with-woken}
+use Rattle.paper.specs.Services.{other, given, error-if, service-faulted, no-such-task, no-character, fault-of, buffer, blocks, blocked, awaited, waiting, delivered, printing, printing-if-idle, moves, moved, served, waits-for, wakes, finished, service}
 use Rattle.paper.specs.declared.Task.{Task}
 use Rattle.paper.specs.declared.Shape.{Shape}
 use Rattle.paper.specs.declared.Queue.{Queue}
 use Rattle.paper.specs.declared.Service.{Service}
-use Rattle.paper.specs.declared.Asked.{Asked}
 use Rattle.paper.specs.declared.Fault.{Fault}
 use Rattle.paper.specs.declared.Woken.{Woken}
 use Rattle.paper.specs.declared.Answer.{Answer}
-use Rattle.paper.specs.declared.Refusal.{Refusal}
-use Rattle.paper.specs.declared.Reply.{Reply}
 use Rattle.laws.specs.Cells.{cells}
 use Rattle.laws.specs.Sound.{Sound, appended-some}
 use Rattle.laws.specs.Frame.{Apart, frame-none, frame-put, frame-appended, kept-full}
 use Rattle.laws.specs.Changes.{device-parts, moved-parts, frame-delivered}
-use Rattle.waking.specs.Room.{Room, has-room}
-use Rattle.services.specs.Done.{done, Serves}
+use Rattle.laws.specs.Room.{Roomy, waiting-room}
+use Rattle.services.specs.Done.{done}
 
--- an outcome is its reply and its image
-pub outcomes : {r q : Reply} {m l : List ℕ} → r ≡ q → m ≡ l → outcome r m ≡ outcome q l
-outcomes er em = rw (er, em)
+-- what a tick comes to is its answer and its image
+pub answers : {r q : Answer} {m l : List ℕ} → r ≡ q → m ≡ l → answered r m ≡ answered q l
+answers er em = rw (er, em)
 
 -- whether a task waits for another
 pub tested : (s : Shape) (im : List ℕ) (j i : Task) (w k p : ℕ) (r : Bool) → k ≡ at s im (status j) → p ≡ at s im (peer j) → r ≡ (eqb k w && eqb p (i .0))
@@ -39,10 +36,10 @@ pub tested : (s : Shape) (im : List ℕ) (j i : Task) (w k p : ℕ) (r : Bool) �
 tested s im j i w k p r ek ep er = rw (← ek, ← ep) er
 
 -- a service faults
-pub faulted : (s : Shape) (im out : List ℕ) (i : Task) (r : Reply) (f w e : ℕ) → r ≡ Reply.Accepted (Answer.ServiceFaulted i) → f ≡ at s im (flags i)
-    → w ≡ flags-of (cc-of f) e 0 → out ≡ put s im (flags i) w → outcome r out ≡ accepted (Answer.ServiceFaulted i) (service-faulted s im i e)
+pub faulted : (s : Shape) (im out : List ℕ) (i : Task) (r : Answer) (f w e : ℕ) → r ≡ Answer.ServiceFaulted i → f ≡ at s im (flags i)
+    → w ≡ flags-of (cc-of f) e 0 → out ≡ put s im (flags i) w → answered r out ≡ answered (Answer.ServiceFaulted i) (service-faulted s im i e)
 unfolding service-faulted
-faulted s im out i r f w e er ef ew eo = outcomes er (rw (← ef, ← ew) eo)
+faulted s im out i r f w e er ef ew eo = answers er (rw (← ef, ← ew) eo)
 
 -- the first task waits
 module _ (s : Shape) (im m : List ℕ) (i : Task) (k p : ℕ) (em : m ≡ with-status s im i k p) where
@@ -52,22 +49,22 @@ module _ (s : Shape) (im m : List ℕ) (i : Task) (k p : ℕ) (em : m ≡ with-s
       let c : at s m (count s Queue.Ready) ≡ at s im (count s Queue.Ready) = rw em (search cells) in
       rw c h
 
-  pub gone : (r : Reply) (out : List ℕ) → r ≡ Reply.Accepted (Answer.ServiceWaits i) → out ≡ left s m
-      → outcome r out ≡ accepted (Answer.ServiceWaits i) (left s (with-status s im i k p))
-  gone r out er eo = outcomes er (rw (← em) eo)
+  pub gone : (r : Answer) (out : List ℕ) → r ≡ Answer.ServiceWaits i → out ≡ left s m
+      → answered r out ≡ answered (Answer.ServiceWaits i) (left s (with-status s im i k p))
+  gone r out er eo = answers er (rw (← em) eo)
 
 -- a word moves, and nothing is pending
-module _ (s : Shape) (im m out : List ℕ) (i : Task) (q : Queue) (f w : ℕ) (ef : f ≡ flags-of (cc-in s im i) (error s im i) 0) (r : Reply)
-    (er : r ≡ Reply.Accepted (Answer.ServiceDone i)) where
+module _ (s : Shape) (im m out : List ℕ) (i : Task) (q : Queue) (f w : ℕ) (ef : f ≡ flags-of (cc-in s im i) (error s im i) 0) (r : Answer)
+    (er : r ≡ Answer.ServiceDone i) where
   pub passes : w ≡ given s im i → m ≡ appended s im q w → out ≡ put s m (flags i) f
-      → outcome r out ≡ accepted (Answer.ServiceDone i) (done s im i (appended s im q (given s im i)))
+      → answered r out ≡ answered (Answer.ServiceDone i) (done s im i (appended s im q (given s im i)))
   unfolding done
-  passes ew em eo = outcomes er (rw (← ew, ← em, ← ef) eo)
+  passes ew em eo = answers er (rw (← ew, ← em, ← ef) eo)
 
   pub delivers : (l : List ℕ) → w ≡ first s im q → m ≡ taken s im q → l ≡ put s m (reg i 3) w → out ≡ put s l (flags i) f
-      → outcome r out ≡ accepted (Answer.ServiceDone i) (done s im i (delivered s im i q))
+      → answered r out ≡ answered (Answer.ServiceDone i) (done s im i (delivered s im i q))
   unfolding done delivered
-  delivers l ew em el eo = outcomes er (rw (← ew, ← em, ← el, ← ef) eo)
+  delivers l ew em el eo = answers er (rw (← ew, ← em, ← el, ← ef) eo)
 
 -- words printed
 pub prints : (s : Shape) (im m l out : List ℕ) (i : Task) (w : ℕ) → w ≡ first s im (Queue.Output i) → m ≡ taken s im (Queue.Output i)
@@ -91,25 +88,21 @@ module _ (s : Shape) (im m : List ℕ) (i : Task) (w : ℕ) (h : Sound s im) (hi
 
 -- what a service comes to whose number is not wrong: the buffer first
 module _ (s : Shape) (im : List ℕ) (i : Task) (v : Service) (right : fault-of s im i v ≡ Fault.Nothing) (b : Bool) (eb : b ≡ blocked s im i v) where
-  pub comes-to-wait : (o : Outcome) (p : ℕ) → b ≡ true → p ≡ awaited s im i v → o ≡ accepted (Answer.ServiceWaits i) (left s (with-status s im i (waits v) p))
-      → o ≡ service s im im i v
+  pub comes-to-wait : (o : Answered) (p : ℕ) → b ≡ true → p ≡ awaited s im i v → o ≡ answered (Answer.ServiceWaits i) (left s (with-status s im i (waits v) p))
+      → o ≡ service s im i v
   unfolding service waiting
   comes-to-wait o p t ep eo = rw (right, ← eb, t, ← ep) eo
 
   -- then the word moves, and nobody is woken
-  pub comes-to-pass : (o : Outcome) → b ≡ false → wakes s im i v ≡ Woken.Nobody → o ≡ accepted (Answer.ServiceDone i) (done s im i (moved s im i v)) → o ≡ service s im im i v
-  unfolding service finished unless-full with-woken served done
+  pub comes-to-pass : (o : Answered) → b ≡ false → wakes s im i v ≡ Woken.Nobody → o ≡ answered (Answer.ServiceDone i) (done s im i (moved s im i v)) → o ≡ service s im i v
+  unfolding service finished with-woken served done
   comes-to-pass o t nobody eo = rw (right, ← eb, t, nobody) eo
 
-  -- or a task is, unless the ready queue is full
-  module _ (t : b ≡ false) (j : Task) (one : wakes s im i v ≡ Woken.One j) where
-    pub comes-to-nothing : full s im Queue.Ready ≡ true → refused Refusal.ReadyFull im ≡ service s im im i v
-    unfolding service finished unless-full
-    comes-to-nothing z = rw (right, ← eb, t, one, z)
-
-    pub comes-to-wake : (o : Outcome) → full s im Queue.Ready ≡ false → o ≡ accepted (Answer.ServiceDone i) (woken s (done s im i (moved s im i v)) j) → o ≡ service s im im i v
-    unfolding service finished unless-full with-woken served done
-    comes-to-wake o z eo = rw (right, ← eb, t, one, z) eo
+  -- or a task is
+  pub comes-to-wake : (o : Answered) → b ≡ false → (j : Task) → wakes s im i v ≡ Woken.One j → o ≡ answered (Answer.ServiceDone i) (woken s (done s im i (moved s im i v)) j)
+      → o ≡ service s im i v
+  unfolding service finished with-woken served done
+  comes-to-wake o t j one eo = rw (right, ← eb, t, one) eo
 
 -- send and receive: what service v comes to between task i and the one that R2 names, k, which may wait with the counterpart
 abbrev counterpart : Service → Service
@@ -137,7 +130,7 @@ module _ (s : Shape) (im : List ℕ) (i : Task) (k : ℕ) (ek : k ≡ at s im (r
   gets-from = rw (← ek)
 
   module _ (v : Service) (between : Between s im i v) where
-    pub unnamed : (o : Outcome) → s .n ≤ k → o ≡ accepted (Answer.ServiceFaulted i) (service-faulted s im i no-such-task) → o ≡ service s im im i v
+    pub unnamed : (o : Answered) → s .n ≤ k → o ≡ answered (Answer.ServiceFaulted i) (service-faulted s im i no-such-task) → o ≡ service s im i v
     unfolding service
     unnamed o h eo = rw (between .names, ← ek, le-leb (s .n) k h) eo
 
@@ -148,7 +141,7 @@ module _ (s : Shape) (im : List ℕ) (i : Task) (k : ℕ) (ek : k ≡ at s im (r
       buffered : b ≡ blocked s im i v
       buffered = rw (← eq) eb
 
-      pub other-waits : (o : Outcome) → b ≡ true → o ≡ accepted (Answer.ServiceWaits i) (left s (with-status s im i (waits v) k)) → o ≡ service s im im i v
+      pub other-waits : (o : Answered) → b ≡ true → o ≡ answered (Answer.ServiceWaits i) (left s (with-status s im i (waits v) k)) → o ≡ service s im i v
       other-waits o t eo = comes-to-wait s im i v right b buffered o k t (rw (between .awaits, ← ek)) eo
 
       module _ (t : b ≡ false) (a : Bool) (ea : a ≡ (eqb (at s im (status (task k))) (waits (counterpart v)) && eqb (at s im (peer (task k))) (i .0))) where
@@ -156,69 +149,53 @@ module _ (s : Shape) (im : List ℕ) (i : Task) (k : ℕ) (ek : k ≡ at s im (r
         unfolding waits-for
         test = rw (between .wakes-other, ← ek, ← ea)
 
-        pub moved-alone : (o : Outcome) → a ≡ false → o ≡ accepted (Answer.ServiceDone i) (done s im i (moves v s im i q)) → o ≡ service s im im i v
+        pub moved-alone : (o : Answered) → a ≡ false → o ≡ answered (Answer.ServiceDone i) (done s im i (moves v s im i q)) → o ≡ service s im i v
         moved-alone o ta eo =
             let nobody : wakes s im i v ≡ Woken.Nobody = test ∙ rw ta in
             comes-to-pass s im i v right b buffered o t nobody (rw (← eq) eo)
 
-        module _ (ta : a ≡ true) (u : Bool) (eu : u ≡ full s im Queue.Ready) where
-          one : wakes s im i v ≡ Woken.One (task k)
-          one = test ∙ rw ta
+        module _ (ta : a ≡ true) (r : Answer) (m : List ℕ) (em : answered r m ≡ answered (Answer.ServiceDone i) (done s im i (moves v s im i q))) where
+          passed : m ≡ done s im i (moved s im i v)
+          passed = rw (← eq) (ap (λ (o : Answered). o .image) em)
 
-          pub no-room-left : (r : Reply) (out : List ℕ) → u ≡ true → r ≡ Reply.Refused Refusal.ReadyFull → out ≡ im → outcome r out ≡ service s im im i v
-          no-room-left r out tu er eo = outcomes er eo ∙ comes-to-nothing s im i v right b buffered t (task k) one (sym eu ∙ tu)
+          pub moved-waking : (out : List ℕ) → out ≡ woken s m (task k) → answered r out ≡ service s im i v
+          moved-waking out eo =
+              comes-to-wake s im i v right b buffered (answered r out) t (task k) (test ∙ rw ta)
+              (answers (ap (λ (o : Answered). o .answer) em) (eo ∙ ap (λ (l : List ℕ). woken s l (task k)) passed))
 
-          module _ (tu : u ≡ false) (r : Reply) (m : List ℕ) (em : outcome r m ≡ accepted (Answer.ServiceDone i) (done s im i (moves v s im i q))) where
-            passed : m ≡ served s im i v
-            unfolding served done
-            passed = rw (← eq) (ap (λ (o : Outcome). o .image) em)
+-- a task that waits finds room, also once a word has moved
+both-first : (a b : Bool) → (a && b) ≡ true → a ≡ true
+both-first true b e = refl
+both-first false b e = e
 
-            pub moved-waking : (out : List ℕ) → out ≡ woken s m (task k) → outcome r out ≡ service s im im i v
-            unfolding served done
-            moved-waking out eo =
-                comes-to-wake s im i v right b buffered t (task k) one (outcome r out) (sym eu ∙ tu)
-                (outcomes (ap (λ (o : Outcome). o .reply) em) (eo ∙ ap (λ (l : List ℕ). woken s l (task k)) passed))
-
--- a word that moves leaves the ready queue's room as it was
-module _ (s : Shape) (im m : List ℕ) (i : Task) (r : Reply) where
-  room-done : (l : List ℕ) → i .0 < s .n → Apart s moved-parts im l → outcome r m ≡ accepted (Answer.ServiceDone i) (done s im i l)
-      → full s im Queue.Ready ≡ false → full s m Queue.Ready ≡ false
+module _ (s : Shape) (im m : List ℕ) (i j : Task) (r : Answer) (q : Queue) (h : Sound s im) (hi : i .0 < s .n) (hq : Has s q) (hj : j .0 < s .n) (roomy : Roomy s im)
+    (v : Service) (a : Bool) (ea : a ≡ (eqb (at s im (status j)) (waits v) && eqb (at s im (peer j)) (i .0))) (ta : a ≡ true) where
+  room-done : (l : List ℕ) → Apart s moved-parts im l → answered r m ≡ answered (Answer.ServiceDone i) (done s im i l) → full s m Queue.Ready ≡ false
   unfolding done
-  room-done l hi a em z =
-      rw (ap (λ (o : Outcome). o .image) em) (kept-full moved-parts (frame-put a (flags i) _ (hi, omega arith) refl) Queue.Ready tt refl) ∙ z
+  room-done l a em =
+      rw (ap (λ (o : Answered). o .image) em) (kept-full moved-parts (frame-put a (flags i) _ (hi, omega arith) refl) Queue.Ready tt refl) ∙
+      waiting-room s im roomy j hj v (eqb-true (at s im (status j)) (waits v) (both-first _ _ (sym ea ∙ ta)))
 
-  module _ (q : Queue) where
-    pub room-sent : outcome r m ≡ accepted (Answer.ServiceDone i) (done s im i (appended s im q (given s im i))) → Sound s im → i .0 < s .n → Has s q
-        → moved-parts (part-of q) ≡ true → (u : Bool) → u ≡ full s im Queue.Ready → u ≡ false → full s m Queue.Ready ≡ false
-    room-sent em h hi hq p u eu z = room-done _ hi (frame-appended frame-none q hq h (λ j. p) _) em (sym eu ∙ z)
+  pub room-sent : answered r m ≡ answered (Answer.ServiceDone i) (done s im i (appended s im q (given s im i))) → moved-parts (part-of q) ≡ true → full s m Queue.Ready ≡ false
+  room-sent em p = room-done _ (frame-appended frame-none q hq h (λ j. p) _) em
 
-    pub room-got : outcome r m ≡ accepted (Answer.ServiceDone i) (done s im i (delivered s im i q)) → Sound s im → i .0 < s .n → Has s q
-        → device-parts (part-of q) ≡ true → (u : Bool) → u ≡ full s im Queue.Ready → u ≡ false → full s m Queue.Ready ≡ false
-    room-got em h hi hq p u eu z =
-        room-done _ hi (frame-delivered frame-none h i hi (λ c t. rw t) (λ j. refl) q hq p) em (sym eu ∙ z)
+  pub room-got : answered r m ≡ answered (Answer.ServiceDone i) (done s im i (delivered s im i q)) → device-parts (part-of q) ≡ true → full s m Queue.Ready ≡ false
+  room-got em p = room-done _ (frame-delivered frame-none h i hi (λ c t. rw t) (λ j. refl) q hq p) em
 
 -- output: R3 holds more than a character, or one
 module _ (s : Shape) (im : List ℕ) (i : Task) (w : ℕ) (ew : w ≡ given s im i) where
-  pub too-large : (o : Outcome) → most-character < w → o ≡ accepted (Answer.ServiceFaulted i) (service-faulted s im i no-character) → o ≡ service s im im i Service.Output
+  pub too-large : (o : Answered) → most-character < w → o ≡ answered (Answer.ServiceFaulted i) (service-faulted s im i no-character) → o ≡ service s im i Service.Output
   unfolding service
   too-large o h eo = rw (← ew, lt-ltb most-character w h) eo
 
   pub small-enough : w ≤ most-character → error-if (ltb most-character (given s im i)) no-character ≡ Fault.Nothing
   small-enough h = rw (← ew, le-ltb most-character w h)
 
-  pub put-out : (m l out : List ℕ) (r : Reply) (f : ℕ) → r ≡ Reply.Accepted (Answer.ServiceDone i) → f ≡ flags-of (cc-in s im i) (error s im i) 0
+  pub put-out : (m l out : List ℕ) (r : Answer) (f : ℕ) → r ≡ Answer.ServiceDone i → f ≡ flags-of (cc-in s im i) (error s im i) 0
       → m ≡ appended s im (Queue.Output i) w → l ≡ printing-if-idle s m i → out ≡ put s l (flags i) f
-      → outcome r out ≡ accepted (Answer.ServiceDone i) (done s im i (printing-if-idle s (appended s im (Queue.Output i) (given s im i)) i))
+      → answered r out ≡ answered (Answer.ServiceDone i) (done s im i (printing-if-idle s (appended s im (Queue.Output i) (given s im i)) i))
   unfolding done
-  put-out m l out r f er ef em el eo = outcomes er (rw (← ew, ← em, ← el, ← ef) eo)
-
--- the service of a number
-same-service : {v w : Service} → Asked.For v ≡ Asked.For w → v ≡ w
-same-service e = cc e
-
-pub serves : (s : Shape) (im : List ℕ) (i : Task) (v : Service) (k p : ℕ) (o : Outcome) → p ≡ k → asked k ≡ Asked.For v → o ≡ service s im im i v
-    → Serves s im i (asked p) o
-serves s im i v k p o e a eo w ew = eo ∙ ap (service s im im i) (same-service (sym a ∙ ap asked (sym e) ∙ ew))
+  put-out m l out r f er ef em el eo = answers er (rw (← ew, ← em, ← el, ← ef) eo)
 
 -- a number that is none of the first three is the last
 pub last-number : (p : ℕ) → (1 ≤ p) × (p ≤ 4) → ((Unit {0} × (p ≢ 1)) × (p ≢ 2)) × (p ≢ 3) → p ≡ 4
@@ -231,26 +208,3 @@ module _ (s : Shape) (im : List ℕ) (q : Queue) (b : Bool) (t : b ≡ false) wh
 
   pub not-empty : b ≡ empty s im q → empty s im q ≡ false
   not-empty e = sym e ∙ t
-
--- whom an event wakes, for the crates above: the task that a test wakes
-pub the-one : (b : Bool) (o j : Task) → one-if b o ≡ Woken.One j → o ≡ j
-the-one true o j h = cc
-the-one false o j h = cc
-
--- a wake that the ready queue has no room for is refused before any word changes
-pub no-room : (s : Shape) (im : List ℕ) (w : Woken) (o : Outcome) → has-room s im w ≡ false → unless-full s im w o ≡ refused Refusal.ReadyFull im
-unfolding has-room unless-full
-no-room s im Woken.Nobody o h = cc
-no-room s im (Woken.One j) o h = rw (not-false (full s im Queue.Ready) h)
-
-pub some-room : (s : Shape) (im : List ℕ) (w : Woken) (o : Outcome) → has-room s im w ≡ true → unless-full s im w o ≡ o
-unfolding has-room unless-full
-some-room s im Woken.Nobody o h = refl
-some-room s im (Woken.One j) o h = rw (not-true (full s im Queue.Ready) h)
-
--- what leaves the ready queue's room as it was leaves room
-pub room-stays : (s : Shape) (im m : List ℕ) (w : Woken) → full s m Queue.Ready ≡ full s im Queue.Ready → ((j : Task) → w ≡ Woken.One j → j .0 < s .n)
-    → has-room s im w ≡ true → Room s m w
-unfolding has-room Room
-room-stays s im m Woken.Nobody e f h = tt
-room-stays s im m (Woken.One j) e f h = (f j refl, e ∙ not-true (full s im Queue.Ready) h)

@@ -1,4 +1,4 @@
-// The services: what a pending one does for the first task, on a sound image. Each decides everything before it writes; the clock, which falls first, is put back where one is refused.
+// The services: what a pending one does for the first task, on a sound image in which a task that waits finds room. Each decides everything before it writes.
 ghost use mathlib.Core.Path.{_≡_};
 ghost use mathlib.Core.Bool.{false, _&&_};
 ghost use Prim.Native.Nat.{_<_, _≤_};
@@ -6,15 +6,16 @@ ghost use lib.Dec.{eqb};
 ghost use Rattle.paper.specs.Image.{at, clock as clock-cell, status as status-of, peer as peer-of};
 ghost use Rattle.paper.specs.Flags.{flags-of, cc, error};
 ghost use Rattle.paper.specs.Queues.{Has, appended, empty as empty-of, full as full-of};
-ghost use Rattle.paper.specs.Waking.{outcome, accepted, with-status as statused, left};
+ghost use Rattle.paper.specs.Waking.{answered, with-status as statused, left};
 ghost use Rattle.paper.specs.Services.{asked as asked-by, given, service-faulted, delivered, printing, printing-if-idle, service as service-of};
 ghost use Rattle.paper.specs.Events.{acting};
 ghost use Rattle.paper.specs.declared.Answer.the-variants.{ServiceDone, ServiceFaulted, ServiceWaits};
 ghost use Rattle.paper.specs.declared.Queue.the-variants.{Ready, Output};
 ghost use Rattle.paper.specs.declared.Service.the-variants.{Send, Receive, Input, Output as Print};
 ghost use Rattle.laws.specs.Sound.{Sound};
+ghost use Rattle.laws.specs.Room.{Roomy};
 ghost use Rattle.words.specs.Spots.{Rowed};
-ghost use Rattle.services.specs.Done.{done, Serves};
+ghost use Rattle.services.specs.Done.{done};
 use connectives::both;
 use paper::ASK_INPUT;
 use paper::Answer;
@@ -29,8 +30,6 @@ use paper::NOTHING_PENDING;
 use paper::OTHER;
 use paper::Queue;
 use paper::RECEIVE;
-use paper::Refusal;
-use paper::Reply;
 use paper::SEND;
 use paper::Shape;
 use paper::Task;
@@ -68,31 +67,31 @@ fn waits_for(s: Shape, im: &[u16], j: Task, status: u16, t: Task) -> bool
 }
 
 // A service faults: its error is set, and nothing is pending.
-fn fault(s: Shape, im: &mut [u16], x: Row, e: u16) -> Reply
+fn fault(s: Shape, im: &mut [u16], x: Row, e: u16) -> Answer
     requires { ⌜ Sound s (now im) ⌝ }
     requires { ⌜ Rowed s x ⌝ }
     requires { ⌜ e < 8 ⌝ }
-    ensures { λ r. ⌜ outcome r (now (im .exit)) ≡ accepted (ServiceFaulted (x .task)) (service-faulted s (now (im .entry)) (x .task) e) ⌝ }
+    ensures { λ r. ⌜ answered r (now (im .exit)) ≡ answered (ServiceFaulted (x .task)) (service-faulted s (now (im .entry)) (x .task) e) ⌝ }
     ensures { λ _. ⌜ Sound s (now (im .exit)) ⌝ }
 {
     let t = x.task;
     let f = with_fault(own(s, im, x, FLAGS), e);
     put_own(s, im, x, FLAGS, f);
-    Reply::Accepted(Answer::ServiceFaulted(t))
+    Answer::ServiceFaulted(t)
 }
 
 // The first task waits: it takes a status, leaves the queue, and another is dispatched.
-fn wait(s: Shape, im: &mut [u16], x: Row, status: u16, peer: u16) -> Reply
+fn wait(s: Shape, im: &mut [u16], x: Row, status: u16, peer: u16) -> Answer
     requires { ⌜ Sound s (now im) ⌝ }
     requires { ⌜ Rowed s x ⌝ }
     requires { ⌜ empty-of s (now im) Ready ≡ false ⌝ }
-    ensures { λ r. ⌜ outcome r (now (im .exit)) ≡ accepted (ServiceWaits (x .task)) (left s (statused s (now (im .entry)) (x .task) status peer)) ⌝ }
+    ensures { λ r. ⌜ answered r (now (im .exit)) ≡ answered (ServiceWaits (x .task)) (left s (statused s (now (im .entry)) (x .task) status peer)) ⌝ }
     ensures { λ _. ⌜ Sound s (now (im .exit)) ⌝ }
 {
     let t = x.task;
     with_status(s, im, t, status, peer);
     leave(s, im);
-    Reply::Accepted(Answer::ServiceWaits(t))
+    Answer::ServiceWaits(t)
 }
 
 // The flags of a task, with nothing pending.
@@ -105,12 +104,12 @@ fn cleared(s: Shape, im: &[u16], x: Row) -> u16
 }
 
 // The word in R3 goes to a buffer that has room, and nothing is pending.
-fn pass(s: Shape, im: &mut [u16], x: Row, q: Queue) -> Reply
+fn pass(s: Shape, im: &mut [u16], x: Row, q: Queue) -> Answer
     requires { ⌜ Sound s (now im) ⌝ }
     requires { ⌜ Rowed s x ⌝ }
     requires { ⌜ Has s q ⌝ }
     requires { ⌜ full-of s (now im) q ≡ false ⌝ }
-    ensures { λ r. ⌜ outcome r (now (im .exit)) ≡ accepted (ServiceDone (x .task)) (done s (now (im .entry)) (x .task) (appended s (now (im .entry)) q (given s (now (im .entry)) (x .task)))) ⌝ }
+    ensures { λ r. ⌜ answered r (now (im .exit)) ≡ answered (ServiceDone (x .task)) (done s (now (im .entry)) (x .task) (appended s (now (im .entry)) q (given s (now (im .entry)) (x .task)))) ⌝ }
     ensures { λ _. ⌜ Sound s (now (im .exit)) ⌝ }
 {
     let t = x.task;
@@ -118,16 +117,16 @@ fn pass(s: Shape, im: &mut [u16], x: Row, q: Queue) -> Reply
     let w = own(s, im, x, WORD);
     append(s, im, q, w);
     put_own(s, im, x, FLAGS, f);
-    Reply::Accepted(Answer::ServiceDone(t))
+    Answer::ServiceDone(t)
 }
 
 // The first word of a buffer goes to R3, and nothing is pending.
-fn deliver(s: Shape, im: &mut [u16], x: Row, q: Queue) -> Reply
+fn deliver(s: Shape, im: &mut [u16], x: Row, q: Queue) -> Answer
     requires { ⌜ Sound s (now im) ⌝ }
     requires { ⌜ Rowed s x ⌝ }
     requires { ⌜ Has s q ⌝ }
     requires { ⌜ empty-of s (now im) q ≡ false ⌝ }
-    ensures { λ r. ⌜ outcome r (now (im .exit)) ≡ accepted (ServiceDone (x .task)) (done s (now (im .entry)) (x .task) (delivered s (now (im .entry)) (x .task) q)) ⌝ }
+    ensures { λ r. ⌜ answered r (now (im .exit)) ≡ answered (ServiceDone (x .task)) (done s (now (im .entry)) (x .task) (delivered s (now (im .entry)) (x .task) q)) ⌝ }
     ensures { λ _. ⌜ Sound s (now (im .exit)) ⌝ }
 {
     let t = x.task;
@@ -135,7 +134,7 @@ fn deliver(s: Shape, im: &mut [u16], x: Row, q: Queue) -> Reply
     let w = take(s, im, q);
     put_own(s, im, x, WORD, w);
     put_own(s, im, x, FLAGS, f);
-    Reply::Accepted(Answer::ServiceDone(t))
+    Answer::ServiceDone(t)
 }
 
 // The first word of the output buffer goes to the port, which becomes busy.
@@ -165,11 +164,12 @@ fn print_if_idle(s: Shape, im: &mut [u16], t: Task)
 }
 
 // Send: the word in R3 for the task that R2 names, which is woken if it waits for it.
-fn send(s: Shape, im: &mut [u16], x: Row) -> Reply
+fn send(s: Shape, im: &mut [u16], x: Row) -> Answer
     requires { ⌜ Sound s (now im) ⌝ }
     requires { ⌜ Rowed s x ⌝ }
+    requires { ⌜ Roomy s (now im) ⌝ }
     requires { ⌜ empty-of s (now im) Ready ≡ false ⌝ }
-    ensures { λ r. ⌜ outcome r (now (im .exit)) ≡ service-of s (now (im .entry)) (now (im .entry)) (x .task) Send ⌝ }
+    ensures { λ r. ⌜ answered r (now (im .exit)) ≡ service-of s (now (im .entry)) (x .task) Send ⌝ }
     ensures { λ _. ⌜ Sound s (now (im .exit)) ⌝ }
 {
     let t = x.task;
@@ -180,23 +180,21 @@ fn send(s: Shape, im: &mut [u16], x: Row) -> Reply
     if full(s, im, Queue::Message(t, j)) {
         return wait(s, im, x, WAITS_TO_SEND, j.0);
     }
-    if waits_for(s, im, j, WAITS_TO_RECEIVE, t) {
-        if full(s, im, Queue::Ready) {
-            return Reply::Refused(Refusal::ReadyFull);
-        }
-        let r = pass(s, im, x, Queue::Message(t, j));
+    let waiting = waits_for(s, im, j, WAITS_TO_RECEIVE, t);
+    let r = pass(s, im, x, Queue::Message(t, j));
+    if waiting {
         wake(s, im, j);
-        return r;
     }
-    pass(s, im, x, Queue::Message(t, j))
+    r
 }
 
 // Receive: the first word from the task that R2 names, which is woken if it waits to send.
-fn receive(s: Shape, im: &mut [u16], x: Row) -> Reply
+fn receive(s: Shape, im: &mut [u16], x: Row) -> Answer
     requires { ⌜ Sound s (now im) ⌝ }
     requires { ⌜ Rowed s x ⌝ }
+    requires { ⌜ Roomy s (now im) ⌝ }
     requires { ⌜ empty-of s (now im) Ready ≡ false ⌝ }
-    ensures { λ r. ⌜ outcome r (now (im .exit)) ≡ service-of s (now (im .entry)) (now (im .entry)) (x .task) Receive ⌝ }
+    ensures { λ r. ⌜ answered r (now (im .exit)) ≡ service-of s (now (im .entry)) (x .task) Receive ⌝ }
     ensures { λ _. ⌜ Sound s (now (im .exit)) ⌝ }
 {
     let t = x.task;
@@ -207,23 +205,20 @@ fn receive(s: Shape, im: &mut [u16], x: Row) -> Reply
     if empty(s, im, Queue::Message(j, t)) {
         return wait(s, im, x, WAITS_TO_RECEIVE, j.0);
     }
-    if waits_for(s, im, j, WAITS_TO_SEND, t) {
-        if full(s, im, Queue::Ready) {
-            return Reply::Refused(Refusal::ReadyFull);
-        }
-        let r = deliver(s, im, x, Queue::Message(j, t));
+    let waiting = waits_for(s, im, j, WAITS_TO_SEND, t);
+    let r = deliver(s, im, x, Queue::Message(j, t));
+    if waiting {
         wake(s, im, j);
-        return r;
     }
-    deliver(s, im, x, Queue::Message(j, t))
+    r
 }
 
 // Input: the first word of the input buffer.
-fn input(s: Shape, im: &mut [u16], x: Row) -> Reply
+fn input(s: Shape, im: &mut [u16], x: Row) -> Answer
     requires { ⌜ Sound s (now im) ⌝ }
     requires { ⌜ Rowed s x ⌝ }
     requires { ⌜ empty-of s (now im) Ready ≡ false ⌝ }
-    ensures { λ r. ⌜ outcome r (now (im .exit)) ≡ service-of s (now (im .entry)) (now (im .entry)) (x .task) Input ⌝ }
+    ensures { λ r. ⌜ answered r (now (im .exit)) ≡ service-of s (now (im .entry)) (x .task) Input ⌝ }
     ensures { λ _. ⌜ Sound s (now (im .exit)) ⌝ }
 {
     let t = x.task;
@@ -234,11 +229,11 @@ fn input(s: Shape, im: &mut [u16], x: Row) -> Reply
 }
 
 // Output: the word in R3, printed where the port is idle.
-fn output(s: Shape, im: &mut [u16], x: Row) -> Reply
+fn output(s: Shape, im: &mut [u16], x: Row) -> Answer
     requires { ⌜ Sound s (now im) ⌝ }
     requires { ⌜ Rowed s x ⌝ }
     requires { ⌜ empty-of s (now im) Ready ≡ false ⌝ }
-    ensures { λ r. ⌜ outcome r (now (im .exit)) ≡ service-of s (now (im .entry)) (now (im .entry)) (x .task) Print ⌝ }
+    ensures { λ r. ⌜ answered r (now (im .exit)) ≡ service-of s (now (im .entry)) (x .task) Print ⌝ }
     ensures { λ _. ⌜ Sound s (now (im .exit)) ⌝ }
 {
     let t = x.task;
@@ -253,42 +248,26 @@ fn output(s: Shape, im: &mut [u16], x: Row) -> Reply
     append(s, im, Queue::Output(t), w);
     print_if_idle(s, im, t);
     put_own(s, im, x, FLAGS, f);
-    Reply::Accepted(Answer::ServiceDone(t))
+    Answer::ServiceDone(t)
 }
 
-// The service of a number.
-fn serve(s: Shape, im: &mut [u16], x: Row, number: u16) -> Reply
+// Rule 4: the clock falls by 1, then the service that the first task has pending, by its number.
+pub fn service(s: Shape, im: &mut [u16], x: Row, clock: u16, pending: u16) -> Answer
     requires { ⌜ Sound s (now im) ⌝ }
     requires { ⌜ Rowed s x ⌝ }
+    requires { ⌜ Roomy s (now im) ⌝ }
     requires { ⌜ empty-of s (now im) Ready ≡ false ⌝ }
-    requires { ⌜ (1 ≤ number) × (number ≤ 4) ⌝ }
-    ensures { λ r. ⌜ Serves s (now (im .entry)) (x .task) (asked-by number) (outcome r (now (im .exit))) ⌝ }
+    requires { ⌜ clock ≡ at s (now im) clock-cell ⌝ }
+    requires { ⌜ 0 < clock ⌝ }
+    requires { ⌜ (1 ≤ pending) × (pending ≤ 4) ⌝ }
+    ensures { λ r. ⌜ answered r (now (im .exit)) ≡ acting s (now (im .entry)) (x .task) (asked-by pending) ⌝ }
     ensures { λ _. ⌜ Sound s (now (im .exit)) ⌝ }
 {
-    match number {
+    put(s, im, Spot::Clock, clock - 1);
+    match pending {
         SEND => send(s, im, x),
         RECEIVE => receive(s, im, x),
         ASK_INPUT => input(s, im, x),
         _ => output(s, im, x),
     }
-}
-
-// Rule 4: the clock falls by 1, then the service that the first task has pending, by its number; a refused one leaves the clock as it was.
-pub fn service(s: Shape, im: &mut [u16], x: Row, clock: u16, pending: u16) -> Reply
-    requires { ⌜ Sound s (now im) ⌝ }
-    requires { ⌜ Rowed s x ⌝ }
-    requires { ⌜ empty-of s (now im) Ready ≡ false ⌝ }
-    requires { ⌜ clock ≡ at s (now im) clock-cell ⌝ }
-    requires { ⌜ 0 < clock ⌝ }
-    requires { ⌜ (1 ≤ pending) × (pending ≤ 4) ⌝ }
-    ensures { λ r. ⌜ outcome r (now (im .exit)) ≡ acting s (now (im .entry)) (x .task) (asked-by pending) ⌝ }
-    ensures { λ _. ⌜ Sound s (now (im .exit)) ⌝ }
-{
-    let left = clock - 1;
-    put(s, im, Spot::Clock, left);
-    let r = serve(s, im, x, pending);
-    if let Reply::Refused(_) = r {
-        put(s, im, Spot::Clock, clock);
-    }
-    r
 }

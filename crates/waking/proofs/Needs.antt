@@ -1,18 +1,16 @@
 -- What the calls of this crate ask and make, as laws over values. Assumes nothing.
 use mathlib.Core.Path.{_≡_, _∙_}
 use mathlib.Core.List.{List}
-use mathlib.Core.Bool.{Bool, true, false, not}
+use mathlib.Core.Bool.{Bool, true, false}
 use Prim.Native.Nat.{ℕ, _<_}
 use Rattle.paper.specs.Image.{at, put, clock, status, peer}
 use Rattle.paper.specs.Queues.{count, capacity, appended, taken, empty, full}
-use Rattle.paper.specs.Waking.{dispatched, with-status, readied, woken, left, with-woken}
+use Rattle.paper.specs.Waking.{dispatched, with-status, readied, woken, left}
 use Rattle.paper.specs.declared.Task.{Task}
 use Rattle.paper.specs.declared.Shape.{Shape}
 use Rattle.paper.specs.declared.Queue.{Queue}
-use Rattle.paper.specs.declared.Woken.{Woken}
 use Rattle.laws.specs.Cells.{cells}
 use Rattle.laws.specs.Sound.{Sound}
-use Rattle.waking.specs.Room.{Room, has-room}
 
 -- the clock, as the ready queue tells
 module _ (s : Shape) (im out : List ℕ) (b : Bool) (eb : b ≡ empty s im Queue.Ready) where
@@ -55,33 +53,6 @@ module _ (s : Shape) (im m : List ℕ) (i : Task) (b : Bool) (eb : b ≡ empty s
   pub woken-among : b ≡ false → m ≡ woken s im i
   unfolding woken
   woken-among t = rw (← eb, t) em
-
--- whom an event wakes
-module _ (s : Shape) (im : List ℕ) (w : Woken) where
-  pub room-nobody : w ≡ Woken.Nobody → true ≡ has-room s im w
-  unfolding has-room
-  room-nobody e = rw e
-
-  pub room-one : (j : Task) (b : Bool) → w ≡ Woken.One j → b ≡ full s im Queue.Ready → not b ≡ has-room s im w
-  unfolding has-room
-  room-one j b e eb = rw (e, eb)
-
-  module _ (j : Task) (e : w ≡ Woken.One j) where
-    pub task-of : Room s im w → j .0 < s .n
-    unfolding Room
-    task-of r = (rw e at r) .0
-
-    pub room-of : Room s im w → full s im Queue.Ready ≡ false
-    unfolding Room
-    room-of r = (rw e at r) .1
-
-    pub one-woken : (out : List ℕ) → out ≡ woken s im j → out ≡ with-woken s im w
-    unfolding with-woken
-    one-woken out eo = rw e eo
-
-  pub nobody-woken : w ≡ Woken.Nobody → im ≡ with-woken s im w
-  unfolding with-woken
-  nobody-woken e = rw e
 
 pub gone : (s : Shape) (im m out : List ℕ) → m ≡ taken s im Queue.Ready → out ≡ dispatched s m → out ≡ left s im
 unfolding left

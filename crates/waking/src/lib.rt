@@ -1,22 +1,19 @@
 // Dispatch, waking and leaving the ready queue, on a sound image.
 ghost use mathlib.Core.Path.{_≡_};
-ghost use mathlib.Core.Bool.{true, false};
+ghost use mathlib.Core.Bool.{false};
 ghost use Prim.Native.Nat.{_<_};
 ghost use Rattle.paper.specs.Queues.{empty as empty-of, full as full-of};
-ghost use Rattle.paper.specs.Waking.{dispatched, with-status as statused, readied, woken, left, with-woken as woken-if};
+ghost use Rattle.paper.specs.Waking.{dispatched, with-status as statused, readied, woken, left};
 ghost use Rattle.paper.specs.declared.Queue.the-variants.{Ready};
 ghost use Rattle.laws.specs.Sound.{Sound};
-ghost use Rattle.waking.specs.Room.{Room, has-room};
 use paper::NO_PEER;
 use paper::Queue;
 use paper::READY;
 use paper::Shape;
 use paper::Task;
-use paper::Woken;
 use words::Spot;
 use words::append;
 use words::empty;
-use words::full;
 use words::put;
 use words::take;
 
@@ -68,29 +65,6 @@ pub fn wake(s: Shape, im: &mut [u16], t: Task)
     ready(s, im, t);
     if alone {
         dispatch(s, im);
-    }
-}
-
-// Whether the ready queue has room for whom an event wakes.
-pub fn fits(s: Shape, im: &[u16], w: Woken) -> bool
-    requires { ⌜ Sound s (now im) ⌝ }
-    ensures { λ r. ⌜ r ≡ has-room s (now (im .entry)) w ⌝ }
-{
-    match w {
-        Woken::Nobody => true,
-        Woken::One(_) => !full(s, im, Queue::Ready),
-    }
-}
-
-// Wakes whom an event wakes.
-pub fn with_woken(s: Shape, im: &mut [u16], w: Woken)
-    requires { ⌜ Sound s (now im) ⌝ }
-    requires { ⌜ Room s (now im) w ⌝ }
-    ensures { λ _. ⌜ now (im .exit) ≡ woken-if s (now (im .entry)) w ⌝ }
-    ensures { λ _. ⌜ Sound s (now (im .exit)) ⌝ }
-{
-    if let Woken::One(t) = w {
-        wake(s, im, t);
     }
 }
 

@@ -13,7 +13,7 @@ returns-2 c = (search comes-to-turn, search needs)
 
 service-requires : tie.Need-service-requires
 service-requires c κs =
-    (search needs, (search needs, (search needs, (search needs, (omega arith, (search needs, search service-known))))))
+    (search needs, (search needs, (search needs, (search needs, (search needs, (omega arith, (search needs, search service-known)))))))
 
 returns-3 : tie.Need-returns-3
 returns-3 c = (search comes-to-serve, search needs)

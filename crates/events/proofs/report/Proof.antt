@@ -31,7 +31,7 @@ returns-2 : tie.Need-returns-2
 returns-2 c = search done-happens
 
 returns-3 : tie.Need-returns-3
-returns-3 c = malformed-happens _ _ _ (none-else _ (c .match .keys3) (c .before .before .pre .1 .1))
+returns-3 c = malformed-happens _ _ _ (none-else _ (c .match .keys3) (c .before .before .pre .1 .1 .1))
 
 pub report-spec : {M : Type 1} → statement M
 report-spec =
