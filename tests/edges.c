@@ -464,7 +464,7 @@ static void try_words(void)
 {
     EXPECT(same(kernel_number_text(KERNEL_NOT_REFUSED), "nothing is refused"));
     EXPECT(same(kernel_number_text(1), "image under 18 words") && same(kernel_number_text(18), "unknown"));
-    EXPECT(same(kernel_number_text(17), "a count of ticks is at its end"));
+    EXPECT(same(kernel_number_text(17), "a count of ticks is at its end") && same(kernel_number_text(10), "unknown"));
     EXPECT(same(kernel_number_text(KERNEL_NOT_THERE), "not there"));
     EXPECT(same(kernel_kind_text(0), "idle") && same(kernel_kind_text(9), "output done"));
     EXPECT(same(kernel_kind_text(10), "unknown") && same(kernel_kind_text(KERNEL_NO_ANSWER), "unknown"));

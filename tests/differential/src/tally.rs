@@ -6,7 +6,7 @@ use model::looking::{Seen, RULES};
 use model::numbers::{NOT_THERE, OTHER_RULE};
 use std::collections::BTreeMap;
 
-/// The numbers that must occur. 10 is not among them: on a good image no wake finds the ready queue full.
+/// The numbers that must occur.
 const NUMBERS: [u16; 18] = [0, 1, 2, 3, 4, 5, 6, 7, 8, 9, 11, 12, 13, 14, 15, 16, 17, NOT_THERE];
 /// Calls by their places among the names, each with the numbers that must occur in it.
 const OF_CALLS: [(usize, &[u16]); 13] = [

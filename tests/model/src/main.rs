@@ -16,8 +16,7 @@ const USAGE: &str = "usage: model check-vectors|build-vectors|order-vectors|even
                      run-vectors|text-vectors|print-vectors|look-vectors|broken-vectors|\
                      report-vectors|share-vectors|many-events SEED COUNT FILE\n       model runner-cases FOLDER";
 
-/// The numbers that an event in a file can have. 10 is not among them: on a
-/// good image no wake finds the ready queue full.
+/// The numbers that an event in a file can have.
 const EVENT_NUMBERS: [u16; 4] = [0, 7, 8, 9];
 /// The numbers that a run in a file can have.
 const RUN_NUMBERS: [u16; 10] = [0, 1, 2, 3, 4, 5, 6, 7, 8, 9];

@@ -20,8 +20,6 @@ pub const EVENT: u16 = 7;
 pub const INPUT_FULL: u16 = 8;
 /// An output is done on a port that is idle.
 pub const PORT_IDLE: u16 = 9;
-/// A wake finds the ready queue full.
-pub const READY_FULL: u16 = 10;
 /// The plan is too short, too long, or one of its lengths is wrong.
 pub const PLAN: u16 = 11;
 /// The target of a build is not T words; through C also a list of counts of

@@ -57,7 +57,7 @@
 //! | word of a record | holds |
 //! |---|---|
 //! | 0 | kind of the record, 5 |
-//! | 1 | expected number: 0 accepted, or 7 to 10 |
+//! | 1 | expected number: 0 accepted, or 7 to 9 |
 //! | 2, 3 | k, how many words the event changes |
 //! | 4, 5, 6 | the event: kind, device and character |
 //! | 7, 8 | the answer's kind and task; 65535 twice where it is refused |
@@ -69,7 +69,7 @@
 //! | word of a record | holds |
 //! |---|---|
 //! | 0 | kind of the record, 6 |
-//! | 1 | expected number: 0, or 1 to 10 |
+//! | 1 | expected number: 0, or 1 to 9 |
 //! | 2, 3 | count of the list's words |
 //! | 4, 5 | how many events are taken |
 //! | 6, 7 | k, how many words the run changes |
@@ -139,7 +139,7 @@
 //! | word of a record | holds |
 //! |---|---|
 //! | 0 | kind of the record, 11 |
-//! | 1 | expected number: 0, 1 to 10, 12 or 17 |
+//! | 1 | expected number: 0, 1 to 9, 12 or 17 |
 //! | 2, 3 | count of the list's words |
 //! | 4, 5 | how many events are taken |
 //! | 6, 7 | k, how many words of the image change |

@@ -12,7 +12,7 @@ pub fn input(kernel: &mut Kernel, device: u16, character: u16) -> Result<Answer,
     require(!task.input.is_full(), numbers::INPUT_FULL)?;
     task.input.append(character);
     if task.status == status::WAITS_FOR_INPUT {
-        wake(kernel, owner)?;
+        wake(kernel, owner);
     }
     Ok(Answer { kind: answer::INPUT, task: device })
 }
@@ -24,7 +24,7 @@ pub fn output_done(kernel: &mut Kernel, device: u16) -> Result<Answer, u16> {
     require(!task.port.is_idle(), numbers::PORT_IDLE)?;
     task.port = if task.output.is_empty() { Port::default() } else { Port::printing(task.output.take()) };
     if task.status == status::WAITS_FOR_OUTPUT {
-        wake(kernel, owner)?;
+        wake(kernel, owner);
     }
     Ok(Answer { kind: answer::OUTPUT_DONE, task: device })
 }

@@ -73,21 +73,17 @@ impl Event {
 /// Carries out the event in three words. A refusal gives its number and
 /// changes nothing.
 pub fn happen(kernel: &mut Kernel, words: [u16; 3]) -> Result<Answer, u16> {
-    let event = Event::read(words, kernel.tasks.len()).ok_or(numbers::EVENT)?;
-    let mut after = kernel.clone();
-    let answer = match event {
-        Event::Tick => tick::tick(&mut after),
-        Event::Input { device, character } => devices::input(&mut after, device, character),
-        Event::OutputDone { device } => devices::output_done(&mut after, device),
-    }?;
-    *kernel = after;
-    Ok(answer)
+    match Event::read(words, kernel.tasks.len()).ok_or(numbers::EVENT)? {
+        Event::Tick => Ok(tick::tick(kernel)),
+        Event::Input { device, character } => devices::input(kernel, device, character),
+        Event::OutputDone { device } => devices::output_done(kernel, device),
+    }
 }
 
 #[cfg(test)]
 mod tests {
     use super::*;
-    use crate::happening::scene::{queue, Scene};
+    use crate::happening::scene::Scene;
     use crate::plan;
 
     pub const TICK: [u16; 3] = [0, 0, 0];
@@ -137,47 +133,6 @@ mod tests {
         assert_eq!(refusal(&kernel, [1, 0, 255]), 8);
         assert_eq!(refusal(&kernel, [2, 0, 1]), 7);
         assert_eq!(refusal(&kernel, [2, 0, 0]), 9);
-    }
-
-    /// No good image has a full ready queue and a task that waits; in these
-    /// task 0 waits and is ready too.
-    #[test]
-    fn a_wake_into_a_full_ready_queue_is_10_and_comes_last() {
-        let full = [0, 0, 2, 2, 1, 0];
-        let reads = Scene::of(2).waits_for_input(0).ready(&full).kernel();
-        assert_eq!(refusal(&reads, [1, 0, 65]), 10);
-        assert_eq!(refusal(&reads, [1, 0, 256]), 7);
-        let mut no_room = reads;
-        no_room.tasks[0].input = queue(&[0, 0, 2, 2, 5, 6]);
-        assert_eq!(refusal(&no_room, [1, 0, 65]), 8);
-        let prints = Scene::of(2).waits_for_output(0, 65).ready(&full);
-        assert_eq!(refusal(&prints.clone().kernel(), [2, 0, 0]), 9);
-        let busy = prints.output(0, 64, &[0, 0, 2, 2, 5, 6]);
-        assert_eq!(refusal(&busy.kernel(), [2, 0, 0]), 10);
-        let sent = Scene::of(2).waits_to_receive(0, 1).ready(&full).asks(1, 1, 0, 7);
-        assert_eq!(refusal(&sent.kernel(), TICK), 10);
-        let received = Scene::of(2).waits_to_send(0, 1).ready(&full).asks(1, 2, 0, 7);
-        let received = received.message(0, 1, &[0, 0, 2, 2, 5, 6]);
-        assert_eq!(refusal(&received.kernel(), TICK), 10);
-    }
-
-    /// A refused tick takes nothing from the clock and moves no word, also
-    /// where the clock is 1.
-    #[test]
-    fn a_service_that_is_refused_leaves_every_word() {
-        let full = [0, 0, 2, 2, 1, 0];
-        let sends = Scene::of(2).waits_to_receive(0, 1).ready(&full).asks(1, 1, 0, 7);
-        let receives = Scene::of(2).waits_to_send(0, 1).ready(&full).asks(1, 2, 0, 7);
-        let receives = receives.message(0, 1, &[0, 0, 2, 2, 5, 6]);
-        for scene in [sends, receives] {
-            for clock in 1..=5 {
-                let before = scene.clone().clock(clock).kernel();
-                let mut after = before.clone();
-                assert_eq!(happen(&mut after, TICK), Err(10));
-                assert_eq!(after.encode(), before.encode());
-                assert_eq!(after.clock, clock);
-            }
-        }
     }
 
     #[test]

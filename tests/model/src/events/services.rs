@@ -27,15 +27,15 @@ enum Outcome {
 
 /// Does the pending service of the first task, and gives the kind of the
 /// answer.
-pub fn serve(kernel: &mut Kernel, me: usize) -> Result<u16, u16> {
+pub fn serve(kernel: &mut Kernel, me: usize) -> u16 {
     let outcome = match kernel.tasks[me].flags.pending {
-        service::SEND => send(kernel, me)?,
-        service::RECEIVE => receive(kernel, me)?,
+        service::SEND => send(kernel, me),
+        service::RECEIVE => receive(kernel, me),
         service::INPUT => input(&mut kernel.tasks[me]),
         service::OUTPUT => output(&mut kernel.tasks[me]),
         other => unreachable!("{other} is no service"),
     };
-    Ok(conclude(kernel, me, outcome))
+    conclude(kernel, me, outcome)
 }
 
 /// Sets what an outcome says of the task itself.
@@ -59,34 +59,34 @@ fn conclude(kernel: &mut Kernel, me: usize, outcome: Outcome) -> u16 {
     }
 }
 
-fn send(kernel: &mut Kernel, me: usize) -> Result<Outcome, u16> {
+fn send(kernel: &mut Kernel, me: usize) -> Outcome {
     let Some(peer) = named_task(kernel, me) else {
-        return Ok(Outcome::Faulted { error: error::TASK });
+        return Outcome::Faulted { error: error::TASK };
     };
     let buffer = &mut kernel.messages[me][peer];
     if buffer.is_full() {
-        return Ok(Outcome::Waits { status: status::WAITS_TO_SEND, peer: word(peer) });
+        return Outcome::Waits { status: status::WAITS_TO_SEND, peer: word(peer) };
     }
     buffer.append(kernel.tasks[me].registers[WORD]);
     if waits(&kernel.tasks[peer], status::WAITS_TO_RECEIVE, me) {
-        wake(kernel, peer)?;
+        wake(kernel, peer);
     }
-    Ok(Outcome::Done)
+    Outcome::Done
 }
 
-fn receive(kernel: &mut Kernel, me: usize) -> Result<Outcome, u16> {
+fn receive(kernel: &mut Kernel, me: usize) -> Outcome {
     let Some(source) = named_task(kernel, me) else {
-        return Ok(Outcome::Faulted { error: error::TASK });
+        return Outcome::Faulted { error: error::TASK };
     };
     let buffer = &mut kernel.messages[source][me];
     if buffer.is_empty() {
-        return Ok(Outcome::Waits { status: status::WAITS_TO_RECEIVE, peer: word(source) });
+        return Outcome::Waits { status: status::WAITS_TO_RECEIVE, peer: word(source) };
     }
     kernel.tasks[me].registers[WORD] = buffer.take();
     if waits(&kernel.tasks[source], status::WAITS_TO_SEND, me) {
-        wake(kernel, source)?;
+        wake(kernel, source);
     }
-    Ok(Outcome::Done)
+    Outcome::Done
 }
 
 fn input(task: &mut Task) -> Outcome {

@@ -7,30 +7,32 @@ use crate::image::{status, Kernel};
 use crate::orders::order;
 
 /// One tick, by the first rule that applies.
-pub fn tick(kernel: &mut Kernel) -> Result<Answer, u16> {
+pub fn tick(kernel: &mut Kernel) -> Answer {
     let Some(&first) = kernel.ready.held.front() else {
-        return Ok(Answer { kind: answer::IDLE, task: 0 });
+        return Answer { kind: answer::IDLE, task: 0 };
     };
-    let kind = run(kernel, usize::from(first))?;
-    Ok(Answer { kind, task: first })
+    let kind = run(kernel, usize::from(first));
+    Answer { kind, task: first }
 }
 
 /// What happens to the first ready task, as the kind of the answer.
-fn run(kernel: &mut Kernel, me: usize) -> Result<u16, u16> {
+fn run(kernel: &mut Kernel, me: usize) -> u16 {
     let flags = kernel.tasks[me].flags;
     if flags.error != 0 {
         leave(kernel, status::STOPPED);
-        Ok(answer::ERROR_STOP)
+        answer::ERROR_STOP
     } else if kernel.clock == 0 {
         pass_turn(kernel);
-        Ok(answer::TURN_PASSED)
+        answer::TURN_PASSED
     } else if flags.pending != 0 {
         kernel.clock -= 1;
         serve(kernel, me)
     } else {
         kernel.clock -= 1;
-        let done = order(&mut kernel.tasks[me]).is_ok();
-        Ok(if done { answer::ORDER_DONE } else { answer::ORDER_FAULTED })
+        match order(&mut kernel.tasks[me]) {
+            Ok(()) => answer::ORDER_DONE,
+            Err(_) => answer::ORDER_FAULTED,
+        }
     }
 }
 
