@@ -45,7 +45,7 @@ extern "C" {
 
 /* The version of this header and of the archive, and the edition of the images that are built. */
 #define KERNEL_VERSION_MAJOR 0
-#define KERNEL_VERSION_MINOR 3
+#define KERNEL_VERSION_MINOR 4
 #define KERNEL_EDITION 1
 
 /* The numbers that come back. kernel_number_text says each in words. */
@@ -59,7 +59,6 @@ extern "C" {
 #define KERNEL_REFUSED_MALFORMED_EVENT 7     /* also a list of events that is not a multiple of three words */
 #define KERNEL_REFUSED_INPUT_FULL 8          /* input for a full input buffer */
 #define KERNEL_REFUSED_PORT_IDLE 9           /* output done on an idle port */
-#define KERNEL_REFUSED_READY_FULL 10         /* a wake finds the ready queue full */
 #define KERNEL_REFUSED_BAD_PLAN 11           /* the plan is malformed, or its image would have over 32768 words */
 #define KERNEL_REFUSED_WRONG_TARGET 12       /* a target of another length than the plan's image; not 97 counts */
 #define KERNEL_REFUSED_OUTSIDE_GRAMMAR 13    /* a line is, or gives one name or label over KERNEL_MOST_NAMES */
@@ -204,7 +203,7 @@ struct kernel_size {
 
 /* What an event comes to. */
 struct kernel_told {
-    uint16_t number; /* 0 where the event is accepted, else 1 to 10 */
+    uint16_t number; /* 0 where the event is accepted, else 1 to 9 */
     uint16_t kind;   /* one of KERNEL_KIND_..; refused: KERNEL_NO_ANSWER */
     uint16_t task;   /* the task that the answer is about, 0 where it is idle; refused: KERNEL_NO_ANSWER */
 };
@@ -285,7 +284,7 @@ struct kernel_ran kernel_run(uint16_t *image, size_t words, const uint16_t *even
 
 /* A run that counts: does to the image what kernel_run does, and adds each tick that is taken to its count. Of 97 zeros
    it makes the counts of one run; those that a run left go on with the next, of the same image or of another. A tick
-   whose count is at its end is refused with 17, after the tests for 7 to 10, and stops the run: what was taken and
+   whose count is at its end is refused with 17, after the tests for 7 to 9, and stops the run: what was taken and
    counted before it stays. The image and the counts are lent for writing, the list for reading. Another number of
    entries than KERNEL_COUNTS is refused with 12 before all else. */
 struct kernel_ran kernel_report(uint16_t *image, size_t words, const uint16_t *events, size_t event_words,
@@ -360,7 +359,6 @@ static inline const char *kernel_number_text(uint16_t number)
     case KERNEL_REFUSED_MALFORMED_EVENT: return "event malformed, or a list not a multiple of three words";
     case KERNEL_REFUSED_INPUT_FULL: return "input for a full input buffer";
     case KERNEL_REFUSED_PORT_IDLE: return "output done on an idle port";
-    case KERNEL_REFUSED_READY_FULL: return "a wake finds the ready queue full";
     case KERNEL_REFUSED_BAD_PLAN: return "the plan is malformed, or its image has more than 32768 words";
     case KERNEL_REFUSED_WRONG_TARGET: return "the target has another length than the plan's image, or not 97 counts";
     case KERNEL_REFUSED_OUTSIDE_GRAMMAR: return "a line outside the grammar, or a name too many";

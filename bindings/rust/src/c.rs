@@ -17,7 +17,7 @@ pub struct Size {
 #[repr(C)]
 #[derive(Clone, Copy, Debug, PartialEq, Eq)]
 pub struct Told {
-    /// 0 where the event is accepted, else 1 to 10.
+    /// 0 where the event is accepted, else 1 to 9.
     pub number: u16,
     /// The kind of the answer, or [`NO_ANSWER`].
     pub kind: u16,

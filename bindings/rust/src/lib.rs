@@ -197,8 +197,8 @@ pub fn build(plan: &[u16], target: &mut [u16]) -> Result<(), Refusal> {
 ///
 /// # Errors
 ///
-/// 1 to 6, as [`check`] refuses the image; then [`Refusal::MalformedEvent`], [`Refusal::InputFull`],
-/// [`Refusal::PortIdle`] or [`Refusal::ReadyFull`]. No word of the image is changed then.
+/// 1 to 6, as [`check`] refuses the image; then [`Refusal::MalformedEvent`], [`Refusal::InputFull`] or
+/// [`Refusal::PortIdle`]. No word of the image is changed then.
 pub fn event(image: &mut [u16], kind: u16, device: u16, character: u16) -> Result<Answer, Refusal> {
     // SAFETY: above.
     let told = unsafe { c::kernel_event(image.as_mut_ptr(), image.len(), kind, device, character) };

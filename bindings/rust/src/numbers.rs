@@ -82,8 +82,6 @@ numbered! {
         InputFull = 8, "input for a full input buffer";
         /// 9: the device's port puts nothing out.
         PortIdle = 9, "output done on an idle port";
-        /// 10: a task is to be woken and the ready queue is full.
-        ReadyFull = 10, "a wake finds the ready queue full";
         /// 11: the plan has under five words, too few or too many for its tasks, a segment of 0 words, a program longer
         /// than its segment, or an image of over 32768 words.
         BadPlan = 11, "the plan is malformed, or its image has more than 32768 words";

@@ -92,6 +92,7 @@ fn the_header_has_the_same_limits() {
 fn a_case_is_found_by_its_number_and_no_other_number_has_one() {
     assert!(Refusal::ALL.iter().all(|case| Refusal::with_number(case.number()) == Some(*case)));
     assert_eq!((0..=u16::MAX).filter_map(Refusal::with_number).collect::<Vec<_>>(), Refusal::ALL);
+    assert_eq!(Refusal::with_number(10), None);
     assert_eq!((0..=u16::MAX).filter_map(Rule::with_number).count(), 20);
     assert_eq!((Kind::with_number(0), Kind::with_number(10)), (Some(Kind::Idle), None));
     assert_eq!((TaskError::with_number(0), Service::with_number(0)), (None, None));
