@@ -34,8 +34,7 @@ enum {
     MALFORMED_EVENT,
     INPUT_FULL,
     PORT_IDLE,
-    READY_FULL,
-    PLAN,
+    PLAN = 11,
     TARGET
 };
 
@@ -402,10 +401,6 @@ static inline struct told answered(word kind, uint32_t task) {
     return (struct told){0, kind, (word)task};
 }
 
-static inline bool ready_full(const struct layout *l, const word *im) {
-    return im[l->ready + LENGTH] == l->tasks;
-}
-
 static inline void wake(const struct layout *l, word *im, uint32_t task) {
     word *status = im + l->status + 2 * task, *ready = im + l->ready;
     status[0] = READY;
@@ -459,11 +454,8 @@ static inline struct told do_send(const struct layout *l, word *im, word *row, u
     word *q = im + message_at(l, me, peer);
     if (q[LENGTH] == l->message_capacity)
         return waits(l, im, me, WAITS_TO_SEND, (word)peer);
-    bool wakes = waits_for(l, im, peer, WAITS_TO_RECEIVE, me);
-    if (wakes && unlikely(ready_full(l, im)))
-        return refused(READY_FULL);
     append(q, l->message_capacity, row[WORD]);
-    if (wakes)
+    if (waits_for(l, im, peer, WAITS_TO_RECEIVE, me))
         wake(l, im, peer);
     return finished(im, row, me, 0);
 }
@@ -475,11 +467,8 @@ static inline struct told do_receive(const struct layout *l, word *im, word *row
     word *q = im + message_at(l, source, me);
     if (q[LENGTH] == 0)
         return waits(l, im, me, WAITS_TO_RECEIVE, (word)source);
-    bool wakes = waits_for(l, im, source, WAITS_TO_SEND, me);
-    if (wakes && unlikely(ready_full(l, im)))
-        return refused(READY_FULL);
     row[WORD] = take(q, l->message_capacity);
-    if (wakes)
+    if (waits_for(l, im, source, WAITS_TO_SEND, me))
         wake(l, im, source);
     return finished(im, row, me, 0);
 }
@@ -536,11 +525,8 @@ static inline struct told input(const struct layout *l, word *im, uint32_t devic
     word *q = im + input_at(l, device);
     if (q[LENGTH] == l->input_capacity)
         return refused(INPUT_FULL);
-    bool wakes = im[l->status + 2 * device] == WAITS_FOR_INPUT;
-    if (wakes && unlikely(ready_full(l, im)))
-        return refused(READY_FULL);
     append(q, l->input_capacity, character);
-    if (wakes)
+    if (im[l->status + 2 * device] == WAITS_FOR_INPUT)
         wake(l, im, device);
     return answered(INPUT_TAKEN, device);
 }
@@ -549,12 +535,9 @@ static inline struct told output_done(const struct layout *l, word *im, uint32_t
     word *q = im + output_at(l, device), *port = im + l->ports + 2 * device;
     if (port[0] == 0)
         return refused(PORT_IDLE);
-    bool wakes = im[l->status + 2 * device] == WAITS_FOR_OUTPUT;
-    if (wakes && unlikely(ready_full(l, im)))
-        return refused(READY_FULL);
     port[0] = q[LENGTH] != 0;
     port[1] = port[0] ? take(q, l->output_capacity) : 0;
-    if (wakes)
+    if (im[l->status + 2 * device] == WAITS_FOR_OUTPUT)
         wake(l, im, device);
     return answered(OUTPUT_DONE, device);
 }
@@ -817,9 +800,8 @@ struct told c_event(uint16_t *image, size_t words, uint16_t kind, uint16_t devic
     return report(&l, image, kind, device, character);
 }
 
-/* So many ticks. Gives how many were taken, and the number. A task whose service is done is still the first. */
-static always_inline struct ran take_ticks(const struct layout *l, word *im, size_t count) {
-    size_t left = count;
+/* So many ticks; none is refused. A task whose service is done is still the first. */
+static always_inline void take_ticks(const struct layout *l, word *im, size_t left) {
     while (im[l->ready + LENGTH] != 0) {
         uint32_t first = first_of(l, im);
         word *row = im + l->rows + ROW_WORDS * first;
@@ -827,14 +809,11 @@ static always_inline struct ran take_ticks(const struct layout *l, word *im, siz
         do {
             left -= take_orders(l, im, row, first, left);
             if (left == 0)
-                return (struct ran){count, 0};
+                return;
             told = other_tick(l, im, row, first);
-            if (unlikely(told.number != 0))
-                return (struct ran){count - left, told.number};
             left--;
         } while (told.kind == SERVICE_DONE);
     }
-    return (struct ran){count, 0};
 }
 
 /* How many events at the head of a list are ticks. */
@@ -861,10 +840,10 @@ struct ran c_run(uint16_t *image, size_t words, const uint16_t *list, size_t lis
     size_t taken = 0, count = list_words / EVENT_WORDS;
     for (;;) {
         size_t ticks = ticks_ahead(list + EVENT_WORDS * taken, count - taken);
-        struct ran ran = take_ticks(&l, image, ticks);
-        taken += ran.taken;
-        if (unlikely(ran.number != 0) || taken == count)
-            return (struct ran){taken, ran.number};
+        take_ticks(&l, image, ticks);
+        taken += ticks;
+        if (taken == count)
+            return (struct ran){taken, 0};
         const word *event = list + EVENT_WORDS * taken;
         number = report(&l, image, event[0], event[1], event[2]).number;
         if (number != 0)

@@ -82,12 +82,8 @@ impl Kernel<'_> {
         if queue.is_full() {
             return refused(numbers::INPUT_FULL);
         }
-        let wakes = self.turns.status[device][0] == status::WAITS_FOR_INPUT;
-        if wakes && self.turns.ready.is_full() {
-            return refused(numbers::READY_FULL);
-        }
         queue.append(character);
-        if wakes {
+        if self.turns.status[device][0] == status::WAITS_FOR_INPUT {
             self.turns.wake(device);
         }
         answered(answer::INPUT, device)
@@ -99,13 +95,9 @@ impl Kernel<'_> {
         if port[0] == 0 {
             return refused(numbers::PORT_IDLE);
         }
-        let wakes = self.turns.status[device][0] == status::WAITS_FOR_OUTPUT;
-        if wakes && self.turns.ready.is_full() {
-            return refused(numbers::READY_FULL);
-        }
         let mut queue = self.outputs.at(device);
         *port = if queue.is_empty() { [0, 0] } else { [1, queue.take()] };
-        if wakes {
+        if self.turns.status[device][0] == status::WAITS_FOR_OUTPUT {
             self.turns.wake(device);
         }
         answered(answer::OUTPUT_DONE, device)

@@ -34,7 +34,6 @@ mod numbers {
     pub const MALFORMED_EVENT: u16 = 7;
     pub const INPUT_FULL: u16 = 8;
     pub const PORT_IDLE: u16 = 9;
-    pub const READY_FULL: u16 = 10;
     pub const PLAN: u16 = 11;
     pub const TARGET: u16 = 12;
     pub const GRAMMAR: u16 = 13;

@@ -5,7 +5,6 @@ use crate::kernel::{refused, Kernel};
 use crate::layout::answer;
 use crate::numbers;
 use crate::{Ran, Told};
-use std::hint::cold_path;
 
 /// The three words of an event.
 type Event = [u16; 3];
@@ -46,11 +45,8 @@ fn take_events(mut kernel: Kernel, events: &[Event]) -> Ran {
     let mut left = events;
     loop {
         let ticks = ticks_ahead(left);
-        let (unused, number) = take_ticks(&mut kernel, ticks);
-        left = &left[ticks - unused..];
-        if number != 0 {
-            return Ran { taken: (events.len() - left.len()) as u64, number };
-        }
+        take_ticks(&mut kernel, ticks);
+        left = &left[ticks..];
         let Some((event, later)) = left.split_first() else {
             return Ran { taken: events.len() as u64, number: 0 };
         };
@@ -70,28 +66,23 @@ fn ticks_ahead(events: &[Event]) -> usize {
     quick + events[quick..].iter().take_while(|event| **event == TICK).count()
 }
 
-/// So many ticks. Gives how many were not taken, and the number. A task whose
-/// service is done is still the first.
+/// So many ticks; none is refused. A task whose service is done is still the
+/// first.
 #[inline(always)]
-fn take_ticks(kernel: &mut Kernel, count: usize) -> (usize, u16) {
-    let mut left = count;
+fn take_ticks(kernel: &mut Kernel, mut left: usize) {
     let Some(mut first) = kernel.first() else {
-        return (0, 0);
+        return;
     };
     loop {
         left -= kernel.take_orders(first, left);
         if left == 0 {
-            return (0, 0);
+            return;
         }
         let told = kernel.other_tick(first);
-        if told.number != 0 {
-            cold_path();
-            return (left, told.number);
-        }
         left -= 1;
         if told.kind != answer::SERVICE_DONE {
             let Some(next) = kernel.first() else {
-                return (0, 0);
+                return;
             };
             first = next;
         }

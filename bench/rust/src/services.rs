@@ -1,8 +1,7 @@
 //! The four services.
 
-use crate::kernel::{answered, refused, Kernel};
+use crate::kernel::{answered, Kernel};
 use crate::layout::*;
-use crate::numbers;
 use crate::Told;
 use std::hint::cold_path;
 
@@ -58,12 +57,8 @@ impl Kernel<'_> {
         if queue.is_full() {
             return self.waits(me, status::WAITS_TO_SEND, peer);
         }
-        let wakes = self.turns.status[peer] == [status::WAITS_TO_RECEIVE, me as u16];
-        if wakes && self.turns.ready.is_full() {
-            return refused(numbers::READY_FULL);
-        }
         queue.append(word);
-        if wakes {
+        if self.turns.status[peer] == [status::WAITS_TO_RECEIVE, me as u16] {
             self.turns.wake(peer);
         }
         self.done(me)
@@ -79,12 +74,8 @@ impl Kernel<'_> {
         if queue.is_empty() {
             return self.waits(me, status::WAITS_TO_RECEIVE, source);
         }
-        let wakes = self.turns.status[source] == [status::WAITS_TO_SEND, me as u16];
-        if wakes && self.turns.ready.is_full() {
-            return refused(numbers::READY_FULL);
-        }
         self.rows[me][WORD] = queue.take();
-        if wakes {
+        if self.turns.status[source] == [status::WAITS_TO_SEND, me as u16] {
             self.turns.wake(source);
         }
         self.done(me)
