@@ -12,7 +12,7 @@ use lib.ListN.{length, getD, drop}
 use Rattle.paper.specs.Image.{at, clock, reg, flags}
 use Rattle.paper.specs.Queues.{part-of, Has, count, capacity, first, taken, held, empty, full}
 use Rattle.paper.specs.Flags.{error, pending, waits}
-use Rattle.paper.specs.Waking.{Outcome, accepted}
+use Rattle.paper.specs.Waking.{Answered, answered}
 use Rattle.paper.specs.Services.{other, given, error-if, fault-of, blocked, waiting, delivered, moved, served}
 use Rattle.paper.specs.Events.{running, tick}
 use Rattle.paper.specs.Numbers.{kind}
@@ -24,8 +24,6 @@ use Rattle.paper.specs.declared.Queue.{Queue}
 use Rattle.paper.specs.declared.Service.{Service}
 use Rattle.paper.specs.declared.Fault.{Fault}
 use Rattle.paper.specs.declared.Answer.{Answer}
-use Rattle.paper.specs.declared.Refusal.{Refusal}
-use Rattle.paper.specs.declared.Reply.{Reply}
 use Rattle.laws.specs.Cells.{at-same, at-other}
 use Rattle.laws.specs.Queues.{held-length, appended-held, taken-held}
 use Rattle.laws.specs.Sound.{Sound, sound, put-sound, appended-sound, taken-sound, has-space, has-word}
@@ -37,11 +35,6 @@ use Rattle.event_laws.specs.Turns.{Leads, leads-sound, leads-in}
 use Rattle.event_laws.specs.Serving.{served-nearly, wakes-whom}
 use Rattle.event_laws.specs.Walk.{Begins, serves-any}
 use Rattle.event_laws.specs.Stays.{begins-leads, first-leads, first-task}
-
--- an accepted reply of a kind
-abbrev pub Tells : Reply → ℕ → Type 0
-Tells (Reply.Accepted a) k = kind a ≡ k
-Tells (Reply.Refused r) k = ⊥
 
 -- the image that a service begins from, and the tick's: the task's words, its buffer and what is wrong are the same
 module _ {s : Shape} {im m : List ℕ} {i : Task} (l : Leads s im i) (b : Begins s im m) where
@@ -76,24 +69,23 @@ module _ (s : Shape) (im : List ℕ) (g : Good s im) (some : empty s im Queue.Re
       dite (ℕ-discrete (error s im (running s im)) 0) (λ e. e) (λ ne. absurd (waits-not v (sym (g .flags (running s im) (first-task s im g some) .never-both ne) ∙ asks)))
 
   -- it waits exactly where the service is not wrong and its buffer stops it
-  pub waits-exactly : Tells (tick s im .reply) 4 ↔ ((fault-of s im (running s im) v ≡ Fault.Nothing) × (blocked s im (running s im) v ≡ true))
+  pub waits-exactly : (kind (tick s im .answer) ≡ 4) ↔ ((fault-of s im (running s im) v ≡ Fault.Nothing) × (blocked s im (running s im) v ≡ true))
   waits-exactly =
-      serves-any s im some calm runs v asks (λ o. Tells (o .reply) 4 ↔ ((fault-of s im (running s im) v ≡ Fault.Nothing) × (blocked s im (running s im) v ≡ true))) (λ m b.
+      serves-any s im some calm runs v asks (λ o. (kind (o .answer) ≡ 4) ↔ ((fault-of s im (running s im) v ≡ Fault.Nothing) × (blocked s im (running s im) v ≡ true))) (λ m b.
       let same = fault-same l b v in
       let clear : fault-of s m (running s im) v ≡ Fault.Nothing → blocked s m (running s im) v ≡ blocked s im (running s im) v = λ right. blocked-same l b v (sym same ∙ right) in
       record {
         faults = λ e f. (λ z. absurd (omega arith), λ h. absurd (let n = h .0 in let z : _≡_ {A = ℕ} 0 1 = cc in omega arith));
         stuck = λ right stuck. (λ z. (sym same ∙ right, sym (clear right) ∙ stuck), λ h. refl);
         alone = λ right free _. (λ z. absurd (omega arith), λ h. absurd (true≢false (sym (h .1) ∙ sym (clear right) ∙ free)));
-        woke = λ k right free _ _. (λ z. absurd (omega arith), λ h. absurd (true≢false (sym (h .1) ∙ sym (clear right) ∙ free)));
-        no-room = λ right free _. (λ z. absurd z, λ h. absurd (true≢false (sym (h .1) ∙ sym (clear right) ∙ free)));
+        woke = λ k right free _. (λ z. absurd (omega arith), λ h. absurd (true≢false (sym (h .1) ∙ sym (clear right) ∙ free)));
       })
 
   -- and then no register, nor the flags, of any task changes
-  pub waits-untouched : Tells (tick s im .reply) 4 → (j : Task) (r : ℕ) → j .0 < s .n → r < 9 → at s (tick s im .image) (reg j r) ≡ at s im (reg j r)
+  pub waits-untouched : kind (tick s im .answer) ≡ 4 → (j : Task) (r : ℕ) → j .0 < s .n → r < 9 → at s (tick s im .image) (reg j r) ≡ at s im (reg j r)
   unfolding waiting
   waits-untouched z j r hj hr =
-      serves-any s im some calm runs v asks (λ o. Tells (o .reply) 4 → at s (o .image) (reg j r) ≡ at s im (reg j r)) (λ m b.
+      serves-any s im some calm runs v asks (λ o. kind (o .answer) ≡ 4 → at s (o .image) (reg j r) ≡ at s im (reg j r)) (λ m b.
       let begun : Apart s turn-parts im m = frame-more (b .but-clock) (λ c e. ap (λ (x : Cell). turn-parts (x .part)) e) in
       let hi = leads-in l in
       record {
@@ -101,30 +93,28 @@ module _ (s : Shape) (im : List ℕ) (g : Good s im) (some : empty s im Queue.Re
         stuck = λ _ _ _.
             kept turn-parts (frame-left (frame-status begun (running s im) hi _ _ (λ r. refl)) (status-sound s m (running s im) hi (leads-sound (begins-leads l b)) _ _) (λ r. refl) refl) (reg j r) (hj, hr) refl;
         alone = λ _ _ _ z. absurd (omega arith);
-        woke = λ _ _ _ _ _ z. absurd (omega arith);
-        no-room = λ _ _ _ z. absurd z;
+        woke = λ _ _ _ _ z. absurd (omega arith);
       }) z
 
   -- a service that is done: from m, the tick's image but for the clock, its word moved and nothing is pending, and a wake may follow
-  module _ (right : fault-of s im (running s im) v ≡ Fault.Nothing) (clear : blocked s im (running s im) v ≡ false) (taken-up : (r : Refusal) → tick s im .reply ≢ Reply.Refused r) where
-    done-any : (P : Outcome → Type 0)
+  module _ (right : fault-of s im (running s im) v ≡ Fault.Nothing) (clear : blocked s im (running s im) v ≡ false) where
+    done-any : (P : Answered → Type 0)
         → ((m : List ℕ) → Begins s im m → fault-of s m (running s im) v ≡ Fault.Nothing → blocked s m (running s im) v ≡ false
-        → (out : List ℕ) → Apart s turn-parts (served s m (running s im) v) out → P (accepted (Answer.ServiceDone (running s im)) out)) → P (tick s im)
+        → (out : List ℕ) → Apart s turn-parts (served s m (running s im) v) out → P (answered (Answer.ServiceDone (running s im)) out)) → P (tick s im)
     done-any P f =
-        serves-any s im some calm runs v asks (λ o. ((r : Refusal) → o .reply ≢ Reply.Refused r) → P o) (λ m b.
+        serves-any s im some calm runs v asks P (λ m b.
         let same = fault-same l b v in
         let here = begins-leads l b in
         record {
           faults = λ e wrong. absurd (let n : fault-of s m (running s im) v ≡ Fault.Nothing = same ∙ right in let z : _≡_ {A = ℕ} 0 1 = cc in omega arith);
           stuck = λ _ stuck. absurd (true≢false (sym stuck ∙ blocked-same l b v right ∙ clear));
-          alone = λ right′ clear′ _ _. f m b right′ clear′ _ frame-none;
-          woke = λ k right′ clear′ one _ _.
+          alone = λ right′ clear′ _. f m b right′ clear′ _ frame-none;
+          woke = λ k right′ clear′ one.
               f m b right′ clear′ _ (frame-woken frame-none (served-nearly here v right′ clear′ .lies) (λ r. refl) refl k (wakes-whom here v right′ k one .0) (λ r. refl));
-          no-room = λ _ _ _ up. absurd (up Refusal.ReadyFull refl);
-        }) taken-up
+        })
 
-    pub done-kind : Tells (tick s im .reply) 3
-    done-kind = done-any (λ o. Tells (o .reply) 3) (λ m b r c out a. refl)
+    pub done-kind : kind (tick s im .answer) ≡ 3
+    done-kind = done-any (λ o. kind (o .answer) ≡ 3) (λ m b r c out a. refl)
 
 -- what a wake and the flags leave of a word that moved
 module _ {s : Shape} {m out : List ℕ} {i : Task} (l : Leads s m i) (v : Service) (right : fault-of s m i v ≡ Fault.Nothing) (clear : blocked s m i v ≡ false)
@@ -153,14 +143,14 @@ module _ (s : Shape) (im : List ℕ) (g : Good s im) (some : empty s im Queue.Re
   is-empty q = (λ e. eqb-true (at s im (count s q)) 0 e, λ e. eq-eqb (at s im (count s q)) 0 e)
 
   pub receive-waits : pending s im (running s im) ≡ waits Service.Receive
-      → Tells (tick s im .reply) 4 ↔ ((at s im (reg (running s im) 2) < s .n) × Empty s im (Queue.Message (other s im (running s im)) (running s im)))
+      → (kind (tick s im .answer) ≡ 4) ↔ ((at s im (reg (running s im) 2) < s .n) × Empty s im (Queue.Message (other s im (running s im)) (running s im)))
   receive-waits asks =
       let w = waits-exactly s im g some runs Service.Receive asks in
       let n = small-number (at s im (reg (running s im) 2)) in
       let e = is-empty (Queue.Message (other s im (running s im)) (running s im)) in
       (λ z. (n .0 (w .0 z .0), e .0 (w .0 z .1)), λ h. w .1 (n .1 (h .0), e .1 (h .1)))
 
-  pub input-waits : pending s im (running s im) ≡ waits Service.Input → Tells (tick s im .reply) 4 ↔ Empty s im (Queue.Input (running s im))
+  pub input-waits : pending s im (running s im) ≡ waits Service.Input → (kind (tick s im .answer) ≡ 4) ↔ Empty s im (Queue.Input (running s im))
   input-waits asks =
       let w = waits-exactly s im g some runs Service.Input asks in
       let e = is-empty (Queue.Input (running s im)) in
@@ -168,19 +158,19 @@ module _ (s : Shape) (im : List ℕ) (g : Good s im) (some : empty s im Queue.Re
 
 -- sending and receiving, first in, first out
 module _ (s : Shape) (im : List ℕ) (g : Good s im) (some : empty s im Queue.Ready ≡ false) (runs : at s im clock ≢ 0)
-    (number : at s im (reg (running s im) 2) < s .n) (taken-up : (r : Refusal) → tick s im .reply ≢ Reply.Refused r) where
+    (number : at s im (reg (running s im) 2) < s .n) where
   right-number : error-if (leb (s .n) (at s im (reg (running s im) 2))) 5 ≡ Fault.Nothing
   right-number = small-number s im g some runs (at s im (reg (running s im) 2)) .1 number
 
   -- a send to a buffer with room: the word stands after those held
   module _ (asks : pending s im (running s im) ≡ waits Service.Send) (clear : full s im (Queue.Message (running s im) (other s im (running s im))) ≡ false) where
-    pub sent-kind : Tells (tick s im .reply) 3
-    sent-kind = done-kind s im g some runs Service.Send asks right-number clear taken-up
+    pub sent-kind : kind (tick s im .answer) ≡ 3
+    sent-kind = done-kind s im g some runs Service.Send asks right-number clear
 
     pub sent-held : held s (tick s im .image) (Queue.Message (running s im) (other s im (running s im)))
         ≡ held s im (Queue.Message (running s im) (other s im (running s im))) ++ (given s im (running s im) ∷ [])
     sent-held =
-        done-any s im g some runs Service.Send asks right-number clear taken-up
+        done-any s im g some runs Service.Send asks right-number clear
         (λ o. held s (o .image) (Queue.Message (running s im) (other s im (running s im))) ≡ held s im (Queue.Message (running s im) (other s im (running s im))) ++ (given s im (running s im) ∷ []))
         (λ m b right′ clear′ out a.
         let l = first-leads s im g some in
@@ -205,13 +195,13 @@ module _ (s : Shape) (im : List ℕ) (g : Good s im) (some : empty s im Queue.Re
         let e : length (held s im q) ≡ suc (length rest) = ap length holds in
         ne-eqb (at s im (count s q)) 0 (λ z. omega (arith, n, e, z))
 
-    pub received-kind : Tells (tick s im .reply) 3
-    received-kind = done-kind s im g some runs Service.Receive asks right-number received-clear taken-up
+    pub received-kind : kind (tick s im .answer) ≡ 3
+    received-kind = done-kind s im g some runs Service.Receive asks right-number received-clear
 
     pub received : (at s (tick s im .image) (reg (running s im) 3) ≡ w) × (held s (tick s im .image) (Queue.Message (other s im (running s im)) (running s im)) ≡ rest)
     unfolding delivered
     received =
-        done-any s im g some runs Service.Receive asks right-number received-clear taken-up
+        done-any s im g some runs Service.Receive asks right-number received-clear
         (λ o. (at s (o .image) (reg (running s im) 3) ≡ w) × (held s (o .image) (Queue.Message (other s im (running s im)) (running s im)) ≡ rest))
         (λ m b right′ clear′ out a.
         let l = first-leads s im g some in
@@ -253,15 +243,14 @@ empty-room s im g i j hi hj e =
 pub word-arrives : (s : Shape) (im later : List ℕ) → Good s im → Good s later → empty s im Queue.Ready ≡ false → empty s later Queue.Ready ≡ false
     → at s im clock ≢ 0 → at s later clock ≢ 0 → pending s im (running s im) ≡ waits Service.Send → pending s later (running s later) ≡ waits Service.Receive
     → other s im (running s im) ≡ running s later → other s later (running s later) ≡ running s im
-    → ((r : Refusal) → tick s im .reply ≢ Reply.Refused r) → ((r : Refusal) → tick s later .reply ≢ Reply.Refused r)
     → held s im (Queue.Message (running s im) (running s later)) ≡ []
     → held s later (Queue.Message (running s im) (running s later)) ≡ held s (tick s im .image) (Queue.Message (running s im) (running s later))
-    → (at s (tick s later .image) (reg (running s later) 3) ≡ given s im (running s im)) × Tells (tick s later .reply) 3
-word-arrives s im later g g′ some some′ runs runs′ asks asks′ to from up up′ none between =
+    → (at s (tick s later .image) (reg (running s later) 3) ≡ given s im (running s im)) × (kind (tick s later .answer) ≡ 3)
+word-arrives s im later g g′ some some′ runs runs′ asks asks′ to from none between =
     let n : at s im (reg (running s im) 2) < s .n = rw (ap (λ (x : Task). x .0) to) (first-task s later g′ some′) in
     let n′ : at s later (reg (running s later) 2) < s .n = rw (ap (λ (x : Task). x .0) from) (first-task s im g some) in
     let clear = empty-room s im g (running s im) (running s later) (first-task s im g some) (first-task s later g′ some′) none in
-    let sent = sent-held s im g some runs n up asks (rw to clear) in
+    let sent = sent-held s im g some runs n asks (rw to clear) in
     let holds : held s later (Queue.Message (other s later (running s later)) (running s later)) ≡ given s im (running s im) ∷ [] =
     rw (from, between) (rw (to, none) at sent) in
-    (received-word s later g′ some′ runs′ n′ up′ asks′ (given s im (running s im)) [] holds, received-kind s later g′ some′ runs′ n′ up′ asks′ (given s im (running s im)) [] holds)
+    (received-word s later g′ some′ runs′ n′ asks′ (given s im (running s im)) [] holds, received-kind s later g′ some′ runs′ n′ asks′ (given s im (running s im)) [] holds)
