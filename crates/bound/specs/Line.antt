@@ -54,13 +54,13 @@ module _ (s : Shape) (im : List ℕ) (g : Good s im) where
     pub input-frame : (c : ℕ) → Apart s event-parts im (input s im i c .image)
     input-frame c =
         let k : Apart s event-parts im (appended s im (Queue.Input i) c) = frame-appended frame-none (Queue.Input i) hi (good-sound s im g) (λ r. refl) c in
-        input-any s im i (λ o. Apart s event-parts im (o .image)) (λ _. frame-none) c (λ _. frame-none) (λ _ _. k)
-        (λ clear _ _. frame-woken k (input-sound c clear) (λ r. refl) refl i hi (λ r. refl))
+        input-any s im i (λ o. Apart s event-parts im (o .image)) c (λ _. frame-none) (λ _ _. k)
+        (λ clear _. frame-woken k (input-sound c clear) (λ r. refl) refl i hi (λ r. refl))
 
     pub done-frame : Apart s event-parts im (output-done s im i .image)
     done-frame =
         let k : Apart s event-parts im (port-next s im i) = frame-next frame-none (good-sound s im g) i hi (λ r. refl) (λ r. refl) in
-        done-any s im i (λ o. Apart s event-parts im (o .image)) (λ _. frame-none) (λ _. frame-none) (λ _. k)
+        done-any s im i (λ o. Apart s event-parts im (o .image)) (λ _. frame-none) (λ _ _. k)
         (λ _ _. frame-woken k next-sound (λ r. refl) refl i hi (λ r. refl))
 
   -- whatever event comes

@@ -3,12 +3,12 @@ use mathlib.Core.Path.{_≡_, refl, sym, ap, _∙_}
 use mathlib.Core.List.{List, [], _∷_, _++_, append-nil}
 use mathlib.Core.Bool.{Bool, false, _||_, true≢false}
 use mathlib.Core.Logic.{_≢_, _⊎_, inl, inr}
-use Prim.Native.Nat.{ℕ, _+_, _-_, _<_, _≤_}
+use Prim.Native.Nat.{ℕ, _+_, _<_, _≤_}
 use native.Mathlib.Omega.{arith}
-use Rattle.paper.specs.Image.{at, clock, flags}
-use Rattle.paper.specs.Queues.{taken, held, empty, full}
-use Rattle.paper.specs.Flags.{flags-of, error, cc as condition}
-use Rattle.paper.specs.Waking.{Outcome, with-status, woken, left}
+use Rattle.paper.specs.Image.{at, clock, flags, status}
+use Rattle.paper.specs.Queues.{taken, held, empty}
+use Rattle.paper.specs.Flags.{flags-of, error, is-ready, cc as condition}
+use Rattle.paper.specs.Waking.{Answered, Outcome, with-status, woken, left}
 use Rattle.paper.specs.Services.{fault-of, service-faulted, waiting}
 use Rattle.paper.specs.Machines.{Machine, own}
 use Rattle.paper.specs.Orders.{after, order, after-order}
@@ -34,8 +34,10 @@ use Rattle.laws.specs.Agree.{own-after}
 use Rattle.laws.specs.Checked.{good-sound}
 use Rattle.laws.specs.Events.{Formed, event-formed, words-any}
 use Rattle.laws.specs.Frame.{Apart, frame-none, frame-put, kept, kept-clock, kept-empty, kept-full}
+use Rattle.laws.specs.Room.{finds-room, good-roomy}
 use Rattle.laws.specs.Changes.{moved-parts, small-error}
 use Rattle.event_laws.specs.Own.{own-parts, header-part, own-picked, clock-apart}
+use Rattle.event_laws.specs.Standing.{waits-not}
 use Rattle.event_laws.specs.Turns.{joined-clock, Leads, leads-sound, leads-in, leads-list, left-list, turned-list}
 use Rattle.event_laws.specs.Serving.{served-nearly, wakes-whom}
 use Rattle.event_laws.specs.Walk.{ServiceCases, Begins, Spends, tick-any, input-any, done-any, event-any}
@@ -81,7 +83,11 @@ pub data Step (s : Shape) (im : List ℕ) : ℕ → Reply → List ℕ → Type 
       → error s m (running s im) ≢ 0 → Step s im 1 (Reply.Accepted a) m
   -- an event of a device
   device : {m : List ℕ} {a : Answer} → 8 ≤ kind a → Stays s im m 0 → error s m (running s im) ≡ error s im (running s im) → Step s im 0 (Reply.Accepted a) m
-  refused : {used : ℕ} (r : Refusal) → Step s im used (Reply.Refused r) im
+  refused : (r : Refusal) → Step s im 0 (Reply.Refused r) im
+
+-- and so a tick, which is accepted
+abbrev TickStep : Shape → List ℕ → Answered → Type 0
+TickStep s im t = Step s im 1 (Reply.Accepted (t .answer)) (t .image)
 
 -- the parts that an order changes, the clock with it
 abbrev order-parts : Part → Bool
@@ -98,10 +104,11 @@ uses-count : (s : Shape) (k d c : ℕ) → tick-count k d c ≡ uses (event-of s
 uses-count s k d c = words-any s k d c (λ e. tick-count k d c ≡ uses e) (λ t. rw t) (λ f _ _. rw f) (λ f _. rw f) (λ f. rw f)
 
 -- a word moved and a task woken, where the ready queue is not empty: no dispatch
-woke-clock : {s : Shape} {im m : List ℕ} → Apart s moved-parts im m → Sound s m → (k : Task) → k .0 < s .n → full s im Queue.Ready ≡ false → empty s im Queue.Ready ≡ false
-    → at s (woken s m k) clock ≡ at s im clock
+woke-clock : {s : Shape} {im m : List ℕ} → Apart s moved-parts im m → Good s im → Sound s m → (k : Task) → k .0 < s .n → at s im (status k) ≢ is-ready
+    → empty s im Queue.Ready ≡ false → at s (woken s m k) clock ≡ at s im clock
 unfolding woken
-woke-clock {s} {im} {m} a h k hk room some =
+woke-clock {s} {im} {m} a g h k hk waited some =
+    let room = finds-room s im (good-roomy g) k hk waited in
     rw (kept-empty moved-parts a Queue.Ready tt refl ∙ some) (joined-clock s m k hk h (kept-full moved-parts a Queue.Ready tt refl ∙ room) ∙ kept-clock moved-parts a refl)
 
 -- a service that does not wait leaves the clock that it began with
@@ -127,7 +134,7 @@ module _ (s : Shape) (im : List ℕ) (g : Good s im) (some : empty s im Queue.Re
   l = first-leads s im g some
 
   -- rule 4: the clock falls by 1 before the service
-  service-steps : error s im i ≡ 0 → at s im clock ≢ 0 → (v : Service) → (m : List ℕ) → Begins s im m → ServiceCases s im m i v (λ o. Step s im 1 (o .reply) (o .image))
+  service-steps : error s im i ≡ 0 → at s im clock ≢ 0 → (v : Service) → (m : List ℕ) → Begins s im m → ServiceCases s m i v (TickStep s im)
   unfolding waiting
   service-steps calm runs v m b =
       let here = begins-leads l b in
@@ -135,11 +142,10 @@ module _ (s : Shape) (im : List ℕ) (g : Good s im) (some : empty s im Queue.Re
         faults = λ e f. Step.faults calm (inl refl) refl (stays (faulted-keeps here e) (faulted-clock here v e)) (faulted-error here v e f);
         stuck = λ _ _. Step.waits calm runs (begins-leaves b (good-sound s im g) (left-leaves here _ _));
         alone = λ right clear _. Step.does calm (inl refl) refl (stays (served-keeps here v right clear) (kept-clock moved-parts (served-apart here v right clear) refl));
-        woke = λ k right clear one room.
-            let w = wakes-whom here v right k one .0 in
+        woke = λ k right clear one.
+            let w = wakes-whom here v right k one in
             Step.does calm (inl refl) refl
-            (stays (served-woke here v right clear k one room) (woke-clock (served-apart here v right clear) (served-nearly here v right clear .lies) k w room (here .some)));
-        no-room = λ _ _ _. Step.refused _;
+            (stays (served-woke here v right clear k one) (woke-clock (served-apart here v right clear) (here .rules) (served-nearly here v right clear .lies) k (w .0) (w .1) (here .some)));
       }
     where
       stays : {o : List ℕ} → KeepsPlace s m o → at s o clock ≡ at s m clock → Stays s im o 1
@@ -159,9 +165,9 @@ module _ (s : Shape) (im : List ℕ) (g : Good s im) (some : empty s im Queue.Re
       error-after (own s im i) (rw (own-flags s im i) at calm) e f (rw (kept-flags, written) at z)
 
   -- a tick uses one
-  tick-steps : Step s im 1 (tick s im .reply) (tick s im .image)
+  tick-steps : TickStep s im (tick s im)
   tick-steps =
-      tick-any (λ o. Step s im 1 (o .reply) (o .image))
+      tick-any (TickStep s im)
       record {
         idle = λ none. absurd (true≢false (sym none ∙ some));
         stops = λ _ _. Step.stops (rw (stopped-is l) (left-leaves l _ _));
@@ -179,8 +185,8 @@ module _ (s : Shape) (im : List ℕ) (g : Good s im) (some : empty s im Queue.Re
     alone-stays : {m : List ℕ} → Apart s moved-parts im m → Stays s im m 0
     alone-stays a = (apart-keeps moved-parts a refl (leads-sound l), omega (arith, kept-clock moved-parts a refl))
 
-    woke-stays : {m : List ℕ} → Apart s moved-parts im m → Sound s m → full s im Queue.Ready ≡ false → Stays s im (woken s m j) 0
-    woke-stays a h room = (woke-keeps a (leads-sound l) h j hj room, omega (arith, woke-clock a h j hj room some))
+    woke-stays : {m : List ℕ} → Apart s moved-parts im m → Sound s m → at s im (status j) ≢ is-ready → Stays s im (woken s m j) 0
+    woke-stays a h waited = (woke-keeps a g h j hj waited, omega (arith, woke-clock a g h j hj waited some))
 
     device-steps : {m : List ℕ} {a : Answer} → 8 ≤ kind a → Stays s im m 0 → Apart s event-parts im m → Step s im 0 (Reply.Accepted a) m
     device-steps d k u = Step.device d k (rw (kept event-parts u (flags i) (leads-in l, omega arith) refl))
@@ -191,14 +197,14 @@ module _ (s : Shape) (im : List ℕ) (g : Good s im) (some : empty s im Queue.Re
 
     input-steps : (c : ℕ) → Step s im 0 (input s im j c .reply) (input s im j c .image)
     input-steps c =
-        input-any s im j StepApart (λ _ _. Step.refused _) c (λ _ _. Step.refused _) (λ _ _. device-steps (omega arith) (alone-stays (input-apart s im g j hj c)))
-        (λ clear _ room. device-steps (omega arith) (woke-stays (input-apart s im g j hj c) (input-sound s im g j hj c clear) room))
+        input-any s im j StepApart c (λ _ _. Step.refused _) (λ _ _. device-steps (omega arith) (alone-stays (input-apart s im g j hj c)))
+        (λ clear w. device-steps (omega arith) (woke-stays (input-apart s im g j hj c) (input-sound s im g j hj c clear) (λ z. waits-not Service.Input (sym z ∙ w))))
         (input-frame s im g j hj c)
 
     output-steps : Step s im 0 (output-done s im j .reply) (output-done s im j .image)
     output-steps =
-        done-any s im j StepApart (λ _ _. Step.refused _) (λ _ _. Step.refused _) (λ _. device-steps (omega arith) (alone-stays (next-apart s im g j hj)))
-        (λ _ room. device-steps (omega arith) (woke-stays (next-apart s im g j hj) (next-sound s im g j hj) room))
+        done-any s im j StepApart (λ _ _. Step.refused _) (λ _ _. device-steps (omega arith) (alone-stays (next-apart s im g j hj)))
+        (λ _ w. device-steps (omega arith) (woke-stays (next-apart s im g j hj) (next-sound s im g j hj) (λ z. waits-not Service.Output (sym z ∙ w))))
         (done-frame s im g j hj)
 
   -- whatever event comes

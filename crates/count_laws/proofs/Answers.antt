@@ -10,7 +10,7 @@ use lib.Dec.{eqb}
 use lib.ListN.{length}
 use Rattle.paper.specs.Image.{most-tasks, shape-of}
 use Rattle.paper.specs.Queues.{empty}
-use Rattle.paper.specs.Events.{is-tick, event-of, running, tick, happening}
+use Rattle.paper.specs.Events.{is-tick, event-of, running, happening}
 use Rattle.paper.specs.Rules.{Good}
 use Rattle.paper.specs.Tests.{rules-hold}
 use Rattle.paper.specs.Numbers.{number, verdict-number, refused-if, and-then, too-short, not-marked, out-of-range, not-packed, wrong-segments, check}
@@ -63,23 +63,17 @@ Replies e (Reply.Refused r) = r ≢ Refusal.CountFull
 
 replies : (s : Shape) (im : List ℕ) (e : Event) → Replies e (happening s im e .reply)
 replies s im =
-    let full : Refusal.ReadyFull ≢ Refusal.CountFull = not-17 Refusal.ReadyFull refl in
     event-any s im (λ e o. Replies e (o .reply))
-    (tick-any (λ o. Replies Event.Tick (o .reply))
+    (tick-any (λ t. times (tally (t .answer)) ≡ 1)
     record {
       idle = λ _. refl;
       stops = λ _ _. refl;
       turns = λ _ _ _. refl;
-      serves = λ _ _ _ _ _ _ _.
-          record { faults = λ _ _. refl; stuck = λ _ _. refl; alone = λ _ _ _. refl; woke = λ _ _ _ _ _. refl; no-room = λ _ _ _. full };
+      serves = λ _ _ _ _ _ _ _. record { faults = λ _ _. refl; stuck = λ _ _. refl; alone = λ _ _ _. refl; woke = λ _ _ _ _. refl };
       orders = λ _ _ _ _ _ _. record { does = λ _ _ _. refl; faults = λ _ _. refl };
     })
-    (λ i c.
-    input-any s im i (λ o. Replies (Event.Input i c) (o .reply)) (λ _. full) c (λ _. not-17 Refusal.InputFull refl)
-    (λ _ _. refl) (λ _ _ _. refl))
-    (λ i.
-    done-any s im i (λ o. Replies (Event.OutputDone i) (o .reply)) (λ _. full) (λ _. not-17 Refusal.PortIdle refl)
-    (λ _. refl) (λ _ _. refl))
+    (λ i c. input-any s im i (λ o. Replies (Event.Input i c) (o .reply)) c (λ _. not-17 Refusal.InputFull refl) (λ _ _. refl) (λ _ _. refl))
+    (λ i. done-any s im i (λ o. Replies (Event.OutputDone i) (o .reply)) (λ _. not-17 Refusal.PortIdle refl) (λ _ _. refl) (λ _ _. refl))
     (not-17 Refusal.MalformedEvent refl)
 
 module _ (s : Shape) (im : List ℕ) (e : Event) where
@@ -101,17 +95,16 @@ module _ (s : Shape) (im : List ℕ) (g : Good s im) where
   placed : (e : Event) → Placed (happening s im e .reply)
   placed =
       event-any s im (λ _ o. Placed (o .reply))
-      (tick-any (λ o. Placed (o .reply))
+      (tick-any (λ t. Inside (tally (t .answer)))
       record {
         idle = λ _. tt;
         stops = λ some _. low some;
         turns = λ some _ _. low some;
-        serves = λ some _ _ _ _ _ _.
-            record { faults = λ _ _. low some; stuck = λ _ _. low some; alone = λ _ _ _. low some; woke = λ _ _ _ _ _. low some; no-room = λ _ _ _. tt };
+        serves = λ some _ _ _ _ _ _. record { faults = λ _ _. low some; stuck = λ _ _. low some; alone = λ _ _ _. low some; woke = λ _ _ _ _. low some };
         orders = λ some _ _ _ _ _. record { does = λ _ _ _. low some; faults = λ _ _. low some };
       })
-      (λ i c. input-any s im i (λ o. Placed (o .reply)) (λ _. tt) c (λ _. tt) (λ _ _. tt) (λ _ _ _. tt))
-      (λ i. done-any s im i (λ o. Placed (o .reply)) (λ _. tt) (λ _. tt) (λ _. tt) (λ _ _. tt))
+      (λ i c. input-any s im i (λ o. Placed (o .reply)) c (λ _. tt) (λ _ _. tt) (λ _ _. tt))
+      (λ i. done-any s im i (λ o. Placed (o .reply)) (λ _. tt) (λ _ _. tt) (λ _ _. tt))
       tt
 
   pub accepted-inside : (e : Event) (a : Answer) → happening s im e .reply ≡ Reply.Accepted a → Inside (tally a)
