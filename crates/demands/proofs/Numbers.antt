@@ -1,16 +1,17 @@
 -- The numbers that the definitions give are the numbers of the page's tests. Assumes nothing.
 use mathlib.Core.Path.{_≡_, refl, sym, ap, _∙_}
 use mathlib.Core.List.{List, [], _∷_, _++_}
-use mathlib.Core.Bool.{Bool, true, false, not, cond, _||_}
+use mathlib.Core.Bool.{Bool, true, false, not, cond}
+use mathlib.Core.Logic.{_≢_, _↔_}
 use Prim.Native.Nat.{ℕ, _%_}
+use native.Mathlib.Omega.{arith}
+use borrow.Author.Tests.{eqb-true, eqb-false}
 use lib.Dec.{eqb}
 use lib.ListN.{length}
-use Rattle.paper.specs.Image.{total, shape-of, at, clock, busy}
-use Rattle.paper.specs.Queues.{empty, full}
-use Rattle.paper.specs.Flags.{error, pending}
-use Rattle.paper.specs.Waking.{accepted, refused, unless-full}
-use Rattle.paper.specs.Services.{asked, fault-of, unless-wrong, blocked, waiting, wakes, finished, service}
-use Rattle.paper.specs.Events.{event-of, running, stopped, turned, spent, acting, turn-of, tick, input, output-done, happening}
+use Rattle.paper.specs.Image.{total, shape-of, at, busy}
+use Rattle.paper.specs.Queues.{full}
+use Rattle.paper.specs.Waking.{accepted, refused}
+use Rattle.paper.specs.Events.{event-of, input, output-done, happening}
 use Rattle.paper.specs.Plans.{plan-shape}
 use Rattle.paper.specs.Tests.{rules-hold}
 use Rattle.paper.specs.Numbers.{number, verdict-number, reply-number, refused-if, and-then, too-short, not-marked, out-of-range, not-packed, wrong-segments, check, plan-short, plan-broken, check-plan, check-build}
@@ -18,18 +19,13 @@ use Rattle.paper.specs.Calls.{event-if, event, check-run}
 use Rattle.paper.specs.declared.Task.{Task}
 use Rattle.paper.specs.declared.Shape.{Shape}
 use Rattle.paper.specs.declared.Queue.{Queue}
-use Rattle.paper.specs.declared.Service.{Service}
-use Rattle.paper.specs.declared.Asked.{Asked}
-use Rattle.paper.specs.declared.Fault.{Fault}
-use Rattle.paper.specs.declared.Woken.{Woken}
 use Rattle.paper.specs.declared.Event.{Event}
 use Rattle.paper.specs.declared.Answer.{Answer}
 use Rattle.paper.specs.declared.Refusal.{Refusal}
 use Rattle.paper.specs.declared.Reply.{Reply}
 use Rattle.paper.specs.declared.Verdict.{Verdict}
-use Rattle.event_laws.specs.Walk.{ordered-any}
-use Rattle.demands.specs.Wakes.{service-wakes, asked-wakes, finds-full, wake-finds-full}
-use Rattle.demands.specs.Demands.{due, image-tests, plan-tests, build-tests, event-tests, call-tests, run-tests}
+use Rattle.event_laws.specs.Walk.{input-any, done-any, event-any}
+use Rattle.demands.specs.Demands.{due, image-tests, plan-tests, build-tests, event-tests, call-tests, run-tests, Malformed, InputFull, PortIdle, Exactly}
 
 -- tests in their order, and then others
 image-six : (a b c d e f : Bool) (later : Verdict) (tests : List (ℕ × Bool)) → verdict-number later ≡ due tests
@@ -93,59 +89,93 @@ run-due im events =
 
 -- an event on the words of an image, whatever they are
 module _ (s : Shape) (im : List ℕ) where
-  -- a wake
-  wake-due : (w : Woken) (a : Answer) (m : List ℕ) → reply-number (unless-full s im w (accepted a m) .reply) ≡ due ((10, finds-full s im w) ∷ [])
-  unfolding unless-full
-  wake-due Woken.Nobody a m = refl
-  wake-due (Woken.One i) a m = go (full s im Queue.Ready)
-    where
-      go : (b : Bool) → reply-number (cond b (refused Refusal.ReadyFull im) (accepted a m) .reply) ≡ due ((10, b) ∷ [])
-      go true = refl
-      go false = refl
+  -- one test, and then it is accepted
+  one-due : (b : Bool) (r : Refusal) (a : Answer) (m : List ℕ) → reply-number (cond b (refused r im) (accepted a m) .reply) ≡ due ((number r, b) ∷ [])
+  one-due true r a m = refl
+  one-due false r a m = refl
 
-  -- one test, and then a wake
-  then-wake : (b : Bool) (r : Refusal) (w : Woken) (a : Answer) (m : List ℕ)
-      → reply-number (cond b (refused r im) (unless-full s im w (accepted a m)) .reply) ≡ due ((number r, b) ∷ (10, finds-full s im w) ∷ [])
-  then-wake true r w a m = refl
-  then-wake false r w a m = wake-due w a m
-
-  service-due : (m : List ℕ) (i : Task) (v : Service)
-      → reply-number (service s im m i v .reply) ≡ due ((10, finds-full s im (service-wakes (fault-of s m i v) (blocked s m i v) (wakes s m i v))) ∷ [])
-  unfolding service finished
-  service-due m i v = go (fault-of s m i v) (blocked s m i v)
-    where
-      go : (x : Fault) (b : Bool)
-          → reply-number (unless-wrong x s m i (cond b (accepted (Answer.ServiceWaits i) (waiting s m i v)) (finished s im m i v)) .reply)
-          ≡ due ((10, finds-full s im (service-wakes x b (wakes s m i v))) ∷ [])
-      go (Fault.Error e) b = refl
-      go Fault.Nothing true = refl
-      go Fault.Nothing false = wake-due (wakes s m i v) _ _
-
-  acting-due : (i : Task) (x : Asked) → reply-number (acting s im i x .reply) ≡ due ((10, finds-full s im (asked-wakes s im i x)) ∷ [])
-  acting-due i (Asked.For v) = service-due (spent s im) i v
-  acting-due i Asked.Nothing = ordered-any (λ o. reply-number (o .reply) ≡ 0) (λ _ _. record { does = λ _ _ _. refl; faults = λ _ _. refl })
-
-  tick-due : reply-number (tick s im .reply) ≡ due ((10, wake-finds-full s im Event.Tick) ∷ [])
-  unfolding tick turn-of
-  tick-due = go (empty s im Queue.Ready) (not (eqb (error s im i) 0)) (eqb (at s im clock) 0)
-    where
-      i : Task
-      i = running s im
-
-      go : (b c d : Bool)
-          → reply-number (cond b (accepted Answer.Idle im) (cond c (accepted (Answer.ErrorStop i) (stopped s im i)) (cond d (accepted (Answer.TurnPassed i) (turned s im i)) (acting s im i (asked (pending s im i))))) .reply)
-          ≡ due ((10, finds-full s im (cond (b || c || d) Woken.Nobody (asked-wakes s im i (asked (pending s im i))))) ∷ [])
-      go true c d = refl
-      go false true d = refl
-      go false false true = refl
-      go false false false = acting-due i (asked (pending s im i))
-
-  pub event-due : (e : Event) → reply-number (happening s im e .reply) ≡ due (event-tests s im e)
+  event-due : (e : Event) → reply-number (happening s im e .reply) ≡ due (event-tests s im e)
   unfolding happening input output-done
-  event-due Event.Tick = tick-due
-  event-due (Event.Input i c) = then-wake (full s im (Queue.Input i)) Refusal.InputFull _ _ _
-  event-due (Event.OutputDone i) = then-wake (eqb (at s im (busy i)) 0) Refusal.PortIdle _ _ _
+  event-due Event.Tick = refl
+  event-due (Event.Input i c) = one-due (full s im (Queue.Input i)) Refusal.InputFull _ _
+  event-due (Event.OutputDone i) = one-due (eqb (at s im (busy i)) 0) Refusal.PortIdle _ _
   event-due Event.Malformed = refl
+
+-- two that hold, and two that do not
+both : {A B : Type 0} → A → B → A ↔ B
+both a b = (λ _. b, λ _. a)
+
+neither : {A B : Type 0} → ¬ A → ¬ B → A ↔ B
+neither a b = (λ x. absurd (a x), λ y. absurd (b y))
+
+-- which event it is
+abbrev which : Event → ℕ
+which Event.Tick = 0
+which (Event.Input i c) = 1
+which (Event.OutputDone i) = 2
+which Event.Malformed = 3
+
+-- each number is given exactly where its row applies
+module _ (s : Shape) (im : List ℕ) where
+  no-row : (e : Event) (a : Answer) → ¬ Malformed e → ¬ InputFull s im e → ¬ PortIdle s im e → Exactly s im e (Reply.Accepted a)
+  no-row e a m f i =
+      record {
+        malformed = neither (λ z. omega (arith, z)) m;
+        input-full = neither (λ z. omega (arith, z)) f;
+        port-idle = neither (λ z. omega (arith, z)) i;
+        accepted = both refl (m, f, i);
+      }
+
+  input-row : (i : Task) (c : ℕ) → Exactly s im (Event.Input i c) (input s im i c .reply)
+  unfolding full
+  input-row i c =
+      let formed : ¬ Malformed (Event.Input i c) = λ w. omega (arith, ap which w) in
+      let no-port : ¬ PortIdle s im (Event.Input i c) = λ w. omega (arith, ap which (w .1)) in
+      let free : full s im (Queue.Input i) ≡ false → ¬ InputFull s im (Event.Input i c) = λ room w.
+      let e = w .2 in
+      let same : w .0 ≡ i = cc in
+      eqb-false _ _ room (rw same at (w .3)) in
+      input-any s im i (λ o. Exactly s im (Event.Input i c) (o .reply)) c
+      (λ none.
+      let row : InputFull s im (Event.Input i c) = (i, c, refl, eqb-true _ _ none) in
+      record {
+        malformed = neither (λ z. omega (arith, z)) formed;
+        input-full = both refl row;
+        port-idle = neither (λ z. omega (arith, z)) no-port;
+        accepted = neither (λ z. omega (arith, z)) (λ w. w .1 row);
+      })
+      (λ room _. no-row _ _ formed (free room) no-port) (λ room _. no-row _ _ formed (free room) no-port)
+
+  output-row : (i : Task) → Exactly s im (Event.OutputDone i) (output-done s im i .reply)
+  output-row i =
+      let formed : ¬ Malformed (Event.OutputDone i) = λ w. omega (arith, ap which w) in
+      let no-input : ¬ InputFull s im (Event.OutputDone i) = λ w. omega (arith, ap which (w .2)) in
+      let prints : at s im (busy i) ≢ 0 → ¬ PortIdle s im (Event.OutputDone i) = λ ne w.
+      let e = w .1 in
+      let same : w .0 ≡ i = cc in
+      ne (rw same at (w .2)) in
+      done-any s im i (λ o. Exactly s im (Event.OutputDone i) (o .reply))
+      (λ idle.
+      let row : PortIdle s im (Event.OutputDone i) = (i, refl, idle) in
+      record {
+        malformed = neither (λ z. omega (arith, z)) formed;
+        input-full = neither (λ z. omega (arith, z)) no-input;
+        port-idle = both refl row;
+        accepted = neither (λ z. omega (arith, z)) (λ w. w .2 row);
+      })
+      (λ ne _. no-row _ _ formed no-input (prints ne)) (λ ne _. no-row _ _ formed no-input (prints ne))
+
+  pub exactly : (e : Event) → Exactly s im e (happening s im e .reply)
+  exactly =
+      event-any s im (λ e o. Exactly s im e (o .reply))
+      (no-row Event.Tick _ (λ w. omega (arith, ap which w)) (λ w. omega (arith, ap which (w .2))) (λ w. omega (arith, ap which (w .1))))
+      input-row output-row
+      record {
+        malformed = both refl refl;
+        input-full = neither (λ z. omega (arith, z)) (λ w. omega (arith, ap which (w .2)));
+        port-idle = neither (λ z. omega (arith, z)) (λ w. omega (arith, ap which (w .1)));
+        accepted = neither (λ z. omega (arith, z)) (λ w. w .0 refl);
+      }
 
 -- a reply as a verdict
 abbrev reply-verdict : Reply → Verdict

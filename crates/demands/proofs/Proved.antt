@@ -4,26 +4,25 @@ use mathlib.Core.List.{List}
 use mathlib.Core.Logic.{_≢_}
 use Prim.Native.Nat.{ℕ}
 use Rattle.paper.specs.Image.{total, shape-of}
-use Rattle.paper.specs.Waking.{Outcome}
+use Rattle.paper.specs.Waking.{Outcome, accepting}
 use Rattle.paper.specs.Events.{event-of, tick, happening}
 use Rattle.paper.specs.Plans.{plan-shape, fresh}
 use Rattle.paper.specs.Rules.{Good}
-use Rattle.paper.specs.Numbers.{verdict-number, reply-number, check, check-plan, check-build}
+use Rattle.paper.specs.Numbers.{kind, verdict-number, reply-number, check, check-plan, check-build}
 use Rattle.paper.specs.Calls.{Ran, size-as, plan-size, size-number, built-as, built, event-if, event, stopped-at, check-run, run}
 use Rattle.paper.specs.Promises.{Checks}
 use Rattle.paper.specs.declared.Shape.{Shape}
 use Rattle.paper.specs.declared.Service.{Service}
-use Rattle.paper.specs.declared.Refusal.{Refusal}
 use Rattle.paper.specs.declared.Reply.{Reply}
 use Rattle.paper.specs.declared.Size.{Size}
 use Rattle.paper.specs.declared.Verdict.{Verdict}
-use Rattle.laws.specs.Checked.{checked-good, good-checked, never-fine, zero-is, then-fine, check-zero}
+use Rattle.laws.specs.Checked.{checked-good, good-checked, zero-is, then-fine, check-zero}
 use Rattle.laws.specs.Fresh.{fresh-checked}
 use Rattle.event_laws.specs.Stays.{words-good}
 use Rattle.user_laws.specs.Folded.{event-is, event-unchanged, run-refused}
-use Rattle.user_laws.specs.Delivery.{Tells, receive-waits, waits-untouched, sent-kind, sent-held, received-kind, received-word, received-held, word-arrives}
+use Rattle.user_laws.specs.Delivery.{receive-waits, waits-untouched, sent-kind, sent-held, received-kind, received-word, received-held, word-arrives}
 use Rattle.demands.specs.Demands.{due, run-tests, Demand1, Asks, Demand2, Demand3, Demands}
-use Rattle.demands.proofs.Numbers.{image-due, plan-due, build-due, run-due, event-due, call-due}
+use Rattle.demands.proofs.Numbers.{image-due, plan-due, build-due, run-due, exactly, call-due}
 use Rattle.demands.proofs.AsCalls.{is-calls, took-whole, stopped-at as stops}
 use Rattle.demands.proofs.Turns.{turn}
 use Rattle.demands.proofs.Slices.{request2}
@@ -103,32 +102,29 @@ accepted-checked im k d c = go (check im)
 passing : (im : List ℕ) → check im ≡ Verdict.Fine → Checks im 0
 passing im e = record { answered = rw e }
 
--- a tick whose first task asks for a service
+-- a tick on a good image
+ticks : (s : Shape) (im : List ℕ) → Good s im → event im 0 0 0 ≡ accepting (tick s im)
+unfolding event-of happening
+ticks s im g = event-is s im g 0 0 0
+
+-- whose first task asks for a service
 module _ (s : Shape) (im : List ℕ) (v : Service) (answer : Reply) (after : List ℕ) (w : Asks s im v answer after) where
   good : Good s im
   good = rw (w .shape) (check-zero im .0 (sym (w .passes .answered)))
 
-  ticks : event im 0 0 0 ≡ tick s im
-  unfolding event-of happening
-  ticks = event-is s im good 0 0 0
-
-  told : answer ≡ tick s im .reply
-  told = w .ticks .answered ∙ ap (λ (o : Outcome). o .reply) ticks
+  told : answer ≡ Reply.Accepted (tick s im .answer)
+  told = w .ticks .answered ∙ ap (λ (o : Outcome). o .reply) (ticks s im good)
 
   left : after ≡ tick s im .image
-  left = w .ticks .left ∙ ap (λ (o : Outcome). o .image) ticks
-
-  taken-up : reply-number answer ≡ 0 → (r : Refusal) → tick s im .reply ≢ Reply.Refused r
-  taken-up e r f = never-fine r (zero-is (Verdict.Refused r) .0 (rw (told ∙ f) at e))
+  left = w .ticks .left ∙ ap (λ (o : Outcome). o .image) (ticks s im good)
 
 demand2 : Demand2
 demand2 =
     record {
       passes = λ im number p. rw (p .answered) (check-zero im);
       refused = λ im k d c answer after w p.
-          let g = check-zero im .0 (sym (w .answered)) in
-          p .numbered ∙ ap (λ (o : Outcome). reply-number (o .reply)) (event-is (shape-of im) im g k d c) ∙
-          event-due (shape-of im) im (event-of (shape-of im) k d c);
+          rw (p .answered, event-is (shape-of im) im (check-zero im .0 (sym (w .answered))) k d c) (exactly (shape-of im) im (event-of (shape-of im) k d c));
+      every-tick = λ im answer after w p. p .numbered ∙ ap (λ (o : Outcome). reply-number (o .reply)) (ticks (shape-of im) im (check-zero im .0 (sym (w .answered))));
       measured = λ plan answer p e. p .answered ∙ plan-words plan (zero-is (check-plan plan) .0 (plan-due plan ∙ e));
       built = λ plan target number after p e.
           let f = build-fresh plan target (zero-is (check-build plan target) .0 (build-due plan target ∙ e)) in
@@ -145,28 +141,25 @@ demand2 =
           (is-calls im events answer after p f, took-whole im events answer after p f none);
       received-nothing = λ s im answer after w small none.
           let g = good s im Service.Receive answer after w in
-          let e : Tells (tick s im .reply) 4 = receive-waits s im g (w .some) (w .runs) (w .asks) .1 (small, none) in
+          let e : kind (tick s im .answer) ≡ 4 = receive-waits s im g (w .some) (w .runs) (w .asks) .1 (small, none) in
           rw (told s im Service.Receive answer after w, left s im Service.Receive answer after w)
           (e, waits-untouched s im g (w .some) (w .runs) Service.Receive (w .asks) e);
-      sent-word = λ s im answer after w e small room.
+      sent-word = λ s im answer after w small room.
           let g = good s im Service.Send answer after w in
-          let n = taken-up s im Service.Send answer after w e in
           rw (told s im Service.Send answer after w, left s im Service.Send answer after w)
-          (sent-kind s im g (w .some) (w .runs) small n (w .asks) room, sent-held s im g (w .some) (w .runs) small n (w .asks) room);
-      received-word = λ s im answer after w e small x later holds.
+          (sent-kind s im g (w .some) (w .runs) small (w .asks) room, sent-held s im g (w .some) (w .runs) small (w .asks) room);
+      received-word = λ s im answer after w small x later holds.
           let g = good s im Service.Receive answer after w in
-          let n = taken-up s im Service.Receive answer after w e in
           rw (told s im Service.Receive answer after w, left s im Service.Receive answer after w) (
-            received-kind s im g (w .some) (w .runs) small n (w .asks) x later holds,
-            received-word s im g (w .some) (w .runs) small n (w .asks) x later holds,
-            received-held s im g (w .some) (w .runs) small n (w .asks) x later holds,
+            received-kind s im g (w .some) (w .runs) small (w .asks) x later holds,
+            received-word s im g (w .some) (w .runs) small (w .asks) x later holds,
+            received-held s im g (w .some) (w .runs) small (w .asks) x later holds,
           );
-      arrived-word = λ s im later a b after end v w up up′ to from none between.
+      arrived-word = λ s im later a b after end v w to from none between.
           let g = good s im Service.Send a after v in
           let g′ = good s later Service.Receive b end w in
           let kept = rw (left s im Service.Send a after v) at between in
-          let r = word-arrives s im later g g′ (v .some) (w .some) (v .runs) (w .runs) (v .asks) (w .asks) to from
-          (taken-up s im Service.Send a after v up) (taken-up s later Service.Receive b end w up′) (rw to at none) (rw to at kept) in
+          let r = word-arrives s im later g g′ (v .some) (w .some) (v .runs) (w .runs) (v .asks) (w .asks) to from (rw to at none) (rw to at kept) in
           rw (told s later Service.Receive b end w, left s later Service.Receive b end w) (r .1, r .0);
     }
 

@@ -1,5 +1,5 @@
 -- Request 2: call by call the first task keeps its place and uses up the clock, till it stops, passes its turn or waits. Assumes nothing.
-use mathlib.Core.Path.{_≡_, refl, sym, ap, _∙_}
+use mathlib.Core.Path.{_≡_, refl, sym, _∙_}
 use mathlib.Core.List.{List, [], _∷_, _++_, append-nil}
 use mathlib.Core.Bool.{false}
 use mathlib.Core.Logic.{_≢_, _⊎_, inl, inr, ⊎-elim, dite}
@@ -9,7 +9,7 @@ use native.Mathlib.Omega.{arith}
 use Rattle.paper.specs.Image.{task, shape-of, at, clock}
 use Rattle.paper.specs.Queues.{first, taken, held, empty}
 use Rattle.paper.specs.Flags.{error}
-use Rattle.paper.specs.Waking.{Outcome}
+use Rattle.paper.specs.Waking.{Outcome, accepting}
 use Rattle.paper.specs.Events.{event-of, running, turned, happening}
 use Rattle.paper.specs.Rules.{Good}
 use Rattle.paper.specs.Numbers.{kind, reply-values}
@@ -25,10 +25,9 @@ use Rattle.event_laws.specs.Walk.{tick-any, input-any, done-any, event-any}
 use Rattle.event_laws.specs.Stays.{first-leads, words-good}
 use Rattle.event_laws.specs.First.{held-some, keeps-some, keeps-first}
 use Rattle.user_laws.specs.Folded.{event-is}
-use Rattle.user_laws.specs.Delivery.{Tells}
 use Rattle.bound.specs.Bound.{IsFirst, tick-count, if-accepted}
 use Rattle.bound.specs.Ticks.{Stays, Step, event-steps}
-use Rattle.demands.specs.Demands.{word-of, Calls, ticks-in, Quiet, Undisturbed, IsTick, Answered, UsesClock, UsesSlice, Request2}
+use Rattle.demands.specs.Demands.{word-of, Tells, Calls, ticks-in, Quiet, Undisturbed, IsTick, Answered, UsesClock, UsesSlice, Request2}
 
 -- kind k is that of a service or an order, done, or faulted, and then there is an error
 abbrev DoneOrFaulted : Shape → List ℕ → Task → ℕ → Type 0
@@ -106,7 +105,7 @@ module _ (s : Shape) (im : List ℕ) (g : Good s im) where
   passed-anew : (e : Event) → Anew (happening s im e)
   passed-anew =
       event-any s im (λ _. Anew)
-      (tick-any Anew
+      (tick-any (λ t. Anew (accepting t))
       record {
         idle = λ _ t. absurd (omega (arith, t));
         stops = λ _ _ t. absurd (omega (arith, t));
@@ -116,13 +115,12 @@ module _ (s : Shape) (im : List ℕ) (g : Good s im) where
               faults = λ _ _ t. absurd (omega (arith, t));
               stuck = λ _ _ t. absurd (omega (arith, t));
               alone = λ _ _ _ t. absurd (omega (arith, t));
-              woke = λ _ _ _ _ _ t. absurd (omega (arith, t));
-              no-room = λ _ _ _ t. absurd t;
+              woke = λ _ _ _ _ t. absurd (omega (arith, t));
             };
         orders = λ _ _ _ _ _ _. record { does = λ _ _ _ t. absurd (omega (arith, t)); faults = λ _ _ t. absurd (omega (arith, t)) };
       })
-      (λ i c. input-any s im i Anew (λ _ t. absurd t) c (λ _ t. absurd t) (λ _ _ t. absurd (omega (arith, t))) (λ _ _ _ t. absurd (omega (arith, t))))
-      (λ i. done-any s im i Anew (λ _ t. absurd t) (λ _ t. absurd t) (λ _ t. absurd (omega (arith, t))) (λ _ _ t. absurd (omega (arith, t))))
+      (λ i c. input-any s im i Anew c (λ _ t. absurd t) (λ _ _ t. absurd (omega (arith, t))) (λ _ _ t. absurd (omega (arith, t))))
+      (λ i. done-any s im i Anew (λ _ t. absurd t) (λ _ _ t. absurd (omega (arith, t))) (λ _ _ t. absurd (omega (arith, t))))
       (λ t. absurd t)
 
 -- a call on a good image

@@ -21,7 +21,7 @@ use Rattle.bound.specs.Bound.{Behind, most-ticks, IsFirst, Untouched, tick-coun
 use Rattle.bound.specs.Measure.{measure, Nears}
 use Rattle.bound.specs.Line.{behind-first}
 use Rattle.bound.specs.Falls.{event-nears, event-untouched}
-use Rattle.demands.specs.Demands.{Calls, ReadyBehind, ticks-in, FirstAfter, NotBefore, latest, TurnComes}
+use Rattle.demands.specs.Demands.{Calls, ReadyBehind, ticks-in, FirstAfter, NotBefore, TurnComes}
 
 -- what a call on a good image does to a task with others ahead of it
 record Nearer (s : Shape) (im m : List ℕ) (i : Task) (k spent : ℕ) : Type 0 where

@@ -14,9 +14,9 @@ use Rattle.paper.specs.Flags.{pending, waits}
 use Rattle.paper.specs.Services.{other}
 use Rattle.paper.specs.Events.{event-of, running, happening}
 use Rattle.paper.specs.Plans.{plan-shape, fresh}
-use Rattle.paper.specs.Rules.{Empty, Good}
+use Rattle.paper.specs.Rules.{Empty, Full, Good}
 use Rattle.paper.specs.Tests.{rules-hold}
-use Rattle.paper.specs.Numbers.{verdict-number, reply-number, reply-values, too-short, not-marked, out-of-range, not-packed, wrong-segments, plan-short, plan-broken}
+use Rattle.paper.specs.Numbers.{verdict-number, kind, reply-number, reply-values, too-short, not-marked, out-of-range, not-packed, wrong-segments, plan-short, plan-broken}
 use Rattle.paper.specs.Calls.{size-number}
 use Rattle.paper.specs.Promises.{Checks, Measures, Builds, Happens, Runs}
 use Rattle.paper.specs.declared.Task.{Task}
@@ -28,9 +28,7 @@ use Rattle.paper.specs.declared.Reply.{Reply}
 use Rattle.paper.specs.declared.Size.{Size}
 use Rattle.paper.specs.declared.Ended.{Ended}
 use Rattle.user_laws.specs.Taken.{first-events}
-use Rattle.user_laws.specs.Delivery.{Tells}
 use Rattle.bound.specs.Bound.{Behind, bound, IsFirst, Untouched, tick-count, if-accepted}
-use Rattle.demands.specs.Wakes.{wake-finds-full}
 
 -- "NUMBERS THAT COME BACK"
 
@@ -45,14 +43,14 @@ image-tests im =
     (1, too-short im) ∷ (2, not-marked im) ∷ (3, out-of-range (shape-of im)) ∷ (4, not-packed (shape-of im)) ∷
     (5, wrong-segments (shape-of im) im) ∷ (6, not (rules-hold (shape-of im) im)) ∷ []
 
--- 7 "event malformed", 8 "input for a full input buffer", 9 "output done on an idle port", 10 "a wake finds the ready queue full"
+-- 7 "event malformed", 8 "input for a full input buffer", 9 "output done on an idle port"; of a tick there is nothing to test
 abbrev pub event-tests : Shape → List ℕ → Event → List (ℕ × Bool)
 event-tests s im Event.Malformed = (7, true) ∷ []
-event-tests s im (Event.Input i c) = (8, full s im (Queue.Input i)) ∷ (10, wake-finds-full s im (Event.Input i c)) ∷ []
-event-tests s im (Event.OutputDone i) = (9, eqb (at s im (busy i)) 0) ∷ (10, wake-finds-full s im (Event.OutputDone i)) ∷ []
-event-tests s im Event.Tick = (10, wake-finds-full s im Event.Tick) ∷ []
+event-tests s im (Event.Input i c) = (8, full s im (Queue.Input i)) ∷ []
+event-tests s im (Event.OutputDone i) = (9, eqb (at s im (busy i)) 0) ∷ []
+event-tests s im Event.Tick = []
 
--- "Images are tested 1 to 6, then the event 7 to 10"
+-- "Images are tested 1 to 6", then the event 7 to 9
 abbrev pub call-tests : List ℕ → ℕ → ℕ → ℕ → List (ℕ × Bool)
 call-tests im k d c = image-tests im ++ event-tests (shape-of im) im (event-of (shape-of im) k d c)
 
@@ -115,6 +113,28 @@ pub record Demand1 : Type 0 where
 -- "Nothing else is refused. A plan gives the paper's fresh image; each accepted event gives exactly the paper's image and answer, word for word.
 -- A receive on an empty queue waits and delivers nothing; a sent zero arrives as a zero."
 
+-- the rows of the table that events have, 7, 8 and 9
+abbrev pub Malformed : Event → Type 0
+Malformed e = e ≡ Event.Malformed
+
+abbrev pub InputFull : Shape → List ℕ → Event → Type 0
+InputFull s im e = (i : Task) × (c : ℕ) × (e ≡ Event.Input i c) × Full s im (Queue.Input i)
+
+abbrev pub PortIdle : Shape → List ℕ → Event → Type 0
+PortIdle s im e = (i : Task) × (e ≡ Event.OutputDone i) × (at s im (busy i) ≡ 0)
+
+-- each number is given exactly where its row applies, and an event is accepted exactly where none does
+pub record Exactly (s : Shape) (im : List ℕ) (e : Event) (answer : Reply) : Type 0 where
+  pub malformed : (reply-number answer ≡ 7) ↔ Malformed e
+  pub input-full : (reply-number answer ≡ 8) ↔ InputFull s im e
+  pub port-idle : (reply-number answer ≡ 9) ↔ PortIdle s im e
+  pub accepted : (reply-number answer ≡ 0) ↔ (¬ Malformed e × ¬ InputFull s im e × ¬ PortIdle s im e)
+
+-- an accepted reply of a kind
+abbrev pub Tells : Reply → ℕ → Type 0
+Tells (Reply.Accepted a) k = kind a ≡ k
+Tells (Reply.Refused r) k = ⊥
+
 -- a tick on an image that passes the check, whose first task asks for service v with time left on the clock
 pub record Asks (s : Shape) (im : List ℕ) (v : Service) (answer : Reply) (after : List ℕ) : Type 0 where
   pub passes : Checks im 0
@@ -132,10 +152,11 @@ abbrev pub incoming : Shape → List ℕ → Queue
 incoming s im = Queue.Message (other s im (running s im)) (running s im)
 
 pub record Demand2 : Type 0 where
-  -- an image passes exactly when it keeps every rule, and there an event is refused exactly for a fault of its own
+  -- an image passes exactly when it keeps every rule, and there an event is refused exactly for a fault of its own, a tick never
   pub passes : (im : List ℕ) (number : ℕ) → Checks im number → (number ≡ 0) ↔ Good (shape-of im) im
   pub refused : (im : List ℕ) (k d c : ℕ) (answer : Reply) (after : List ℕ) → Checks im 0 → Happens im k d c answer after
-      → reply-number answer ≡ due (event-tests (shape-of im) im (event-of (shape-of im) k d c))
+      → Exactly (shape-of im) im (event-of (shape-of im) k d c) answer
+  pub every-tick : (im : List ℕ) (answer : Reply) (after : List ℕ) → Checks im 0 → Happens im 0 0 0 answer after → reply-number answer ≡ 0
   -- a plan without fault gives its size and the fresh image, which passes the check
   pub measured : (plan : List ℕ) (answer : Size) → Measures plan answer → due (plan-tests plan) ≡ 0 → answer ≡ Size.Words (total (plan-shape plan))
   pub built : (plan target : List ℕ) (number : ℕ) (after : List ℕ) → Builds plan target number after → due (build-tests plan target) ≡ 0
@@ -152,15 +173,15 @@ pub record Demand2 : Type 0 where
       → other s im (running s im) .0 < s .n → Empty s im (incoming s im)
       → Tells answer 4 × ((i : Task) (r : ℕ) → i .0 < s .n → r < 9 → at s after (reg i r) ≡ at s im (reg i r))
   -- any word, 0 among them: a send puts that in R3 behind the words held; a receive takes the first word held to R3; both answer kind 3
-  pub sent-word : (s : Shape) (im : List ℕ) (answer : Reply) (after : List ℕ) → Asks s im Service.Send answer after → reply-number answer ≡ 0
+  pub sent-word : (s : Shape) (im : List ℕ) (answer : Reply) (after : List ℕ) → Asks s im Service.Send answer after
       → other s im (running s im) .0 < s .n → full s im (outgoing s im) ≡ false
       → Tells answer 3 × (held s after (outgoing s im) ≡ held s im (outgoing s im) ++ (at s im (reg (running s im) 3) ∷ []))
-  pub received-word : (s : Shape) (im : List ℕ) (answer : Reply) (after : List ℕ) → Asks s im Service.Receive answer after → reply-number answer ≡ 0
+  pub received-word : (s : Shape) (im : List ℕ) (answer : Reply) (after : List ℕ) → Asks s im Service.Receive answer after
       → other s im (running s im) .0 < s .n → (w : ℕ) (later : List ℕ) → held s im (incoming s im) ≡ w ∷ later
       → Tells answer 3 × (at s after (reg (running s im) 3) ≡ w) × (held s after (incoming s im) ≡ later)
   -- so the word that was sent is the word that arrives: where the buffer was empty, and held the same at the receive as after the send
   pub arrived-word : (s : Shape) (im later : List ℕ) (a b : Reply) (after end : List ℕ) → Asks s im Service.Send a after → Asks s later Service.Receive b end
-      → reply-number a ≡ 0 → reply-number b ≡ 0 → other s im (running s im) ≡ running s later → other s later (running s later) ≡ running s im
+      → other s im (running s im) ≡ running s later → other s later (running s later) ≡ running s im
       → held s im (outgoing s im) ≡ [] → held s later (outgoing s im) ≡ held s after (outgoing s im)
       → Tells b 3 × (at s end (reg (running s later) 3) ≡ at s im (reg (running s im) 3))
 

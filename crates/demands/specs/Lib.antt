@@ -1,2 +1,1 @@
-pub mod Wakes
 pub mod Demands
