@@ -37,7 +37,7 @@ use Rattle.laws.specs.Frame.{Apart, frame-none, frame-put, kept, kept-clock, ke
 use Rattle.laws.specs.Room.{finds-room, good-roomy}
 use Rattle.laws.specs.Changes.{moved-parts, small-error}
 use Rattle.event_laws.specs.Own.{own-parts, header-part, own-picked, clock-apart}
-use Rattle.event_laws.specs.Standing.{waits-not}
+use Rattle.laws.specs.Room.{waits-not}
 use Rattle.event_laws.specs.Turns.{joined-clock, Leads, leads-sound, leads-in, leads-list, left-list, turned-list}
 use Rattle.event_laws.specs.Serving.{served-nearly, wakes-whom}
 use Rattle.event_laws.specs.Walk.{ServiceCases, Begins, Spends, tick-any, input-any, done-any, event-any}

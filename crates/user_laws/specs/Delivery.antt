@@ -30,7 +30,7 @@ use Rattle.laws.specs.Sound.{Sound, sound, put-sound, appended-sound, taken-sou
 use Rattle.laws.specs.Frame.{Apart, frame-none, frame-more, frame-put, kept, kept-empty, kept-full, kept-held}
 use Rattle.laws.specs.Changes.{turn-parts, error-none, buffer-has, status-sound, frame-status, frame-left, frame-woken}
 use Rattle.event_laws.specs.Own.{own-parts, header-part, clock-apart}
-use Rattle.event_laws.specs.Standing.{waits-not}
+use Rattle.laws.specs.Room.{waits-not}
 use Rattle.event_laws.specs.Turns.{Leads, leads-sound, leads-in}
 use Rattle.event_laws.specs.Serving.{served-nearly, wakes-whom}
 use Rattle.event_laws.specs.Walk.{Begins, serves-any}
