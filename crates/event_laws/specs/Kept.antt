@@ -15,7 +15,7 @@ use Rattle.paper.specs.declared.Service.{Service}
 use Rattle.paper.specs.declared.Woken.{Woken}
 use Rattle.laws.specs.Sound.{Sound, shut, sound}
 use Rattle.laws.specs.Frame.{Apart, Same, kept-clock, kept-status, kept-count, kept-held, kept-port}
-use Rattle.laws.specs.Room.{Listed}
+use Rattle.laws.specs.Room.{Listed, good-listed}
 use Rattle.event_laws.specs.Standing.{awaits, stands-frame}
 
 -- the task that an event is about to wake
@@ -50,7 +50,7 @@ good-nearly {s} {im} g =
       lies = shut record { laid = g .laid; queues = g .queues };
       flags = g .flags;
       chars = chars;
-      listed = λ i. (g .ready i, g .no-other i);
+      listed = good-listed g;
       clocked = (g .clock-range, g .clock-idle);
       ports = g .ports;
       statuses = λ i hi _. g .statuses i hi;

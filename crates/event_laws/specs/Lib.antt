@@ -9,3 +9,5 @@ pub mod Walk
 pub mod Stays
 pub mod Touched
 pub mod First
+pub mod Begun
+pub mod Wakes

@@ -12,6 +12,7 @@ use Rattle.paper.specs.Waking.{with-status, woken, left}
 use Rattle.paper.specs.Services.{fault-of, blocked, served}
 use Rattle.paper.specs.Orders.{order, after-order}
 use Rattle.paper.specs.Events.{event-of, running, stopped, tick, input, port-next, output-done, happening}
+use Rattle.paper.specs.Numbers.{answer-task}
 use Rattle.paper.specs.Rules.{Good}
 use Rattle.paper.specs.declared.Task.{Task}
 use Rattle.paper.specs.declared.Shape.{Shape}
@@ -116,6 +117,20 @@ module _ (s : Shape) (im : List ℕ) (g : Good s im) where
 
   pub first-task : empty s im Queue.Ready ≡ false → running s im .0 < s .n
   first-task some = leads-in (first-leads some)
+
+  -- the task that a tick's answer names is one of the image
+  pub tick-names : answer-task (tick s im .answer) < s .n
+  tick-names =
+      tick-any (λ t. answer-task (t .answer) < s .n)
+      record {
+        idle = λ _. omega (arith, g .laid .fit .tasks);
+        stops = λ some _. first-task some;
+        turns = λ some _ _. first-task some;
+        serves = λ some _ _ _ _ _ _.
+            let hi = first-task some in
+            record { faults = λ _ _. hi; stuck = λ _ _. hi; alone = λ _ _ _. hi; woke = λ _ _ _ _. hi };
+        orders = λ some _ _ _ _ _. record { does = λ _ _ _. first-task some; faults = λ _ _. first-task some };
+      }
 
   pub tick-good : Good s (tick s im .image)
   tick-good =

@@ -180,7 +180,7 @@ module _ (s : Shape) (im : List ℕ) (j : Task) (hj : j .0 < s .n) (h : Sound s 
 -- and the image is good, where it was but for that task, which finds room
 module _ {s : Shape} {im : List ℕ} (j : Task) (hj : j .0 < s .n) (h : Nearly s im (Woken.One j)) (waited : at s im (status j) ≢ is-ready) where
   room : full s im Queue.Ready ≡ false
-  room = listed-room s im (h .listed) (sound (h .lies) .queues Queue.Ready tt) j hj waited
+  room = listed-room s im (h .listed) j hj waited (sound (h .lies) .queues Queue.Ready tt)
 
   joined-times : (x : ℕ) → times x (held s (readied s im j) Queue.Ready) ≡ times x (held s im Queue.Ready) + (cond (eqb x (j .0)) 1 0 + 0)
   joined-times x = rw (joined-list s im j hj (h .lies) room, times-append)

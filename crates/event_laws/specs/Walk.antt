@@ -42,7 +42,7 @@ asked-for (suc (suc (suc zero))) v e = let z : Service.Input ≡ v = cc in rw (�
 asked-for (suc (suc (suc (suc zero)))) v e = let z : Service.Output ≡ v = cc in rw (← z)
 asked-for (suc (suc (suc (suc (suc k))))) v e = absurd (let z : _≡_ {A = ℕ} 0 1 = cc in omega arith)
 
-asked-waits : (v : Service) → asked (waits v) ≡ Asked.For v
+pub asked-waits : (v : Service) → asked (waits v) ≡ Asked.For v
 asked-waits Service.Send = refl
 asked-waits Service.Receive = refl
 asked-waits Service.Input = refl

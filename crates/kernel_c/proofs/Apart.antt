@@ -16,8 +16,8 @@ use Rattle.paper.specs.declared.Reply.{Reply}
 use Rattle.paper.specs.declared.Verdict.{Verdict}
 use Rattle.laws.specs.Checked.{checked-good}
 use Rattle.laws.specs.Events.{Formed, event-formed}
-use Rattle.event_laws.specs.Walk.{tick-any, input-any, done-any, event-any}
-use Rattle.event_laws.specs.Stays.{first-task}
+use Rattle.event_laws.specs.Walk.{input-any, done-any, event-any}
+use Rattle.event_laws.specs.Stays.{tick-names}
 use Rattle.kernel_c.specs.Answers.{no-answer, told-kind, told-task}
 
 -- an accepted event's kind and task are the paper's two values
@@ -50,18 +50,9 @@ happens : (s : Shape) (im : List ℕ) → 0 < s .n → Good s im → (e : Event)
 unfolding Formed
 happens s im some g =
     event-any s im (λ e o. Formed s e → InImage s o)
-    (λ _. tick-any (InImage s)
-    record {
-      idle = λ _. some;
-      stops = λ r _. first-task s im g r;
-      turns = λ r _ _. first-task s im g r;
-      serves = λ r _ _ _ _ _ _.
-          let hi = first-task s im g r in
-          record { faults = λ _ _. hi; stuck = λ _ _. hi; alone = λ _ _ _. hi; woke = λ _ _ _ _ _. hi; no-room = λ _ _ _. some };
-      orders = λ r _ _ _ _ _. record { does = λ _ _ _. first-task s im g r; faults = λ _ _. first-task s im g r };
-    })
-    (λ i c f. input-any s im i (InImage s) (λ _. some) c (λ _. some) (λ _ _. f .0) (λ _ _ _. f .0))
-    (λ i f. done-any s im i (InImage s) (λ _. some) (λ _. some) (λ _. f) (λ _ _. f)) (λ _. some)
+    (λ _. tick-names s im g)
+    (λ i c f. input-any s im i (InImage s) c (λ _. some) (λ _ _. f .0) (λ _ _. f .0))
+    (λ i f. done-any s im i (InImage s) (λ _. some) (λ _ _. f) (λ _ _. f)) (λ _. some)
 
 names-below : (im : List ℕ) (k d c : ℕ) → named (event im k d c .reply) < most-tasks
 unfolding event

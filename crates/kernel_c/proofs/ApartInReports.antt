@@ -19,7 +19,7 @@ use Rattle.paper.specs.declared.Reply.{Reply}
 use Rattle.paper.specs.declared.Verdict.{Verdict}
 use Rattle.paper.specs.declared.Refusal.{Refusal}
 use Rattle.paper.specs.declared.Share.{Share}
-use Rattle.event_laws.specs.Walk.{tick-any, input-any, done-any, event-any}
+use Rattle.event_laws.specs.Walk.{input-any, done-any, event-any}
 use Rattle.shares.proofs.Dividing.{share-none, share-rounded}
 use Rattle.shares.proofs.WithoutLoss.{nothing, share-rowless}
 use Rattle.kernel_c.specs.Counts.{share-on, share-number, share-cell}
@@ -65,17 +65,8 @@ check-other im events =
 event-other : (s : Shape) (im : List ℕ) (e : Event) → Other (reply-number (happening s im e .reply))
 event-other s im =
     event-any s im (λ _ o. Other (reply-number (o .reply)))
-    (tick-any (λ o. Other (reply-number (o .reply)))
-    record {
-      idle = λ _ e. omega arith;
-      stops = λ _ _ e. omega arith;
-      turns = λ _ _ _ e. omega arith;
-      serves = λ _ _ _ _ _ _ _.
-          record { faults = λ _ _ e. omega arith; stuck = λ _ _ e. omega arith; alone = λ _ _ _ e. omega arith; woke = λ _ _ _ _ _ e. omega arith; no-room = λ _ _ _ e. omega arith };
-      orders = λ _ _ _ _ _ _. record { does = λ _ _ _ e. omega arith; faults = λ _ _ e. omega arith };
-    })
-    (λ i c. input-any s im i (λ o. Other (reply-number (o .reply))) (λ _ e. omega arith) c (λ _ e. omega arith) (λ _ _ e. omega arith) (λ _ _ _ e. omega arith))
-    (λ i. done-any s im i (λ o. Other (reply-number (o .reply))) (λ _ e. omega arith) (λ _ e. omega arith) (λ _ e. omega arith) (λ _ _ e. omega arith))
+    (λ e. omega arith) (λ i c. input-any s im i (λ o. Other (reply-number (o .reply))) c (λ _ e. omega arith) (λ _ _ e. omega arith) (λ _ _ e. omega arith))
+    (λ i. done-any s im i (λ o. Other (reply-number (o .reply))) (λ _ e. omega arith) (λ _ _ e. omega arith) (λ _ _ e. omega arith))
     (λ e. omega arith)
 
 -- a counted event, and a run of them

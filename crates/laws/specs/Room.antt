@@ -76,13 +76,19 @@ module _ (s : Shape) (im : List ℕ) (l : Listed s im) where
       dite (ℕ-discrete (at s im (status (task x))) is-ready) (λ e. omega (arith, l (task x) .0 (h, e))) (λ ne. omega (arith, l (task x) .1 (λ r. ne (r .1)))))
       (λ h. omega (arith, ready-below x (omega arith)))
 
-  -- so it has room for a task that is not ready
-  pub listed-room : Queued s im Queue.Ready → (i : Task) → i .0 < s .n → at s im (status i) ≢ is-ready → full s im Queue.Ready ≡ false
-  unfolding full
-  listed-room q i hi ne =
-      let n = held-length s im Queue.Ready in
-      let few = fewer (s .n) (held s im Queue.Ready) ready-below ready-once (i .0) hi (l i .1 (λ r. ne (r .1))) in
-      ne-eqb (at s im (count s Queue.Ready)) (at s im (capacity s Queue.Ready)) (λ e. omega (arith, n, few, e, q .sized))
+  -- so a task that is not ready does not stand in it, and it has room
+  module _ (i : Task) (hi : i .0 < s .n) (ne : at s im (status i) ≢ is-ready) where
+    pub listed-none : times (i .0) (held s im Queue.Ready) ≡ 0
+    listed-none = l i .1 (λ r. ne (r .1))
+
+    pub listed-few : length (held s im Queue.Ready) < s .n
+    listed-few = fewer (s .n) (held s im Queue.Ready) ready-below ready-once (i .0) hi listed-none
+
+    pub listed-room : Queued s im Queue.Ready → full s im Queue.Ready ≡ false
+    unfolding full
+    listed-room q =
+        let n = held-length s im Queue.Ready in
+        ne-eqb (at s im (count s Queue.Ready)) (at s im (capacity s Queue.Ready)) (λ e. omega (arith, n, listed-few, e, q .sized))
 
 -- a task that is not ready finds room; shut, as contracts say it
 unfoldable pub Roomy : Shape → List ℕ → Type 0
@@ -115,9 +121,12 @@ pub waiting-room : (s : Shape) (im : List ℕ) → Roomy s im → (i : Task) →
 waiting-room s im r i hi v e = finds-room s im r i hi (λ z. waits-not v (sym z ∙ e))
 
 -- a good image is such
+pub good-listed : {s : Shape} {im : List ℕ} → Good s im → Listed s im
+good-listed g i = (g .ready i, g .no-other i)
+
 pub good-roomy : {s : Shape} {im : List ℕ} → Good s im → Roomy s im
 unfolding Roomy
-good-roomy {s} {im} g = listed-room s im (λ i. (g .ready i, g .no-other i)) (g .queues Queue.Ready tt)
+good-roomy {s} {im} g i hi ne = listed-room s im (good-listed g) i hi ne (g .queues Queue.Ready tt)
 
 pub lawful-roomy : (s : Shape) (im : List ℕ) → Lawful s im → Roomy s im
 lawful-roomy s im h = good-roomy (good h)

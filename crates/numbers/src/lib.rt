@@ -20,7 +20,6 @@ pub fn number_of(r: Refusal) -> u16
         Refusal::MalformedEvent => 7,
         Refusal::InputFull => 8,
         Refusal::PortIdle => 9,
-        Refusal::ReadyFull => 10,
         Refusal::BadPlan => 11,
         Refusal::WrongTarget => 12,
         Refusal::CountFull => 17,

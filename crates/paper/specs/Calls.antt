@@ -40,7 +40,7 @@ built-as (Verdict.Refused r) plan target = target
 unfoldable pub built : List ℕ → List ℕ → List ℕ
 built plan target = built-as (check-build plan target) plan target
 
--- images are tested 1 to 6, then the event 7 to 10
+-- images are tested 1 to 6, then the event 7 to 9
 abbrev pub event-if : Verdict → List ℕ → ℕ → ℕ → ℕ → Outcome
 event-if Verdict.Fine im k d c = happening (shape-of im) im (event-of (shape-of im) k d c)
 event-if (Verdict.Refused r) im k d c = refused r im

@@ -49,7 +49,6 @@ number-small Refusal.RuleBroken = omega arith
 number-small Refusal.MalformedEvent = omega arith
 number-small Refusal.InputFull = omega arith
 number-small Refusal.PortIdle = omega arith
-number-small Refusal.ReadyFull = omega arith
 number-small Refusal.BadPlan = omega arith
 number-small Refusal.WrongTarget = omega arith
 number-small Refusal.CountFull = omega arith

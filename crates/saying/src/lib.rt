@@ -49,7 +49,6 @@ pub fn put_refusal(out: Output, r: Refusal) -> Output {
         ),
         Refusal::InputFull => put_text(out, b"input for a full input buffer"),
         Refusal::PortIdle => put_text(out, b"output done on an idle port"),
-        Refusal::ReadyFull => put_text(out, b"a wake finds the ready queue full"),
         Refusal::BadPlan => put_text(
             out,
             b"the plan is malformed, or its image has more than 32768 words",

@@ -32,15 +32,15 @@ pub const ORDER_COUNT: usize = 5;
 pub const ORDER_NUMBERS: [u16; ORDER_COUNT] = [0, 1, 2, 3, 4];
 
 // How many numbers an event may give.
-pub const EVENT_COUNT: usize = 5;
+pub const EVENT_COUNT: usize = 4;
 
 // The numbers that an event may give.
-pub const EVENT_NUMBERS: [u16; EVENT_COUNT] = [0, 7, 8, 9, 10];
+pub const EVENT_NUMBERS: [u16; EVENT_COUNT] = [0, 7, 8, 9];
 
 // How many numbers a run may give.
 pub const RUN_COUNT: usize = 10;
 
-// The numbers that a run may give: those of a check and of an event but 10, which no event on a good image gives.
+// The numbers that a run may give: those of a check and of an event.
 pub const RUN_NUMBERS: [u16; RUN_COUNT] = [0, 1, 2, 3, 4, 5, 6, 7, 8, 9];
 
 // How many numbers a translation may give.

@@ -1,0 +1,226 @@
+-- Whom an event wakes: one that is not ready, so it finds room; any other task that is not ready stays as it is. Assumes nothing.
+use mathlib.Core.Path.{_≡_, refl, sym, ap, subst, _∙_}
+use mathlib.Core.List.{List}
+use mathlib.Core.Bool.{Bool, true, false, not, cond, _||_, true≢false}
+use mathlib.Core.Logic.{_≢_, inl, inr}
+use Prim.Native.Nat.{ℕ, _<_, _≤_}
+use native.Mathlib.Omega.{arith}
+use borrow.Author.Tests.{eqb-true, eq-eqb, ne-eqb}
+use lib.Dec.{eqb}
+use lib.ListN.{length}
+use Rattle.paper.specs.Image.{ord, width, cell, at, clock, flags, status, peer}
+use Rattle.paper.specs.Queues.{Has, header-capacity, appended, held, empty, full}
+use Rattle.paper.specs.Flags.{error, pending, is-ready, waits}
+use Rattle.paper.specs.Waking.{woken, one-if}
+use Rattle.paper.specs.Services.{asked, service-faulted, fault-of, blocked, awaited, waiting, wakes, served}
+use Rattle.paper.specs.Events.{running, tick, input, port-next, output-done, happening}
+use Rattle.paper.specs.Rules.{Empty, Full, times, Good}
+use Rattle.paper.specs.declared.Task.{Task}
+use Rattle.paper.specs.declared.Shape.{Shape}
+use Rattle.paper.specs.declared.Cell.{Cell}
+use Rattle.paper.specs.declared.Part.{Part}
+use Rattle.paper.specs.declared.Queue.{Queue}
+use Rattle.paper.specs.declared.Service.{Service}
+use Rattle.paper.specs.declared.Asked.{Asked}
+use Rattle.paper.specs.declared.Fault.{Fault}
+use Rattle.paper.specs.declared.Woken.{Woken}
+use Rattle.paper.specs.declared.Event.{Event}
+use Rattle.laws.specs.Queues.{same-task}
+use Rattle.laws.specs.Sound.{Sound, has-space, appended-sound}
+use Rattle.laws.specs.Checked.{good-sound}
+use Rattle.laws.specs.Events.{Formed}
+use Rattle.laws.specs.Frame.{Frame, frame-none, frame-more, frame-put, frame-appended, kept-status}
+use Rattle.laws.specs.Changes.{device-parts, status-sound, frame-status, frame-left, frame-woken, frame-served, frame-next}
+use Rattle.laws.specs.Orders.{OwnCell}
+use Rattle.laws.specs.Room.{good-listed, listed-none, listed-few, waits-not}
+use Rattle.event_laws.specs.Own.{header-part}
+use Rattle.event_laws.specs.Turns.{Leads, leads-sound, leads-in, leads-ready, turned-frame}
+use Rattle.event_laws.specs.Serving.{served-nearly, wakes-whom}
+use Rattle.event_laws.specs.Walk.{asked-waits, ServiceCases, Begins, tick-any, input-any, done-any, event-any}
+use Rattle.event_laws.specs.Stays.{begins-leads, stopped-is, order-frame, first-leads, next-owner}
+use Rattle.event_laws.specs.Begun.{clock-only, fault-same, blocked-same, wakes-same}
+
+-- a service wakes where it is not wrong and its buffer does not stop it
+abbrev pub woken-unless : Fault → Bool → Woken → Woken
+woken-unless (Fault.Error e) stopped w = Woken.Nobody
+woken-unless Fault.Nothing stopped w = cond stopped Woken.Nobody w
+
+abbrev pub asked-wakes : Shape → List ℕ → Task → Asked → Woken
+asked-wakes s im i Asked.Nothing = Woken.Nobody
+asked-wakes s im i (Asked.For v) = woken-unless (fault-of s im i v) (blocked s im i v) (wakes s im i v)
+
+-- a tick wakes by rule 4 alone, where the rules before it do not apply
+abbrev pub tick-wakes : Shape → List ℕ → Task → Woken
+tick-wakes s im i =
+    cond (empty s im Queue.Ready || not (eqb (error s im i) 0) || eqb (at s im clock) 0) Woken.Nobody (asked-wakes s im i (asked (pending s im i)))
+
+-- a device event wakes its owner, if it waits for that
+abbrev pub whom : Shape → List ℕ → Event → Woken
+whom s im Event.Tick = tick-wakes s im (running s im)
+whom s im (Event.Input i c) = one-if (eqb (at s im (status i)) (waits Service.Input)) i
+whom s im (Event.OutputDone i) = one-if (eqb (at s im (status i)) (waits Service.Output)) i
+whom s im Event.Malformed = Woken.Nobody
+
+-- a task's entry of the status table is as it was
+abbrev pub SameEntry : Shape → List ℕ → List ℕ → Task → Type 0
+SameEntry s im m j = (at s m (status j) ≡ at s im (status j)) × (at s m (peer j) ≡ at s im (peer j))
+
+-- what an event that wakes w makes of im: w was not ready, and no other task that was not has another entry
+pub record WakesOnly (s : Shape) (im : List ℕ) (w : Woken) (m : List ℕ) : Type 0 where
+  pub waited : (k : Task) → w ≡ Woken.One k → (k .0 < s .n) × (at s im (status k) ≢ is-ready)
+  pub stays : (j : Task) → j .0 < s .n → at s im (status j) ≢ is-ready → w ≢ Woken.One j → SameEntry s im m j
+
+-- cells that are not of a task's entry of the status table
+record Off (j : Task) (c : Cell) : Type 0 where
+  elsewhere : c .part ≡ Part.StatusTable → c .row ≢ j .0
+
+off-part : (j : Task) (c : Cell) → eqb (ord (c .part)) 3 ≡ false → Off j c
+off-part j c f = record { elsewhere = λ e. absurd (true≢false (sym (ap (λ (p : Part). eqb (ord p) 3) e) ∙ f)) }
+
+off-row : (i j : Task) → i .0 ≢ j .0 → (r : ℕ) → Off j (cell Part.StatusTable (i .0) r)
+off-row i j ne r = record { elsewhere = λ _. ne }
+
+off-device : (p : Part) → device-parts p ≡ true → eqb (ord p) 3 ≡ false
+off-device Part.Header t = refl
+off-device Part.TaskTable t = refl
+off-device Part.ReadyQueue t = refl
+off-device Part.StatusTable t = sym t
+off-device Part.InputBuffers t = refl
+off-device Part.OutputBuffers t = refl
+off-device Part.MessageBuffers t = refl
+off-device Part.Ports t = refl
+off-device Part.SegmentTable t = refl
+off-device Part.Segments t = refl
+
+off-entry : {s : Shape} {im m : List ℕ} (j : Task) → j .0 < s .n → Frame s (Off j) im m → SameEntry s im m j
+off-entry j hj f = (f .others (status j) (hj, omega arith) (λ o. o .elsewhere refl refl), f .others (peer j) (hj, omega arith) (λ o. o .elsewhere refl refl))
+
+-- nobody is woken, and the task whose entry changes, if one does, was ready
+wakes-nobody : {s : Shape} {im m : List ℕ} → ((j : Task) → j .0 < s .n → at s im (status j) ≢ is-ready → Frame s (Off j) im m) → WakesOnly s im Woken.Nobody m
+wakes-nobody f =
+    record { waited = λ k e. absurd (let z : _≡_ {A = ℕ} 0 1 = cc in omega arith); stays = λ j hj ne _. off-entry j hj (f j hj ne) }
+
+-- a ready task is another than one that is not
+not-ready : (s : Shape) (im : List ℕ) (i j : Task) → at s im (status i) ≡ is-ready → at s im (status j) ≢ is-ready → i .0 ≢ j .0
+not-ready s im i j r n e = n (ap (λ (x : ℕ). at s im (cell Part.StatusTable x 0)) (sym e) ∙ r)
+
+-- one task is woken, and its entry alone changes
+wakes-one : {s : Shape} {im m : List ℕ} (k : Task) → k .0 < s .n → at s im (status k) ≢ is-ready
+    → ((j : Task) → k .0 ≢ j .0 → Frame s (Off j) im m) → WakesOnly s im (Woken.One k) m
+wakes-one k hk ne f =
+    record {
+      waited = λ j e. let z : k ≡ j = cc in rw (← z) (hk, ne);
+      stays = λ j hj _ other. off-entry j hj (f j (λ e. other (ap Woken.One (same-task k j e))));
+    }
+
+-- a service of the first task
+module _ {s : Shape} {im m : List ℕ} {i : Task} (l : Leads s im i) (b : Begins s im m) where
+  here : Leads s m i
+  here = begins-leads l b
+
+  begun : (j : Task) → Frame s (Off j) im m
+  begun j = frame-more (b .but-clock) (λ c e. off-part j c (ap (λ (x : Cell). eqb (ord (x .part)) 3) e))
+
+  moves : (v : Service) → fault-of s m i v ≡ Fault.Nothing → blocked s m i v ≡ false → (j : Task) → Frame s (Off j) im (served s m i v)
+  moves v right clear j =
+      frame-served (begun j) (leads-sound here) i (leads-in l) (λ c t. off-part j c (off-device (c .part) t)) (λ r. off-part j _ refl) v right clear
+
+  service-wakes : (v : Service) → ServiceCases s m i v (λ t. WakesOnly s im (woken-unless (fault-of s im i v) (blocked s im i v) (wakes s im i v)) (t .image))
+  unfolding service-faulted waiting
+  service-wakes v =
+      let same = fault-same l b v in
+      let clear : fault-of s m i v ≡ Fault.Nothing → blocked s m i v ≡ blocked s im i v = λ right. blocked-same l b v (sym same ∙ right) in
+      let woke : fault-of s m i v ≡ Fault.Nothing → wakes s m i v ≡ wakes s im i v = λ right. wakes-same l b v (sym same ∙ right) in
+      record {
+        faults = λ e f. rw (sym same ∙ f) (wakes-nobody (λ j _ _. frame-put (begun j) (flags i) _ (leads-in l, omega arith) (off-part j _ refl)));
+        stuck = λ right stuck.
+            rw (sym same ∙ right, sym (clear right) ∙ stuck)
+            (wakes-nobody (λ j _ ne.
+            frame-left (frame-status (begun j) i (leads-in l) _ _ (off-row i j (not-ready s im i j (leads-ready l) ne)))
+            (status-sound s m i (leads-in l) (leads-sound here) (waits v) (awaited s m i v)) (λ r. off-part j _ refl) (off-part j _ refl)));
+        alone = λ right free none.
+            rw (sym same ∙ right, sym (clear right) ∙ free, sym (woke right) ∙ none) (wakes-nobody (λ j _ _. moves v right free j));
+        woke = λ k right free one.
+            let w = wakes-whom here v right k one in
+            let st = kept-status header-part (clock-only l b) refl k (w .0) in
+            rw (sym same ∙ right, sym (clear right) ∙ free, sym (woke right) ∙ one)
+            (wakes-one k (w .0) (λ z. w .1 (st ∙ z)) (λ j other.
+            frame-woken (moves v right free j) (served-nearly here v right free .lies) (λ r. off-part j _ refl) (off-part j _ refl) k (w .0) (off-row k j other)));
+      }
+
+module _ (s : Shape) (im : List ℕ) (g : Good s im) where
+  tick-wakes-only : WakesOnly s im (whom s im Event.Tick) (tick s im .image)
+  tick-wakes-only =
+      tick-any (λ t. WakesOnly s im (whom s im Event.Tick) (t .image))
+      record {
+        idle = λ none. rw none (wakes-nobody (λ j _ _. frame-none));
+        stops = λ some wrong.
+            let l = first-leads s im g some in
+            rw (some, ne-eqb (error s im (running s im)) 0 wrong, stopped-is l)
+            (wakes-nobody (λ j _ ne.
+            frame-left (frame-status frame-none (running s im) (leads-in l) _ _ (off-row (running s im) j (not-ready s im (running s im) j (leads-ready l) ne)))
+            (status-sound s im (running s im) (leads-in l) (leads-sound l) _ _) (λ r. off-part j _ refl) (off-part j _ refl)));
+        turns = λ some calm over.
+            rw (some, eq-eqb (error s im (running s im)) 0 calm, eq-eqb (at s im clock) 0 over)
+            (wakes-nobody (λ j _ _. turned-frame (first-leads s im g some) (λ r. off-part j _ refl) (off-part j _ refl)));
+        serves = λ some calm runs v asks m b.
+            rw (some, eq-eqb (error s im (running s im)) 0 calm, ne-eqb (at s im clock) 0 runs, asks, asked-waits v) (service-wakes (first-leads s im g some) b v);
+        orders = λ some calm runs none m b.
+            let k : WakesOnly s im Woken.Nobody m = wakes-nobody (λ j _ _. order-frame (first-leads s im g some) b (off-own j) (off-part j _ refl)) in
+            rw (some, eq-eqb (error s im (running s im)) 0 calm, ne-eqb (at s im clock) 0 runs, none) (record { does = λ _ _ _. k; faults = λ _ _. k });
+      }
+    where
+      off-own : (j : Task) (c : Cell) → OwnCell s im (running s im) c → Off j c
+      off-own j c (inl (p, _)) = off-part j c (ap (λ (x : Part). eqb (ord x) 3) p)
+      off-own j c (inr (p, _)) = off-part j c (ap (λ (x : Part). eqb (ord x) 3) p)
+
+  -- a device event that changes nothing, where its owner does not wait
+  none-wakes-only : (i : Task) (v : Service) → at s im (status i) ≢ waits v → WakesOnly s im (one-if (eqb (at s im (status i)) (waits v)) i) im
+  none-wakes-only i v ne = rw (ne-eqb (at s im (status i)) (waits v) ne) (wakes-nobody (λ j _ _. frame-none))
+
+  -- one that has made m of im, and wakes its owner if it waits with service v
+  module _ (i : Task) (hi : i .0 < s .n) (v : Service) (m : List ℕ) (f : (j : Task) → Frame s (Off j) im m) where
+    alone-wakes-only : at s im (status i) ≢ waits v → WakesOnly s im (one-if (eqb (at s im (status i)) (waits v)) i) m
+    alone-wakes-only ne = rw (ne-eqb (at s im (status i)) (waits v) ne) (wakes-nobody (λ j _ _. f j))
+
+    owner-wakes-only : Sound s m → at s im (status i) ≡ waits v → WakesOnly s im (one-if (eqb (at s im (status i)) (waits v)) i) (woken s m i)
+    owner-wakes-only h e =
+        rw (eq-eqb (at s im (status i)) (waits v) e)
+        (wakes-one i hi (λ z. waits-not v (sym z ∙ e)) (λ j other. frame-woken (f j) h (λ r. off-part j _ refl) (off-part j _ refl) i hi (off-row i j other)))
+
+  -- a queue is not both empty and full
+  some-capacity : (q : Queue) → Has s q → 1 ≤ header-capacity s q → Empty s im q → ¬ Full s im q
+  some-capacity q hq c none all = omega (arith, none, all, g .queues q hq .sized)
+
+  is-full : (q : Queue) → full s im q ≡ true → Full s im q
+  unfolding full
+  is-full q e = eqb-true _ _ e
+
+  input-wakes-only : (i : Task) (c : ℕ) → i .0 < s .n → WakesOnly s im (whom s im (Event.Input i c)) (input s im i c .image)
+  input-wakes-only i c hi =
+      let h = good-sound s im g in
+      let f : (j : Task) → Frame s (Off j) im (appended s im (Queue.Input i) c) = λ j. frame-appended frame-none (Queue.Input i) hi h (λ r. off-part j _ refl) c in
+      input-any s im i (λ o. WakesOnly s im (whom s im (Event.Input i c)) (o .image)) c
+      (λ stopped. none-wakes-only i Service.Input (λ e. some-capacity (Queue.Input i) hi (g .laid .fit .inputs .0) (g .statuses i hi .inputs e .1) (is-full (Queue.Input i) stopped)))
+      (λ _. alone-wakes-only i hi Service.Input _ f) (λ clear. owner-wakes-only i hi Service.Input _ f (appended-sound s im (Queue.Input i) hi h c (has-space s im h (Queue.Input i) hi clear)))
+
+  done-wakes-only : (i : Task) → i .0 < s .n → WakesOnly s im (whom s im (Event.OutputDone i)) (output-done s im i .image)
+  done-wakes-only i hi =
+      let h = good-sound s im g in
+      let f : (j : Task) → Frame s (Off j) im (port-next s im i) = λ j. frame-next frame-none h i hi (λ r. off-part j _ refl) (λ r. off-part j _ refl) in
+      done-any s im i (λ o. WakesOnly s im (whom s im (Event.OutputDone i)) (o .image))
+      (λ idle. none-wakes-only i Service.Output (λ e. some-capacity (Queue.Output i) hi (g .laid .fit .outputs .0) (g .ports i hi .idle idle .1) (g .statuses i hi .outputs e .2)))
+      (λ _. alone-wakes-only i hi Service.Output _ f) (λ _. owner-wakes-only i hi Service.Output _ f (next-owner s im g i hi (Woken.One i) (λ _. refl) .lies))
+
+  pub wakes-only : (e : Event) → Formed s e → WakesOnly s im (whom s im e) (happening s im e .image)
+  unfolding Formed
+  wakes-only =
+      event-any s im (λ e o. Formed s e → WakesOnly s im (whom s im e) (o .image)) (λ _. tick-wakes-only) (λ i c f. input-wakes-only i c (f .0)) done-wakes-only
+      (λ _. wakes-nobody (λ j _ _. frame-none))
+
+  -- THE WAKE: a task that an event wakes is one of the image that is not in the ready queue, and the queue has a free slot for it
+  pub wake-finds-room : (e : Event) → Formed s e → (k : Task) → whom s im e ≡ Woken.One k
+      → (k .0 < s .n) × (times (k .0) (held s im Queue.Ready) ≡ 0) × (length (held s im Queue.Ready) < s .n)
+  wake-finds-room e f k one =
+      let w = wakes-only e f .waited k one in
+      (w .0, listed-none s im (good-listed g) k (w .0) (w .1), listed-few s im (good-listed g) k (w .0) (w .1))
