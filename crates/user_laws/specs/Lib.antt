@@ -1,4 +1,5 @@
 pub mod Folded
 pub mod Taken
 pub mod Once
+pub mod Words
 pub mod Delivery
