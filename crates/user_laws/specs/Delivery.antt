@@ -1,6 +1,6 @@
 -- The user's two sentences: a receive on an empty buffer waits and delivers nothing; a word that was sent arrives, 0 among them. Assumes nothing.
 use mathlib.Core.Path.{_≡_, refl, sym, ap, _∙_}
-use mathlib.Core.List.{List, [], _∷_, _++_}
+use mathlib.Core.List.{List, [], _∷_, _++_, append-nil}
 use mathlib.Core.Bool.{true, false, true≢false}
 use mathlib.Core.Logic.{_≢_, _↔_, dite}
 use Prim.Native.Nat.{ℕ, suc, _<_}
@@ -9,12 +9,11 @@ use native.Mathlib.Omega.{arith}
 use borrow.Author.Tests.{eq-eqb, ne-eqb, eqb-true, leb-false, lt-leb}
 use lib.Dec.{leb}
 use lib.ListN.{length, getD, drop}
-use Rattle.paper.specs.Image.{at, clock, reg, flags}
-use Rattle.paper.specs.Queues.{part-of, Has, count, capacity, first, taken, held, empty, full}
+use Rattle.paper.specs.Image.{at, clock, reg}
+use Rattle.paper.specs.Queues.{count, capacity, held, empty, full}
 use Rattle.paper.specs.Flags.{error, pending, waits}
-use Rattle.paper.specs.Waking.{Answered, answered}
-use Rattle.paper.specs.Services.{other, given, error-if, fault-of, blocked, waiting, delivered, moved, served}
-use Rattle.paper.specs.Events.{running, tick}
+use Rattle.paper.specs.Services.{other, given, error-if, fault-of, blocked, waiting}
+use Rattle.paper.specs.Events.{event-of, running, tick, happening}
 use Rattle.paper.specs.Numbers.{kind}
 use Rattle.paper.specs.Rules.{Empty, Good}
 use Rattle.paper.specs.declared.Task.{Task}
@@ -23,18 +22,17 @@ use Rattle.paper.specs.declared.Cell.{Cell}
 use Rattle.paper.specs.declared.Queue.{Queue}
 use Rattle.paper.specs.declared.Service.{Service}
 use Rattle.paper.specs.declared.Fault.{Fault}
+use Rattle.paper.specs.declared.Reply.{Reply}
 use Rattle.paper.specs.declared.Answer.{Answer}
-use Rattle.laws.specs.Cells.{at-same, at-other}
-use Rattle.laws.specs.Queues.{held-length, appended-held, taken-held}
-use Rattle.laws.specs.Sound.{Sound, sound, put-sound, appended-sound, taken-sound, has-space, has-word}
-use Rattle.laws.specs.Frame.{Apart, frame-none, frame-more, frame-put, kept, kept-empty, kept-full, kept-held}
-use Rattle.laws.specs.Changes.{turn-parts, error-none, buffer-has, status-sound, frame-status, frame-left, frame-woken}
-use Rattle.event_laws.specs.Own.{own-parts, header-part, clock-apart}
+use Rattle.laws.specs.Queues.{held-length}
+use Rattle.laws.specs.Frame.{Apart, frame-more, kept, kept-empty, kept-full}
+use Rattle.laws.specs.Changes.{turn-parts, error-none, buffer-has, status-sound, frame-status, frame-left}
+use Rattle.event_laws.specs.Own.{header-part, clock-apart}
 use Rattle.laws.specs.Room.{waits-not}
 use Rattle.event_laws.specs.Turns.{Leads, leads-sound, leads-in}
-use Rattle.event_laws.specs.Serving.{served-nearly, wakes-whom}
 use Rattle.event_laws.specs.Walk.{Begins, serves-any}
 use Rattle.event_laws.specs.Stays.{begins-leads, first-leads, first-task}
+use Rattle.user_laws.specs.Words.{Balanced, send-told, receive-told, event-words}
 
 -- the image that a service begins from, and the tick's: the task's words, its buffer and what is wrong are the same
 module _ {s : Shape} {im m : List ℕ} {i : Task} (l : Leads s im i) (b : Begins s im m) where
@@ -96,42 +94,16 @@ module _ (s : Shape) (im : List ℕ) (g : Good s im) (some : empty s im Queue.Re
         woke = λ _ _ _ _ z. absurd (omega arith);
       }) z
 
-  -- a service that is done: from m, the tick's image but for the clock, its word moved and nothing is pending, and a wake may follow
-  module _ (right : fault-of s im (running s im) v ≡ Fault.Nothing) (clear : blocked s im (running s im) v ≡ false) where
-    done-any : (P : Answered → Type 0)
-        → ((m : List ℕ) → Begins s im m → fault-of s m (running s im) v ≡ Fault.Nothing → blocked s m (running s im) v ≡ false
-        → (out : List ℕ) → Apart s turn-parts (served s m (running s im) v) out → P (answered (Answer.ServiceDone (running s im)) out)) → P (tick s im)
-    done-any P f =
-        serves-any s im some calm runs v asks P (λ m b.
-        let same = fault-same l b v in
-        let here = begins-leads l b in
-        record {
-          faults = λ e wrong. absurd (let n : fault-of s m (running s im) v ≡ Fault.Nothing = same ∙ right in let z : _≡_ {A = ℕ} 0 1 = cc in omega arith);
-          stuck = λ _ stuck. absurd (true≢false (sym stuck ∙ blocked-same l b v right ∙ clear));
-          alone = λ right′ clear′ _. f m b right′ clear′ _ frame-none;
-          woke = λ k right′ clear′ one.
-              f m b right′ clear′ _ (frame-woken frame-none (served-nearly here v right′ clear′ .lies) (λ r. refl) refl k (wakes-whom here v right′ k one .0) (λ r. refl));
-        })
-
-    pub done-kind : kind (tick s im .answer) ≡ 3
-    done-kind = done-any (λ o. kind (o .answer) ≡ 3) (λ m b r c out a. refl)
-
--- what a wake and the flags leave of a word that moved
-module _ {s : Shape} {m out : List ℕ} {i : Task} (l : Leads s m i) (v : Service) (right : fault-of s m i v ≡ Fault.Nothing) (clear : blocked s m i v ≡ false)
-    (a : Apart s turn-parts (served s m i v) out) where
-  after-held : (q : Queue) → Has s q → turn-parts (part-of q) ≡ false → own-parts (part-of q) ≡ false → Sound s (moved s m i v) → held s out q ≡ held s (moved s m i v) q
-  unfolding served
-  after-held q hq ft fo h =
-      let f : Apart s own-parts (moved s m i v) (served s m i v) = frame-put frame-none (flags i) _ (leads-in l, omega arith) refl in
-      kept-held turn-parts a q hq ft (served-nearly l v right clear .lies) ∙ kept-held own-parts f q hq fo h
-
-  after-register : (r : ℕ) → r < 8 → at s out (reg i r) ≡ at s (moved s m i v) (reg i r)
-  unfolding served
-  after-register r hr =
-      kept turn-parts a (reg i r) (leads-in l, omega arith) refl ∙
-      at-other s _ (flags i) (reg i r) _ (leads-in l, omega arith) (leads-in l, omega arith) (λ e.
-      let z : r ≡ 8 = ap (λ (c : Cell). c .column) e in
-      omega arith)
+  -- where neither stops it, it is done, and the answer says so
+  pub done-answer : fault-of s im (running s im) v ≡ Fault.Nothing → blocked s im (running s im) v ≡ false → tick s im .answer ≡ Answer.ServiceDone (running s im)
+  done-answer right clear =
+      serves-any s im some calm runs v asks (λ o. o .answer ≡ Answer.ServiceDone (running s im)) (λ m b.
+      record {
+        faults = λ e wrong. absurd (let n : fault-of s m (running s im) v ≡ Fault.Nothing = fault-same l b v ∙ right in let z : _≡_ {A = ℕ} 0 1 = cc in omega arith);
+        stuck = λ _ stuck. absurd (true≢false (sym stuck ∙ blocked-same l b v right ∙ clear));
+        alone = λ _ _ _. refl;
+        woke = λ _ _ _ _. refl;
+      })
 
 -- receive: the number in R2 is a task's, and the buffer from it is empty
 module _ (s : Shape) (im : List ℕ) (g : Good s im) (some : empty s im Queue.Ready ≡ false) (runs : at s im clock ≢ 0) where
@@ -162,27 +134,24 @@ module _ (s : Shape) (im : List ℕ) (g : Good s im) (some : empty s im Queue.Re
   right-number : error-if (leb (s .n) (at s im (reg (running s im) 2))) 5 ≡ Fault.Nothing
   right-number = small-number s im g some runs (at s im (reg (running s im) 2)) .1 number
 
+  -- the words of the message buffers are those that the answer tells
+  balanced : (i j : Task) → i .0 < s .n → j .0 < s .n → Balanced s im 0 0 (Reply.Accepted (tick s im .answer)) (tick s im .image) (Queue.Message i j)
+  unfolding event-of happening
+  balanced i j hi hj = event-words s im g (Queue.Message i j) (hi, hj) (λ e. let z : _≡_ {A = ℕ} 0 1 = cc in omega arith) 0 0 0
+
   -- a send to a buffer with room: the word stands after those held
   module _ (asks : pending s im (running s im) ≡ waits Service.Send) (clear : full s im (Queue.Message (running s im) (other s im (running s im))) ≡ false) where
+    sends : tick s im .answer ≡ Answer.ServiceDone (running s im)
+    sends = done-answer s im g some runs Service.Send asks right-number clear
+
     pub sent-kind : kind (tick s im .answer) ≡ 3
-    sent-kind = done-kind s im g some runs Service.Send asks right-number clear
+    sent-kind = ap kind sends
 
     pub sent-held : held s (tick s im .image) (Queue.Message (running s im) (other s im (running s im)))
         ≡ held s im (Queue.Message (running s im) (other s im (running s im))) ++ (given s im (running s im) ∷ [])
     sent-held =
-        done-any s im g some runs Service.Send asks right-number clear
-        (λ o. held s (o .image) (Queue.Message (running s im) (other s im (running s im))) ≡ held s im (Queue.Message (running s im) (other s im (running s im))) ++ (given s im (running s im) ∷ []))
-        (λ m b right′ clear′ out a.
-        let l = first-leads s im g some in
-        let here = begins-leads l b in
-        let q = Queue.Message (running s im) (other s m (running s im)) in
-        let hq = buffer-has s m (running s im) (leads-in l) Service.Send right′ in
-        let h = leads-sound here in
-        let room = has-space s m h q hq clear′ in
-        rw (← reg-same l b 2 (omega arith), ← reg-same l b 3 (omega arith))
-        (after-held here Service.Send right′ clear′ a q hq refl refl (appended-sound s m q hq h (given s m (running s im)) room) ∙
-        appended-held s m q hq (sound h .laid .words) (sound h .queues q hq) (given s m (running s im)) room ∙
-        rw (kept-held header-part (clock-only l b) q hq refl (leads-sound l))))
+        let words = send-told s im 0 0 (tick s im .image) (running s im) (other s im (running s im)) refl asks in
+        sym (rw (sends, words .0, words .1) at (balanced (running s im) (other s im (running s im)) (first-task s im g some) number))
 
   -- a receive from a buffer that holds words: the first of them arrives in R3, whatever it is
   module _ (asks : pending s im (running s im) ≡ waits Service.Receive) (w : ℕ) (rest : List ℕ)
@@ -195,38 +164,22 @@ module _ (s : Shape) (im : List ℕ) (g : Good s im) (some : empty s im Queue.Re
         let e : length (held s im q) ≡ suc (length rest) = ap length holds in
         ne-eqb (at s im (count s q)) 0 (λ z. omega (arith, n, e, z))
 
-    pub received-kind : kind (tick s im .answer) ≡ 3
-    received-kind = done-kind s im g some runs Service.Receive asks right-number received-clear
+    receives : tick s im .answer ≡ Answer.ServiceDone (running s im)
+    receives = done-answer s im g some runs Service.Receive asks right-number received-clear
 
-    pub received : (at s (tick s im .image) (reg (running s im) 3) ≡ w) × (held s (tick s im .image) (Queue.Message (other s im (running s im)) (running s im)) ≡ rest)
-    unfolding delivered
+    pub received-kind : kind (tick s im .answer) ≡ 3
+    received-kind = ap kind receives
+
+    received : at s (tick s im .image) (reg (running s im) 3) ∷ held s (tick s im .image) (Queue.Message (other s im (running s im)) (running s im)) ≡ w ∷ rest
     received =
-        done-any s im g some runs Service.Receive asks right-number received-clear
-        (λ o. (at s (o .image) (reg (running s im) 3) ≡ w) × (held s (o .image) (Queue.Message (other s im (running s im)) (running s im)) ≡ rest))
-        (λ m b right′ clear′ out a.
-        let l = first-leads s im g some in
-        let hi = leads-in l in
-        let here = begins-leads l b in
-        let h = leads-sound here in
-        let q = Queue.Message (other s m (running s im)) (running s im) in
-        let hq = buffer-has s m (running s im) hi Service.Receive right′ in
-        let same : held s im q ≡ w ∷ rest = rw (← reg-same l b 2 (omega arith)) at holds in
-        let list : first s m q ∷ held s (taken s m q) q ≡ w ∷ rest =
-        sym (taken-held s m q hq (sound h .laid .words) (sound h .queues q hq) (has-word s m h q hq clear′)) ∙ kept-held header-part (clock-only l b) q hq refl (leads-sound l) ∙ same in
-        let took = taken-sound s m q hq h (has-word s m h q hq clear′) in
-        let k : Apart s own-parts (taken s m q) (delivered s m (running s im) q) = frame-put frame-none (reg (running s im) 3) (first s m q) (hi, omega arith) refl in
-        let got = put-sound s (taken s m q) (reg (running s im) 3) (first s m q) (hi, omega arith) (omega arith) took in
-        rw (← reg-same l b 2 (omega arith)) (
-          after-register here Service.Receive right′ clear′ a 3 (omega arith) ∙ at-same s _ (reg (running s im) 3) _ (hi, omega arith) (sound took .laid .words) ∙
-              ap (λ (x : List ℕ). getD x 0 0) list,
-          after-held here Service.Receive right′ clear′ a q hq refl refl got ∙ kept-held own-parts k q hq refl took ∙ ap (λ (x : List ℕ). drop 1 x) list,
-        ))
+        let words = receive-told s im 0 0 (tick s im .image) (running s im) (other s im (running s im)) refl asks in
+        sym (rw (receives, words .0, words .1, append-nil, holds) at (balanced (other s im (running s im)) (running s im) number (first-task s im g some)))
 
     pub received-word : at s (tick s im .image) (reg (running s im) 3) ≡ w
-    received-word = received .0
+    received-word = ap (λ (x : List ℕ). getD x 0 0) received
 
     pub received-held : held s (tick s im .image) (Queue.Message (other s im (running s im)) (running s im)) ≡ rest
-    received-held = received .1
+    received-held = ap (λ (x : List ℕ). drop 1 x) received
 
 -- a message buffer that holds nothing has room
 empty-room : (s : Shape) (im : List ℕ) → Good s im → (i j : Task) → i .0 < s .n → j .0 < s .n → held s im (Queue.Message i j) ≡ [] → full s im (Queue.Message i j) ≡ false
