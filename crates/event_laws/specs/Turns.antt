@@ -264,7 +264,7 @@ module _ {s : Shape} {im : List ℕ} {i : Task} (l : Leads s im i) (k p : ℕ) w
       let f : first s m Queue.Ready ≡ i .0 = ap (λ (x : List ℕ). getD x 0 0) (sym e ∙ leads-list l) in
       e ∙ rw (f, dispatched-held s (taken s m Queue.Ready) went)
 
-  left-late : Apart s dispatch-parts (with-status s im i k p) (left s (with-status s im i k p))
+  pub left-late : Apart s dispatch-parts (with-status s im i k p) (left s (with-status s im i k p))
   left-late = frame-left frame-none entered (λ r. refl) refl
 
   left-clocked : Clocked s (left s (with-status s im i k p))

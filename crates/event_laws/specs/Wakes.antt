@@ -8,7 +8,7 @@ use native.Mathlib.Omega.{arith}
 use borrow.Author.Tests.{eqb-true, eq-eqb, ne-eqb}
 use lib.Dec.{eqb}
 use lib.ListN.{length}
-use Rattle.paper.specs.Image.{ord, width, cell, at, clock, flags, status, peer}
+use Rattle.paper.specs.Image.{ord, cell, at, clock, reg, flags, status, peer}
 use Rattle.paper.specs.Queues.{Has, header-capacity, appended, held, empty, full}
 use Rattle.paper.specs.Flags.{error, pending, is-ready, waits}
 use Rattle.paper.specs.Waking.{woken, one-if}
@@ -61,28 +61,33 @@ whom s im (Event.Input i c) = one-if (eqb (at s im (status i)) (waits Service.In
 whom s im (Event.OutputDone i) = one-if (eqb (at s im (status i)) (waits Service.Output)) i
 whom s im Event.Malformed = Woken.Nobody
 
--- a task's entry of the status table is as it was
-abbrev pub SameEntry : Shape → List ℕ → List ℕ → Task → Type 0
-SameEntry s im m j = (at s m (status j) ≡ at s im (status j)) × (at s m (peer j) ≡ at s im (peer j))
+-- a task's status, peer, registers and flags are as they were
+pub record Unmoved (s : Shape) (im m : List ℕ) (j : Task) : Type 0 where
+  pub status : at s m (status j) ≡ at s im (status j)
+  pub peer : at s m (peer j) ≡ at s im (peer j)
+  pub words : (r : ℕ) → r < 9 → at s m (reg j r) ≡ at s im (reg j r)
 
--- what an event that wakes w makes of im: w was not ready, and no other task that was not has another entry
+-- what an event that wakes w makes of im: w was not ready, and any other task that was not is as it was
 pub record WakesOnly (s : Shape) (im : List ℕ) (w : Woken) (m : List ℕ) : Type 0 where
   pub waited : (k : Task) → w ≡ Woken.One k → (k .0 < s .n) × (at s im (status k) ≢ is-ready)
-  pub stays : (j : Task) → j .0 < s .n → at s im (status j) ≢ is-ready → w ≢ Woken.One j → SameEntry s im m j
+  pub stays : (j : Task) → j .0 < s .n → at s im (status j) ≢ is-ready → w ≢ Woken.One j → Unmoved s im m j
 
--- cells that are not of a task's entry of the status table
+-- cells that are not of a task's rows in the status table and the task table
+abbrev task-parts : Part → Bool
+task-parts p = eqb (ord p) 1 || eqb (ord p) 3
+
 record Off (j : Task) (c : Cell) : Type 0 where
-  elsewhere : c .part ≡ Part.StatusTable → c .row ≢ j .0
+  elsewhere : task-parts (c .part) ≡ true → c .row ≢ j .0
 
-off-part : (j : Task) (c : Cell) → eqb (ord (c .part)) 3 ≡ false → Off j c
-off-part j c f = record { elsewhere = λ e. absurd (true≢false (sym (ap (λ (p : Part). eqb (ord p) 3) e) ∙ f)) }
+off-part : (j : Task) (c : Cell) → task-parts (c .part) ≡ false → Off j c
+off-part j c f = record { elsewhere = λ e. absurd (true≢false (sym e ∙ f)) }
 
-off-row : (i j : Task) → i .0 ≢ j .0 → (r : ℕ) → Off j (cell Part.StatusTable (i .0) r)
-off-row i j ne r = record { elsewhere = λ _. ne }
+off-row : (i j : Task) → i .0 ≢ j .0 → (p : Part) (r : ℕ) → Off j (cell p (i .0) r)
+off-row i j ne p r = record { elsewhere = λ _. ne }
 
-off-device : (p : Part) → device-parts p ≡ true → eqb (ord p) 3 ≡ false
+off-device : (p : Part) → device-parts p ≡ true → task-parts p ≡ false
 off-device Part.Header t = refl
-off-device Part.TaskTable t = refl
+off-device Part.TaskTable t = sym t
 off-device Part.ReadyQueue t = refl
 off-device Part.StatusTable t = sym t
 off-device Part.InputBuffers t = refl
@@ -92,25 +97,30 @@ off-device Part.Ports t = refl
 off-device Part.SegmentTable t = refl
 off-device Part.Segments t = refl
 
-off-entry : {s : Shape} {im m : List ℕ} (j : Task) → j .0 < s .n → Frame s (Off j) im m → SameEntry s im m j
-off-entry j hj f = (f .others (status j) (hj, omega arith) (λ o. o .elsewhere refl refl), f .others (peer j) (hj, omega arith) (λ o. o .elsewhere refl refl))
+unmoved : {s : Shape} {im m : List ℕ} (j : Task) → j .0 < s .n → Frame s (Off j) im m → Unmoved s im m j
+unmoved j hj f =
+    record {
+      status = f .others (status j) (hj, omega arith) (λ o. o .elsewhere refl refl);
+      peer = f .others (peer j) (hj, omega arith) (λ o. o .elsewhere refl refl);
+      words = λ r hr. f .others (reg j r) (hj, hr) (λ o. o .elsewhere refl refl);
+    }
 
--- nobody is woken, and the task whose entry changes, if one does, was ready
+-- nobody is woken, and the task whose rows change, if one does, was ready
 wakes-nobody : {s : Shape} {im m : List ℕ} → ((j : Task) → j .0 < s .n → at s im (status j) ≢ is-ready → Frame s (Off j) im m) → WakesOnly s im Woken.Nobody m
 wakes-nobody f =
-    record { waited = λ k e. absurd (let z : _≡_ {A = ℕ} 0 1 = cc in omega arith); stays = λ j hj ne _. off-entry j hj (f j hj ne) }
+    record { waited = λ k e. absurd (let z : _≡_ {A = ℕ} 0 1 = cc in omega arith); stays = λ j hj ne _. unmoved j hj (f j hj ne) }
 
 -- a ready task is another than one that is not
 not-ready : (s : Shape) (im : List ℕ) (i j : Task) → at s im (status i) ≡ is-ready → at s im (status j) ≢ is-ready → i .0 ≢ j .0
 not-ready s im i j r n e = n (ap (λ (x : ℕ). at s im (cell Part.StatusTable x 0)) (sym e) ∙ r)
 
--- one task is woken, and its entry alone changes
+-- one task is woken, and of tasks that were not ready no other's rows change
 wakes-one : {s : Shape} {im m : List ℕ} (k : Task) → k .0 < s .n → at s im (status k) ≢ is-ready
-    → ((j : Task) → k .0 ≢ j .0 → Frame s (Off j) im m) → WakesOnly s im (Woken.One k) m
+    → ((j : Task) → at s im (status j) ≢ is-ready → k .0 ≢ j .0 → Frame s (Off j) im m) → WakesOnly s im (Woken.One k) m
 wakes-one k hk ne f =
     record {
       waited = λ j e. let z : k ≡ j = cc in rw (← z) (hk, ne);
-      stays = λ j hj _ other. off-entry j hj (f j (λ e. other (ap Woken.One (same-task k j e))));
+      stays = λ j hj still other. unmoved j hj (f j still (λ e. other (ap Woken.One (same-task k j e))));
     }
 
 -- a service of the first task
@@ -119,11 +129,14 @@ module _ {s : Shape} {im m : List ℕ} {i : Task} (l : Leads s im i) (b : Begins
   here = begins-leads l b
 
   begun : (j : Task) → Frame s (Off j) im m
-  begun j = frame-more (b .but-clock) (λ c e. off-part j c (ap (λ (x : Cell). eqb (ord (x .part)) 3) e))
+  begun j = frame-more (b .but-clock) (λ c e. off-part j c (ap (λ (x : Cell). task-parts (x .part)) e))
 
-  moves : (v : Service) → fault-of s m i v ≡ Fault.Nothing → blocked s m i v ≡ false → (j : Task) → Frame s (Off j) im (served s m i v)
-  moves v right clear j =
-      frame-served (begun j) (leads-sound here) i (leads-in l) (λ c t. off-part j c (off-device (c .part) t)) (λ r. off-part j _ refl) v right clear
+  another : (j : Task) → at s im (status j) ≢ is-ready → (p : Part) (r : ℕ) → Off j (cell p (i .0) r)
+  another j ne = off-row i j (not-ready s im i j (leads-ready l) ne)
+
+  moves : (v : Service) → fault-of s m i v ≡ Fault.Nothing → blocked s m i v ≡ false → (j : Task) → at s im (status j) ≢ is-ready → Frame s (Off j) im (served s m i v)
+  moves v right clear j ne =
+      frame-served (begun j) (leads-sound here) i (leads-in l) (λ c t. off-part j c (off-device (c .part) t)) (another j ne Part.TaskTable) v right clear
 
   service-wakes : (v : Service) → ServiceCases s m i v (λ t. WakesOnly s im (woken-unless (fault-of s im i v) (blocked s im i v) (wakes s im i v)) (t .image))
   unfolding service-faulted waiting
@@ -132,20 +145,20 @@ module _ {s : Shape} {im m : List ℕ} {i : Task} (l : Leads s im i) (b : Begins
       let clear : fault-of s m i v ≡ Fault.Nothing → blocked s m i v ≡ blocked s im i v = λ right. blocked-same l b v (sym same ∙ right) in
       let woke : fault-of s m i v ≡ Fault.Nothing → wakes s m i v ≡ wakes s im i v = λ right. wakes-same l b v (sym same ∙ right) in
       record {
-        faults = λ e f. rw (sym same ∙ f) (wakes-nobody (λ j _ _. frame-put (begun j) (flags i) _ (leads-in l, omega arith) (off-part j _ refl)));
+        faults = λ e f. rw (sym same ∙ f) (wakes-nobody (λ j _ ne. frame-put (begun j) (flags i) _ (leads-in l, omega arith) (another j ne Part.TaskTable 8)));
         stuck = λ right stuck.
             rw (sym same ∙ right, sym (clear right) ∙ stuck)
             (wakes-nobody (λ j _ ne.
-            frame-left (frame-status (begun j) i (leads-in l) _ _ (off-row i j (not-ready s im i j (leads-ready l) ne)))
+            frame-left (frame-status (begun j) i (leads-in l) _ _ (another j ne Part.StatusTable))
             (status-sound s m i (leads-in l) (leads-sound here) (waits v) (awaited s m i v)) (λ r. off-part j _ refl) (off-part j _ refl)));
         alone = λ right free none.
-            rw (sym same ∙ right, sym (clear right) ∙ free, sym (woke right) ∙ none) (wakes-nobody (λ j _ _. moves v right free j));
+            rw (sym same ∙ right, sym (clear right) ∙ free, sym (woke right) ∙ none) (wakes-nobody (λ j _ ne. moves v right free j ne));
         woke = λ k right free one.
             let w = wakes-whom here v right k one in
             let st = kept-status header-part (clock-only l b) refl k (w .0) in
             rw (sym same ∙ right, sym (clear right) ∙ free, sym (woke right) ∙ one)
-            (wakes-one k (w .0) (λ z. w .1 (st ∙ z)) (λ j other.
-            frame-woken (moves v right free j) (served-nearly here v right free .lies) (λ r. off-part j _ refl) (off-part j _ refl) k (w .0) (off-row k j other)));
+            (wakes-one k (w .0) (λ z. w .1 (st ∙ z)) (λ j ne other.
+            frame-woken (moves v right free j ne) (served-nearly here v right free .lies) (λ r. off-part j _ refl) (off-part j _ refl) k (w .0) (off-row k j other Part.StatusTable)));
       }
 
 module _ (s : Shape) (im : List ℕ) (g : Good s im) where
@@ -158,7 +171,7 @@ module _ (s : Shape) (im : List ℕ) (g : Good s im) where
             let l = first-leads s im g some in
             rw (some, ne-eqb (error s im (running s im)) 0 wrong, stopped-is l)
             (wakes-nobody (λ j _ ne.
-            frame-left (frame-status frame-none (running s im) (leads-in l) _ _ (off-row (running s im) j (not-ready s im (running s im) j (leads-ready l) ne)))
+            frame-left (frame-status frame-none (running s im) (leads-in l) _ _ (off-row (running s im) j (not-ready s im (running s im) j (leads-ready l) ne) Part.StatusTable))
             (status-sound s im (running s im) (leads-in l) (leads-sound l) _ _) (λ r. off-part j _ refl) (off-part j _ refl)));
         turns = λ some calm over.
             rw (some, eq-eqb (error s im (running s im)) 0 calm, eq-eqb (at s im clock) 0 over)
@@ -166,13 +179,13 @@ module _ (s : Shape) (im : List ℕ) (g : Good s im) where
         serves = λ some calm runs v asks m b.
             rw (some, eq-eqb (error s im (running s im)) 0 calm, ne-eqb (at s im clock) 0 runs, asks, asked-waits v) (service-wakes (first-leads s im g some) b v);
         orders = λ some calm runs none m b.
-            let k : WakesOnly s im Woken.Nobody m = wakes-nobody (λ j _ _. order-frame (first-leads s im g some) b (off-own j) (off-part j _ refl)) in
+            let k : WakesOnly s im Woken.Nobody m = wakes-nobody (λ j _ ne. order-frame (first-leads s im g some) b (off-own j (not-ready s im (running s im) j (leads-ready (first-leads s im g some)) ne)) (off-part j _ refl)) in
             rw (some, eq-eqb (error s im (running s im)) 0 calm, ne-eqb (at s im clock) 0 runs, none) (record { does = λ _ _ _. k; faults = λ _ _. k });
       }
     where
-      off-own : (j : Task) (c : Cell) → OwnCell s im (running s im) c → Off j c
-      off-own j c (inl (p, _)) = off-part j c (ap (λ (x : Part). eqb (ord x) 3) p)
-      off-own j c (inr (p, _)) = off-part j c (ap (λ (x : Part). eqb (ord x) 3) p)
+      off-own : (j : Task) → running s im .0 ≢ j .0 → (c : Cell) → OwnCell s im (running s im) c → Off j c
+      off-own j ne c (inl (_, row)) = record { elsewhere = λ _ e. ne (sym row ∙ e) }
+      off-own j ne c (inr (p, _)) = off-part j c (ap task-parts p)
 
   -- a device event that changes nothing, where its owner does not wait
   none-wakes-only : (i : Task) (v : Service) → at s im (status i) ≢ waits v → WakesOnly s im (one-if (eqb (at s im (status i)) (waits v)) i) im
@@ -186,13 +199,13 @@ module _ (s : Shape) (im : List ℕ) (g : Good s im) where
     owner-wakes-only : Sound s m → at s im (status i) ≡ waits v → WakesOnly s im (one-if (eqb (at s im (status i)) (waits v)) i) (woken s m i)
     owner-wakes-only h e =
         rw (eq-eqb (at s im (status i)) (waits v) e)
-        (wakes-one i hi (λ z. waits-not v (sym z ∙ e)) (λ j other. frame-woken (f j) h (λ r. off-part j _ refl) (off-part j _ refl) i hi (off-row i j other)))
+        (wakes-one i hi (λ z. waits-not v (sym z ∙ e)) (λ j _ other. frame-woken (f j) h (λ r. off-part j _ refl) (off-part j _ refl) i hi (off-row i j other Part.StatusTable)))
 
   -- a queue is not both empty and full
-  some-capacity : (q : Queue) → Has s q → 1 ≤ header-capacity s q → Empty s im q → ¬ Full s im q
+  pub some-capacity : (q : Queue) → Has s q → 1 ≤ header-capacity s q → Empty s im q → ¬ Full s im q
   some-capacity q hq c none all = omega (arith, none, all, g .queues q hq .sized)
 
-  is-full : (q : Queue) → full s im q ≡ true → Full s im q
+  pub is-full : (q : Queue) → full s im q ≡ true → Full s im q
   unfolding full
   is-full q e = eqb-true _ _ e
 

@@ -34,7 +34,7 @@ use Rattle.laws.specs.Sound.{Sound, sound}
 use Rattle.laws.specs.Frame.{Frame, frame-none, frame-put}
 
 -- what pending asks for
-asked-for : (p : ℕ) (v : Service) → asked p ≡ Asked.For v → p ≡ waits v
+pub asked-for : (p : ℕ) (v : Service) → asked p ≡ Asked.For v → p ≡ waits v
 asked-for zero v e = absurd (let z : _≡_ {A = ℕ} 0 1 = cc in omega arith)
 asked-for (suc zero) v e = let z : Service.Send ≡ v = cc in rw (← z)
 asked-for (suc (suc zero)) v e = let z : Service.Receive ≡ v = cc in rw (← z)

@@ -2,4 +2,5 @@ pub mod Folded
 pub mod Taken
 pub mod Once
 pub mod Words
-pub mod Delivery
+pub mod Asked
+pub mod Waiting

@@ -52,42 +52,42 @@ told (Reply.Refused r) k i = false
 unfoldable pub done : Shape → List ℕ → Reply → Task → Service → Bool
 done s im r i v = told r 3 i && eqb (pending s im i) (waits v)
 
--- the port of task i takes a word: at an output while it is idle, or at an output done of device d, answered (9, i), while words are held
-abbrev pub prints : Shape → List ℕ → ℕ → Reply → Task → Bool
-prints s im d r i =
-    (done s im r i Service.Output && eqb (at s im (busy i)) 0) || (told r 9 i && eqb d (i .0) && not (empty s im (Queue.Output i)))
+-- the port of task i takes a word: at an output while it is idle, or at an output done, answered (9, i), while words are held
+abbrev pub prints : Shape → List ℕ → Reply → Task → Bool
+prints s im r i =
+    (done s im r i Service.Output && eqb (at s im (busy i)) 0) || (told r 9 i && not (empty s im (Queue.Output i)))
 
 -- a word where a test holds, and else none
 abbrev pub word-if : Bool → ℕ → List ℕ
 word-if b w = cond b (w ∷ []) []
 
--- the words that an event puts into a queue, where im is the image before, d the event's device, c its character, r the reply
-unfoldable pub sent : Shape → List ℕ → ℕ → ℕ → Reply → Queue → List ℕ
-sent s im d c r Queue.Ready = []
-sent s im d c r (Queue.Input i) = word-if (told r 8 i && eqb d (i .0)) c
-sent s im d c r (Queue.Output i) = word-if (done s im r i Service.Output) (at s im (reg i 3))
-sent s im d c r (Queue.Message i j) = word-if (done s im r i Service.Send && eqb (at s im (reg i 2)) (j .0)) (at s im (reg i 3))
+-- the words that an event puts into a queue, where im is the image before, c the event's character, r the reply
+unfoldable pub sent : Shape → List ℕ → ℕ → Reply → Queue → List ℕ
+sent s im c r Queue.Ready = []
+sent s im c r (Queue.Input i) = word-if (told r 8 i) c
+sent s im c r (Queue.Output i) = word-if (done s im r i Service.Output) (at s im (reg i 3))
+sent s im c r (Queue.Message i j) = word-if (done s im r i Service.Send && eqb (at s im (reg i 2)) (j .0)) (at s im (reg i 3))
 
 -- the words that it takes out, as they arrive: in R3 or at the port, in the image after
-unfoldable pub got : Shape → List ℕ → ℕ → Reply → List ℕ → Queue → List ℕ
-got s im d r after Queue.Ready = []
-got s im d r after (Queue.Input i) = word-if (done s im r i Service.Input) (at s after (reg i 3))
-got s im d r after (Queue.Output i) = word-if (prints s im d r i) (at s after (character i))
-got s im d r after (Queue.Message i j) = word-if (done s im r j Service.Receive && eqb (at s im (reg j 2)) (i .0)) (at s after (reg j 3))
+unfoldable pub got : Shape → List ℕ → Reply → List ℕ → Queue → List ℕ
+got s im r after Queue.Ready = []
+got s im r after (Queue.Input i) = word-if (done s im r i Service.Input) (at s after (reg i 3))
+got s im r after (Queue.Output i) = word-if (prints s im r i) (at s after (character i))
+got s im r after (Queue.Message i j) = word-if (done s im r j Service.Receive && eqb (at s im (reg j 2)) (i .0)) (at s after (reg j 3))
 
 -- what a queue held and then what was sent is what was got and then what it holds
-abbrev pub Balanced : Shape → List ℕ → ℕ → ℕ → Reply → List ℕ → Queue → Type 0
-Balanced s im d c r after q = held s im q ++ sent s im d c r q ≡ got s im d r after q ++ held s after q
+abbrev pub Balanced : Shape → List ℕ → ℕ → Reply → List ℕ → Queue → Type 0
+Balanced s im c r after q = held s im q ++ sent s im c r q ≡ got s im r after q ++ held s after q
 
 -- the words of events one after another: event n has the words word n 0, 1 and 2, finds image n, is answered reply n, and leaves image n + 1
 module _ (s : Shape) (image : ℕ → List ℕ) (word : ℕ → ℕ → ℕ) (reply : ℕ → Reply) (q : Queue) where
   abbrev pub all-sent : ℕ → List ℕ
   all-sent zero = []
-  all-sent (suc n) = all-sent n ++ sent s (image n) (word n 1) (word n 2) (reply n) q
+  all-sent (suc n) = all-sent n ++ sent s (image n) (word n 2) (reply n) q
 
   abbrev pub all-got : ℕ → List ℕ
   all-got zero = []
-  all-got (suc n) = all-got n ++ got s (image n) (word n 1) (reply n) (image (suc n)) q
+  all-got (suc n) = all-got n ++ got s (image n) (reply n) (image (suc n)) q
 
 -- a test that cannot hold
 is-false : (b : Bool) → ¬ (b ≡ true) → b ≡ false
@@ -103,18 +103,18 @@ record Elsewhere (s : Shape) (im : List ℕ) (r : Reply) (q : Queue) : Type 0 wh
   inputs : (i : Task) → told r 8 i ≡ true → Queue.Input i ≢ q
   outputs : (i : Task) → told r 9 i ≡ true → Queue.Output i ≢ q
 
-module _ (s : Shape) (im : List ℕ) (d : ℕ) (r : Reply) where
-  none-sent : (c : ℕ) (q : Queue) → Elsewhere s im r q → sent s im d c r q ≡ []
+module _ (s : Shape) (im : List ℕ) (r : Reply) where
+  none-sent : (c : ℕ) (q : Queue) → Elsewhere s im r q → sent s im c r q ≡ []
   unfolding sent
   none-sent c Queue.Ready x = refl
-  none-sent c (Queue.Input i) x = no-word _ _ (λ e. x .inputs i (and-eq-true-iff (told r 8 i) (eqb d (i .0)) .0 e .0) refl)
+  none-sent c (Queue.Input i) x = no-word _ _ (λ e. x .inputs i e refl)
   none-sent c (Queue.Output i) x = no-word _ _ (λ e. x .services i Service.Output e refl)
   none-sent c (Queue.Message i j) x =
       no-word _ _ (λ e.
       let b = and-eq-true-iff (done s im r i Service.Send) (eqb (at s im (reg i 2)) (j .0)) .0 e in
       x .services i Service.Send (b .0) (ap (Queue.Message i) (same-task _ j (eqb-true _ _ (b .1)))))
 
-  none-got : (after : List ℕ) (q : Queue) → Elsewhere s im r q → got s im d r after q ≡ []
+  none-got : (after : List ℕ) (q : Queue) → Elsewhere s im r q → got s im r after q ≡ []
   unfolding got
   none-got after Queue.Ready x = refl
   none-got after (Queue.Input i) x = no-word _ _ (λ e. x .services i Service.Input e refl)
@@ -180,12 +180,12 @@ module _ {s : Shape} {q : Queue} (p : Buffered s q) where
         taken-held s m q (p .has) (sound h .laid .words) (sound h .queues q (p .has)) (has-word s m h q (p .has) clear) ∙ rw (e, spared k l)
 
   -- an event that tells of no word of it, and leaves its row as it is
-  module _ {im out : List ℕ} (d c : ℕ) (r : Reply) (k : Frame s (Off s q) im out) (g : Good s out) where
-    elsewhere : Elsewhere s im r q → Balanced s im d c r out q
-    elsewhere x = rw (none-sent s im d r c q x, none-got s im d r out q x) (append-nil (held s im q) ∙ sym (spared k (good-sound s out g)))
+  module _ {im out : List ℕ} (c : ℕ) (r : Reply) (k : Frame s (Off s q) im out) (g : Good s out) where
+    elsewhere : Elsewhere s im r q → Balanced s im c r out q
+    elsewhere x = rw (none-sent s im r c q x, none-got s im r out q x) (append-nil (held s im q) ∙ sym (spared k (good-sound s out g)))
 
     -- as one does that is answered neither 3 nor 8 nor 9
-    still : ((i : Task) → (told r 3 i ≡ false) × (told r 8 i ≡ false) × (told r 9 i ≡ false)) → Balanced s im d c r out q
+    still : ((i : Task) → (told r 3 i ≡ false) × (told r 8 i ≡ false) × (told r 9 i ≡ false)) → Balanced s im c r out q
     unfolding done
     still f =
         elsewhere record {
@@ -223,16 +223,16 @@ module _ (s : Shape) (im : List ℕ) (i : Task) (v : Service) (asks : pending s 
       (a, waits-one v u (sym asks ∙ rw a (eqb-true _ _ (b .1))))
 
 -- so a send to task j puts R3 into its buffer, and a receive from task j takes out what is in R3 then
-module _ (s : Shape) (im : List ℕ) (d c : ℕ) (after : List ℕ) (i j : Task) (named : at s im (reg i 2) ≡ j .0) where
+module _ (s : Shape) (im : List ℕ) (c : ℕ) (after : List ℕ) (i j : Task) (named : at s im (reg i 2) ≡ j .0) where
   pub send-told : pending s im i ≡ waits Service.Send
-      → (sent s im d c (served-reply i) (Queue.Message i j) ≡ at s im (reg i 3) ∷ []) × (got s im d (served-reply i) after (Queue.Message i j) ≡ [])
+      → (sent s im c (served-reply i) (Queue.Message i j) ≡ at s im (reg i 3) ∷ []) × (got s im (served-reply i) after (Queue.Message i j) ≡ [])
   unfolding sent got
   send-told asks =
       let none = is-false (done s im (served-reply i) j Service.Receive) (λ e. let z = done-only s im i Service.Send asks j Service.Receive e .1 in let y : _≡_ {A = ℕ} 0 1 = cc in omega arith) in
       (rw (done-now s im i Service.Send asks, eq-eqb _ _ named), rw none)
 
   pub receive-told : pending s im i ≡ waits Service.Receive
-      → (sent s im d c (served-reply i) (Queue.Message j i) ≡ []) × (got s im d (served-reply i) after (Queue.Message j i) ≡ at s after (reg i 3) ∷ [])
+      → (sent s im c (served-reply i) (Queue.Message j i) ≡ []) × (got s im (served-reply i) after (Queue.Message j i) ≡ at s after (reg i 3) ∷ [])
   unfolding sent got
   receive-told asks =
       let none = is-false (done s im (served-reply i) j Service.Send) (λ e. let z = done-only s im i Service.Receive asks j Service.Send e .1 in let y : _≡_ {A = ℕ} 0 1 = cc in omega arith) in
@@ -243,7 +243,7 @@ abbrev Later : Task → Cell → Type 0
 Later i c = (turn-parts (c .part) ≡ true) ⊎ (c ≡ flags i)
 
 -- a service of the first task, i, begins from image m
-module _ {s : Shape} {im m : List ℕ} {i : Task} (l : Leads s im i) (b : Begins s im m) (d c : ℕ) where
+module _ {s : Shape} {im m : List ℕ} {i : Task} (l : Leads s im i) (b : Begins s im m) (c : ℕ) where
   hi : i .0 < s .n
   hi = leads-in l
 
@@ -312,15 +312,15 @@ module _ {s : Shape} {im m : List ℕ} {i : Task} (l : Leads s im i) (b : Begins
 
     -- the buffer of the service
     own : (v : Service) → pending s im i ≡ waits v → fault-of s m i v ≡ Fault.Nothing → blocked s m i v ≡ false → Frame s (Later i) (moved s m i v) out
-        → Balanced s im d c (served-reply i) out (buffer s m i v)
+        → Balanced s im c (served-reply i) out (buffer s m i v)
     unfolding sent got printing-if-idle
     own Service.Send asks right clear k =
         let p : Buffered s (buffer s m i Service.Send) = record { has = buffer-has s m i hi Service.Send right; apart = refl } in
-        let words = send-told s im d c out i (task (at s m (reg i 2))) (sym two) asks in
+        let words = send-told s im c out i (task (at s m (reg i 2))) (sym two) asks in
         rw (words .0, words .1, ← three, ← begun p) (put-in p m _ here clear (later p k) after)
     own Service.Receive asks right clear k =
         let p : Buffered s (buffer s m i Service.Receive) = record { has = buffer-has s m i hi Service.Receive right; apart = refl } in
-        let words = receive-told s im d c out i (task (at s m (reg i 2))) (sym two) asks in
+        let words = receive-told s im c out i (task (at s m (reg i 2))) (sym two) asks in
         rw (words .0, words .1, ← begun p) (append-nil (held s m (buffer s m i Service.Receive)) ∙ took p clear k)
     own Service.Input asks right clear k =
         let p : Buffered s (Queue.Input i) = record { has = hi; apart = refl } in
@@ -344,11 +344,11 @@ module _ {s : Shape} {im m : List ℕ} {i : Task} (l : Leads s im i) (b : Begins
 
     -- any buffer
     done-words : {q : Queue} → Buffered s q → (v : Service) → pending s im i ≡ waits v → fault-of s m i v ≡ Fault.Nothing → blocked s m i v ≡ false
-        → Frame s (Later i) (moved s m i v) out → Balanced s im d c (served-reply i) out q
+        → Frame s (Later i) (moved s m i v) out → Balanced s im c (served-reply i) out q
     done-words {q} p v asks right clear k =
         ⊎-elim (λ e. rw (← e) (own v asks right clear k))
         (λ o.
-        elsewhere p d c (served-reply i) (frame-then (begins p) (frame-then (moved-off p v right clear o) (later p k))) g
+        elsewhere p c (served-reply i) (frame-then (begins p) (frame-then (moved-off p v right clear o) (later p k))) g
         record {
           services = λ j u e z.
               let only = done-only s im i v asks j u e in
@@ -360,12 +360,12 @@ module _ {s : Shape} {im m : List ℕ} {i : Task} (l : Leads s im i) (b : Begins
 
   -- so however a service ends
   service-words : {q : Queue} → Buffered s q → (v : Service) → pending s im i ≡ waits v
-      → ServiceCases s m i v (λ a. Good s (a .image) → Balanced s im d c (Reply.Accepted (a .answer)) (a .image) q)
+      → ServiceCases s m i v (λ a. Good s (a .image) → Balanced s im c (Reply.Accepted (a .answer)) (a .image) q)
   unfolding service-faulted waiting served
   service-words p v asks =
       record {
-        faults = λ e f g. still p d c _ (frame-put (begins p) (flags i) _ (hi, omega arith) (off p (flags i) refl)) g (λ j. (refl, refl, refl));
-        stuck = λ right stuck g. still p d c _ (off-left p (begins p) here i hi _ _) g (λ j. (refl, refl, refl));
+        faults = λ e f g. still p c _ (frame-put (begins p) (flags i) _ (hi, omega arith) (off p (flags i) refl)) g (λ j. (refl, refl, refl));
+        stuck = λ right stuck g. still p c _ (off-left p (begins p) here i hi _ _) g (λ j. (refl, refl, refl));
         alone = λ right clear none g. done-words g p v asks right clear flagged;
         woke = λ k right clear one g.
             let now = begins-leads l b in
@@ -376,97 +376,97 @@ module _ {s : Shape} {im m : List ℕ} {i : Task} (l : Leads s im i) (b : Begins
       flagged : Frame s (Later i) (moved s m i v) (served s m i v)
       flagged = frame-put frame-none (flags i) _ (hi, omega arith) (inr refl)
 
-module _ (s : Shape) (im : List ℕ) (g : Good s im) {q : Queue} (p : Buffered s q) (d c : ℕ) where
+module _ (s : Shape) (im : List ℕ) (g : Good s im) {q : Queue} (p : Buffered s q) (c : ℕ) where
   h : Sound s im
   h = good-sound s im g
 
-  tick-words : Balanced s im d c (Reply.Accepted (tick s im .answer)) (tick s im .image) q
+  tick-words : Balanced s im c (Reply.Accepted (tick s im .answer)) (tick s im .image) q
   tick-words =
-      tick-any (λ a. Good s (a .image) → Balanced s im d c (Reply.Accepted (a .answer)) (a .image) q)
+      tick-any (λ a. Good s (a .image) → Balanced s im c (Reply.Accepted (a .answer)) (a .image) q)
       record {
-        idle = λ _ o. still p d c _ frame-none o (λ j. (refl, refl, refl));
+        idle = λ _ o. still p c _ frame-none o (λ j. (refl, refl, refl));
         stops = λ some _ o.
             let l = first-leads s im g some in
             let k : Frame s (Off s q) im (stopped s im (running s im)) = rw (stopped-is l) (off-left p frame-none h (running s im) (leads-in l) _ _) in
-            still p d c _ k o (λ j. (refl, refl, refl));
+            still p c _ k o (λ j. (refl, refl, refl));
         turns = λ some _ _ o.
-            still p d c _ (turned-frame (first-leads s im g some) (λ r. off p (queue-word s Queue.Ready r) refl) (off p clock refl)) o (λ j. (refl, refl, refl));
-        serves = λ some _ _ v asks m b. service-words (first-leads s im g some) b d c p v asks;
+            still p c _ (turned-frame (first-leads s im g some) (λ r. off p (queue-word s Queue.Ready r) refl) (off p clock refl)) o (λ j. (refl, refl, refl));
+        serves = λ some _ _ v asks m b. service-words (first-leads s im g some) b c p v asks;
         orders = λ some _ _ _ m b.
             let k : Frame s (Off s q) im m = order-frame (first-leads s im g some) b (off-own p im (running s im)) (off p clock refl) in
-            record { does = λ _ _ _ o. still p d c _ k o (λ j. (refl, refl, refl)); faults = λ _ _ o. still p d c _ k o (λ j. (refl, refl, refl)) };
+            record { does = λ _ _ _ o. still p c _ k o (λ j. (refl, refl, refl)); faults = λ _ _ o. still p c _ k o (λ j. (refl, refl, refl)) };
       }
       (tick-good s im g)
 
-  -- an event of device d: a wake may follow
-  module _ (hd : d < s .n) where
-    wakes : {m : List ℕ} → Sound s m → Apart s turn-parts m (woken s m (task d))
-    wakes l = frame-woken frame-none l (λ r. refl) refl (task d) hd (λ r. refl)
+  -- an event of device i: a wake may follow
+  module _ (i : Task) (hi : i .0 < s .n) where
+    wakes : {m : List ℕ} → Sound s m → Apart s turn-parts m (woken s m i)
+    wakes l = frame-woken frame-none l (λ r. refl) refl i hi (λ r. refl)
 
-    entered : {out : List ℕ} → full s im (Queue.Input (task d)) ≡ false → Apart s turn-parts (appended s im (Queue.Input (task d)) c) out → Good s out
-        → Balanced s im d c (Reply.Accepted (Answer.Input (task d))) out q
+    entered : {out : List ℕ} → full s im (Queue.Input i) ≡ false → Apart s turn-parts (appended s im (Queue.Input i) c) out → Good s out
+        → Balanced s im c (Reply.Accepted (Answer.Input i)) out q
     unfolding sent got done
     entered clear k o =
-        let b : Buffered s (Queue.Input (task d)) = record { has = hd; apart = refl } in
-        ⊎-elim (λ e. rw (← e, eq-eqb d d refl) (put-in b im c h clear (off-turn b k) (good-sound s _ o)))
+        let b : Buffered s (Queue.Input i) = record { has = hi; apart = refl } in
+        ⊎-elim (λ e. rw (← e, eq-eqb (i .0) (i .0) refl) (put-in b im c h clear (off-turn b k) (good-sound s _ o)))
         (λ f.
-        elsewhere p d c (Reply.Accepted (Answer.Input (task d))) (frame-then (frame-appended frame-none (Queue.Input (task d)) hd h f c) (off-turn p k)) o
+        elsewhere p c (Reply.Accepted (Answer.Input i)) (frame-then (frame-appended frame-none (Queue.Input i) hi h f c) (off-turn p k)) o
         record {
           services = λ j v e. absurd (true≢false (sym e));
-          inputs = λ j e z. off-not p (Queue.Input (task d)) f (ap Queue.Input (same-task (task d) j (eqb-true _ _ e)) ∙ z);
+          inputs = λ j e z. off-not p (Queue.Input i) f (ap Queue.Input (same-task i j (eqb-true _ _ e)) ∙ z);
           outputs = λ j e. absurd (true≢false (sym e));
         })
-        (same-queue s (Queue.Input (task d)) q hd (p .has))
+        (same-queue s (Queue.Input i) q hi (p .has))
 
-    input-words : Good s (input s im (task d) c .image) → Balanced s im d c (input s im (task d) c .reply) (input s im (task d) c .image) q
+    input-words : Good s (input s im i c .image) → Balanced s im c (input s im i c .reply) (input s im i c .image) q
     input-words =
-        input-any s im (task d) (λ o. Good s (o .image) → Balanced s im d c (o .reply) (o .image) q) c (λ _ o. still p d c _ frame-none o (λ j. (refl, refl, refl)))
+        input-any s im i (λ o. Good s (o .image) → Balanced s im c (o .reply) (o .image) q) c (λ _ o. still p c _ frame-none o (λ j. (refl, refl, refl)))
         (λ clear _. entered clear frame-none)
-        (λ clear _. entered clear (wakes (appended-sound s im (Queue.Input (task d)) hd h c (has-space s im h (Queue.Input (task d)) hd clear))))
+        (λ clear _. entered clear (wakes (appended-sound s im (Queue.Input i) hi h c (has-space s im h (Queue.Input i) hi clear))))
 
-    went-on : {out : List ℕ} → Apart s turn-parts (port-next s im (task d)) out → Good s out → Balanced s im d c (Reply.Accepted (Answer.OutputDone (task d))) out q
+    went-on : {out : List ℕ} → Apart s turn-parts (port-next s im i) out → Good s out → Balanced s im c (Reply.Accepted (Answer.OutputDone i)) out q
     unfolding sent got done port-next
     went-on {out} k o =
-        let b : Buffered s (Queue.Output (task d)) = record { has = hd; apart = refl } in
+        let b : Buffered s (Queue.Output i) = record { has = hi; apart = refl } in
         let l = good-sound s out o in
         ⊎-elim (λ e.
-        rw (← e, eq-eqb d d refl, append-nil (held s im (Queue.Output (task d))))
+        rw (← e, eq-eqb (i .0) (i .0) refl, append-nil (held s im (Queue.Output i)))
         (when (λ n. Apart s turn-parts n out
-        → held s im (Queue.Output (task d)) ≡ word-if (not (empty s im (Queue.Output (task d)))) (at s out (character (task d))) ++ held s out (Queue.Output (task d)))
-        (empty s im (Queue.Output (task d)))
+        → held s im (Queue.Output i) ≡ word-if (not (empty s im (Queue.Output i))) (at s out (character i)) ++ held s out (Queue.Output i))
+        (empty s im (Queue.Output i))
         (λ e k.
-        let rests = frame-put (frame-put frame-none (busy (task d)) 0 (hd, omega arith) (off b (busy (task d)) refl)) (character (task d)) 0 (hd, omega arith) (off b (character (task d)) refl) in
+        let rests = frame-put (frame-put frame-none (busy i) 0 (hi, omega arith) (off b (busy i) refl)) (character i) 0 (hi, omega arith) (off b (character i) refl) in
         rw e (sym (spared b (frame-then rests (off-turn b k)) l)))
-        (λ e k. rw e (printed im (task d) hd h e (off-turn b k) l (kept turn-parts k (character (task d)) (hd, omega arith) refl))) k))
+        (λ e k. rw e (printed im i hi h e (off-turn b k) l (kept turn-parts k (character i) (hi, omega arith) refl))) k))
         (λ f.
-        elsewhere p d c (Reply.Accepted (Answer.OutputDone (task d))) (frame-then (frame-next frame-none h (task d) hd f (λ r. off p (cell Part.Ports d r) refl)) (off-turn p k)) o
+        elsewhere p c (Reply.Accepted (Answer.OutputDone i)) (frame-then (frame-next frame-none h i hi f (λ r. off p (cell Part.Ports (i .0) r) refl)) (off-turn p k)) o
         record {
           services = λ j v e. absurd (true≢false (sym e));
           inputs = λ j e. absurd (true≢false (sym e));
-          outputs = λ j e z. off-not p (Queue.Output (task d)) f (ap Queue.Output (same-task (task d) j (eqb-true _ _ e)) ∙ z);
+          outputs = λ j e z. off-not p (Queue.Output i) f (ap Queue.Output (same-task i j (eqb-true _ _ e)) ∙ z);
         })
-        (same-queue s (Queue.Output (task d)) q hd (p .has))
+        (same-queue s (Queue.Output i) q hi (p .has))
 
-    output-done-words : Good s (output-done s im (task d) .image) → Balanced s im d c (output-done s im (task d) .reply) (output-done s im (task d) .image) q
+    output-done-words : Good s (output-done s im i .image) → Balanced s im c (output-done s im i .reply) (output-done s im i .image) q
     output-done-words =
-        done-any s im (task d) (λ o. Good s (o .image) → Balanced s im d c (o .reply) (o .image) q) (λ _ o. still p d c _ frame-none o (λ j. (refl, refl, refl)))
-        (λ _ _. went-on frame-none) (λ _ _. went-on (wakes (next-owner s im g (task d) hd (Woken.One (task d)) (λ _. refl) .lies)))
+        done-any s im i (λ o. Good s (o .image) → Balanced s im c (o .reply) (o .image) q) (λ _ o. still p c _ frame-none o (λ j. (refl, refl, refl)))
+        (λ _ _. went-on frame-none) (λ _ _. went-on (wakes (next-owner s im g i hi (Woken.One i) (λ _. refl) .lies)))
 
 -- whatever event comes, every buffer is balanced
 pub event-words : (s : Shape) (im : List ℕ) → Good s im → (q : Queue) → Has s q → q ≢ Queue.Ready → (k d c : ℕ)
-    → Balanced s im d c (happening s im (event-of s k d c) .reply) (happening s im (event-of s k d c) .image) q
+    → Balanced s im c (happening s im (event-of s k d c) .reply) (happening s im (event-of s k d c) .image) q
 unfolding happening
 event-words s im g q hq ne k d c =
     let p = buffered s q hq ne in
-    words-any s k d c (λ e. Good s (happening s im e .image) → Balanced s im d c (happening s im e .reply) (happening s im e .image) q) (λ _ _. tick-words s im g p d c)
-    (λ _ hd _. input-words s im g p d c hd) (λ _ hd. output-done-words s im g p d c hd) (λ _ o. still p d c _ frame-none o (λ j. (refl, refl, refl))) (words-good s im g k d c)
+    words-any s k d c (λ e. Good s (happening s im e .image) → Balanced s im c (happening s im e .reply) (happening s im e .image) q) (λ _ _. tick-words s im g p c)
+    (λ _ hd _. input-words s im g p c (task d) hd) (λ _ hd. output-done-words s im g p c (task d) hd) (λ _ o. still p c _ frame-none o (λ j. (refl, refl, refl))) (words-good s im g k d c)
 
 -- so of a call of event
 module _ (s : Shape) (im : List ℕ) (g : Good s im) (x y z : ℕ) (r : Reply) (after : List ℕ) (h : Happens im x y z r after) where
   pub call-good : Good s after
   call-good = rw (h .left, event-is s im g x y z) (words-good s im g x y z)
 
-  pub call-words : (q : Queue) → Has s q → q ≢ Queue.Ready → Balanced s im y z r after q
+  pub call-words : (q : Queue) → Has s q → q ≢ Queue.Ready → Balanced s im z r after q
   call-words q hq ne = rw (h .answered, h .left, event-is s im g x y z) (event-words s im g q hq ne x y z)
 
 -- and of calls one after another, refused ones among them: what a buffer held at the start and then all words sent to it
