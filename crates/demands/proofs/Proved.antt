@@ -1,4 +1,4 @@
--- The three demands hold. Assumes nothing.
+-- The three demands hold, and requests 2 and 5. Assumes nothing.
 use mathlib.Core.Path.{_≡_, refl, sym, ap, _∙_}
 use mathlib.Core.List.{List}
 use mathlib.Core.Logic.{_≢_}
@@ -18,10 +18,15 @@ use Rattle.paper.specs.declared.Size.{Size}
 use Rattle.paper.specs.declared.Verdict.{Verdict}
 use Rattle.laws.specs.Checked.{checked-good, good-checked, zero-is, then-fine, check-zero}
 use Rattle.laws.specs.Fresh.{fresh-checked}
+use Rattle.laws.specs.Events.{event-formed}
+use Rattle.laws.specs.Room.{good-listed, listed-none, waits-not}
 use Rattle.event_laws.specs.Stays.{words-good}
+use Rattle.event_laws.specs.Wakes.{wake-finds-room}
 use Rattle.user_laws.specs.Folded.{event-is, event-unchanged, run-refused}
-use Rattle.user_laws.specs.Delivery.{receive-waits, waits-untouched, sent-kind, sent-held, received-kind, received-word, received-held, word-arrives}
-use Rattle.demands.specs.Demands.{due, run-tests, Demand1, Asks, Demand2, Demand3, Demands}
+use Rattle.user_laws.specs.Words.{calls-good, calls-words}
+use Rattle.user_laws.specs.Asked.{asked-waits, asked-done}
+use Rattle.user_laws.specs.Waiting.{calls-stay}
+use Rattle.demands.specs.Demands.{due, run-tests, word-of, Demand1, Asks, Demand2, Demand3, Request5, Demands}
 use Rattle.demands.proofs.Numbers.{image-due, plan-due, build-due, run-due, exactly, call-due}
 use Rattle.demands.proofs.AsCalls.{is-calls, took-whole, stopped-at as stops}
 use Rattle.demands.proofs.Turns.{turn}
@@ -102,6 +107,9 @@ accepted-checked im k d c = go (check im)
 passing : (im : List ℕ) → check im ≡ Verdict.Fine → Checks im 0
 passing im e = record { answered = rw e }
 
+passed : (im : List ℕ) → Checks im 0 → Good (shape-of im) im
+passed im w = check-zero im .0 (sym (w .answered))
+
 -- a tick on a good image
 ticks : (s : Shape) (im : List ℕ) → Good s im → event im 0 0 0 ≡ accepting (tick s im)
 unfolding event-of happening
@@ -123,8 +131,8 @@ demand2 =
     record {
       passes = λ im number p. rw (p .answered) (check-zero im);
       refused = λ im k d c answer after w p.
-          rw (p .answered, event-is (shape-of im) im (check-zero im .0 (sym (w .answered))) k d c) (exactly (shape-of im) im (event-of (shape-of im) k d c));
-      every-tick = λ im answer after w p. p .numbered ∙ ap (λ (o : Outcome). reply-number (o .reply)) (ticks (shape-of im) im (check-zero im .0 (sym (w .answered))));
+          rw (p .answered, event-is (shape-of im) im (passed im w) k d c) (exactly (shape-of im) im (event-of (shape-of im) k d c));
+      every-tick = λ im answer after w p. p .numbered ∙ ap (λ (o : Outcome). reply-number (o .reply)) (ticks (shape-of im) im (passed im w));
       measured = λ plan answer p e. p .answered ∙ plan-words plan (zero-is (check-plan plan) .0 (plan-due plan ∙ e));
       built = λ plan target number after p e.
           let f = build-fresh plan target (zero-is (check-build plan target) .0 (build-due plan target ∙ e)) in
@@ -139,28 +147,19 @@ demand2 =
       ran = λ im events answer after p e none.
           let f = run-fine im events e in
           (is-calls im events answer after p f, took-whole im events answer after p f none);
-      received-nothing = λ s im answer after w small none.
-          let g = good s im Service.Receive answer after w in
-          let e : kind (tick s im .answer) ≡ 4 = receive-waits s im g (w .some) (w .runs) (w .asks) .1 (small, none) in
-          rw (told s im Service.Receive answer after w, left s im Service.Receive answer after w)
-          (e, waits-untouched s im g (w .some) (w .runs) Service.Receive (w .asks) e);
-      sent-word = λ s im answer after w small room.
-          let g = good s im Service.Send answer after w in
-          rw (told s im Service.Send answer after w, left s im Service.Send answer after w)
-          (sent-kind s im g (w .some) (w .runs) small (w .asks) room, sent-held s im g (w .some) (w .runs) small (w .asks) room);
-      received-word = λ s im answer after w small x later holds.
-          let g = good s im Service.Receive answer after w in
-          rw (told s im Service.Receive answer after w, left s im Service.Receive answer after w) (
-            received-kind s im g (w .some) (w .runs) small (w .asks) x later holds,
-            received-word s im g (w .some) (w .runs) small (w .asks) x later holds,
-            received-held s im g (w .some) (w .runs) small (w .asks) x later holds,
-          );
-      arrived-word = λ s im later a b after end v w to from none between.
-          let g = good s im Service.Send a after v in
-          let g′ = good s later Service.Receive b end w in
-          let kept = rw (left s im Service.Send a after v) at between in
-          let r = word-arrives s im later g g′ (v .some) (w .some) (v .runs) (w .runs) (v .asks) (w .asks) to from (rw to at none) (rw to at kept) in
-          rw (told s later Service.Receive b end w, left s later Service.Receive b end w) (r .1, r .0);
+      waiting = λ s im v answer after w right stuck.
+          let g = good s im v answer after w in
+          let t = asked-waits s im g (w .some) (w .runs) v (w .asks) right stuck in
+          rw (told s im v answer after w, left s im v answer after w) (ap kind (t .0), t .1);
+      stays = λ events count c w i v hi waits n h none.
+          let s = shape-of (c .image 0) in
+          let g = passed (c .image 0) w in
+          let u = calls-stay s (c .image) (word-of events) (c .reply) count g (c .kept) i hi v waits n h none in
+          let end = calls-good s (c .image) (word-of events) (c .reply) count g (c .kept) n h in
+          (u, listed-none s (c .image n) (good-listed end) i hi (λ z. waits-not v (sym z ∙ u .status ∙ waits)));
+      done = λ s im v answer after w right clear.
+          rw (told s im v answer after w) (ap kind (asked-done s im (good s im v answer after w) (w .some) (w .runs) v (w .asks) right clear));
+      words = λ events count c w. calls-words (shape-of (c .image 0)) (c .image) (word-of events) (c .reply) count (passed (c .image 0) w) (c .kept);
     }
 
 demand3 : Demand3
@@ -173,5 +172,8 @@ demand3 =
           (r, turn events (answer .taken) (r .calls) i k (rw (r .starts) w));
     }
 
+request5 : Request5
+request5 = record { finds-room = λ im k d c w. wake-finds-room (shape-of im) im (passed im w) (event-of (shape-of im) k d c) (event-formed (shape-of im) k d c) }
+
 pub demands : Demands
-demands = record { first = demand1; second = demand2; third = demand3; request-2 = request2 }
+demands = record { first = demand1; second = demand2; third = demand3; request-2 = request2; request-5 = request5 }

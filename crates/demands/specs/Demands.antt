@@ -1,4 +1,4 @@
--- The three demands, with request 2, in the user's order and words, of whatever any program may do that keeps the promises of the public calls:
+-- The three demands, with requests 2 and 5, in the user's order and words, of whatever any program may do that keeps the promises of the public calls:
 -- the records Checks, Measures, Builds, Happens and Runs (crates/paper/specs/Promises.antt), which the contracts of crates/kernel name.
 -- What stands in quotes is the user's or the paper's. All of it is proved, in proofs/Proved.antt, and nothing is assumed.
 use mathlib.Core.Path.{_≡_}
@@ -8,13 +8,13 @@ use mathlib.Core.Logic.{_≢_, _↔_, _⊎_}
 use Prim.Native.Nat.{ℕ, zero, suc, _+_, _-_, _*_, _%_, _<_, _≤_}
 use lib.Dec.{eqb}
 use lib.ListN.{length, getD}
-use Rattle.paper.specs.Image.{total, shape-of, at, clock, reg, busy}
-use Rattle.paper.specs.Queues.{held, empty, full}
+use Rattle.paper.specs.Image.{total, shape-of, at, clock, status, busy}
+use Rattle.paper.specs.Queues.{Has, held, empty, full}
 use Rattle.paper.specs.Flags.{pending, waits}
-use Rattle.paper.specs.Services.{other}
+use Rattle.paper.specs.Services.{fault-of, blocked}
 use Rattle.paper.specs.Events.{event-of, running, happening}
 use Rattle.paper.specs.Plans.{plan-shape, fresh}
-use Rattle.paper.specs.Rules.{Empty, Full, Good}
+use Rattle.paper.specs.Rules.{Full, times, Good}
 use Rattle.paper.specs.Tests.{rules-hold}
 use Rattle.paper.specs.Numbers.{verdict-number, kind, reply-number, reply-values, too-short, not-marked, out-of-range, not-packed, wrong-segments, plan-short, plan-broken}
 use Rattle.paper.specs.Calls.{size-number}
@@ -23,11 +23,18 @@ use Rattle.paper.specs.declared.Task.{Task}
 use Rattle.paper.specs.declared.Shape.{Shape}
 use Rattle.paper.specs.declared.Queue.{Queue}
 use Rattle.paper.specs.declared.Service.{Service}
+use Rattle.paper.specs.declared.Fault.{Fault}
+use Rattle.paper.specs.declared.Woken.{Woken}
 use Rattle.paper.specs.declared.Event.{Event}
 use Rattle.paper.specs.declared.Reply.{Reply}
 use Rattle.paper.specs.declared.Size.{Size}
 use Rattle.paper.specs.declared.Ended.{Ended}
+use Rattle.event_laws.specs.Standing.{awaits}
+use Rattle.event_laws.specs.Wakes.{whom, Unmoved}
 use Rattle.user_laws.specs.Taken.{first-events}
+use Rattle.user_laws.specs.Words.{all-sent, all-got}
+use Rattle.user_laws.specs.Asked.{BeginsToWait}
+use Rattle.user_laws.specs.Waiting.{for-it}
 use Rattle.bound.specs.Bound.{Behind, bound, IsFirst, Untouched, tick-count, if-accepted}
 
 -- "NUMBERS THAT COME BACK"
@@ -144,12 +151,17 @@ pub record Asks (s : Shape) (im : List ℕ) (v : Service) (answer : Reply) (afte
   pub asks : pending s im (running s im) ≡ waits v
   pub ticks : Happens im 0 0 0 answer after
 
--- the message buffers between it and the task that its R2 names
-abbrev pub outgoing : Shape → List ℕ → Queue
-outgoing s im = Queue.Message (running s im) (other s im (running s im))
+module _ {events : List ℕ} {count : ℕ} (c : Calls events count) where
+  -- the words that the first n calls put into a queue, and those that came out of it
+  abbrev pub sent-in : Queue → ℕ → List ℕ
+  sent-in q n = all-sent (shape-of (c .image 0)) (c .image) (word-of events) (c .reply) q n
 
-abbrev pub incoming : Shape → List ℕ → Queue
-incoming s im = Queue.Message (other s im (running s im)) (running s im)
+  abbrev pub got-in : Queue → ℕ → List ℕ
+  got-in q n = all-got (shape-of (c .image 0)) (c .image) (word-of events) (c .reply) q n
+
+  -- the words that came in them for task i, which waits with service v where the calls begin
+  abbrev pub came-for : Task → Service → ℕ → List ℕ
+  came-for i v n = for-it v (sent-in (awaits (shape-of (c .image 0)) (c .image 0) i v) n) (got-in (awaits (shape-of (c .image 0)) (c .image 0) i v) n)
 
 pub record Demand2 : Type 0 where
   -- an image passes exactly when it keeps every rule, and there an event is refused exactly for a fault of its own, a tick never
@@ -168,22 +180,22 @@ pub record Demand2 : Type 0 where
   -- a run with number 0 is calls on all of its events
   pub ran : (im events : List ℕ) (answer : Ended) (after : List ℕ) → Runs im events answer after → due (run-tests im events) ≡ 0
       → verdict-number (answer .stop) ≡ 0 → IsCalls im events answer after × (3 * answer .taken ≡ length events)
-  -- a receive on an empty queue: kind 4, and no register and no flags of any task change
-  pub received-nothing : (s : Shape) (im : List ℕ) (answer : Reply) (after : List ℕ) → Asks s im Service.Receive answer after
-      → other s im (running s im) .0 < s .n → Empty s im (incoming s im)
-      → Tells answer 4 × ((i : Task) (r : ℕ) → i .0 < s .n → r < 9 → at s after (reg i r) ≡ at s im (reg i r))
-  -- any word, 0 among them: a send puts that in R3 behind the words held; a receive takes the first word held to R3; both answer kind 3
-  pub sent-word : (s : Shape) (im : List ℕ) (answer : Reply) (after : List ℕ) → Asks s im Service.Send answer after
-      → other s im (running s im) .0 < s .n → full s im (outgoing s im) ≡ false
-      → Tells answer 3 × (held s after (outgoing s im) ≡ held s im (outgoing s im) ++ (at s im (reg (running s im) 3) ∷ []))
-  pub received-word : (s : Shape) (im : List ℕ) (answer : Reply) (after : List ℕ) → Asks s im Service.Receive answer after
-      → other s im (running s im) .0 < s .n → (w : ℕ) (later : List ℕ) → held s im (incoming s im) ≡ w ∷ later
-      → Tells answer 3 × (at s after (reg (running s im) 3) ≡ w) × (held s after (incoming s im) ≡ later)
-  -- so the word that was sent is the word that arrives: where the buffer was empty, and held the same at the receive as after the send
-  pub arrived-word : (s : Shape) (im later : List ℕ) (a b : Reply) (after end : List ℕ) → Asks s im Service.Send a after → Asks s later Service.Receive b end
-      → other s im (running s im) ≡ running s later → other s later (running s later) ≡ running s im
-      → held s im (outgoing s im) ≡ [] → held s later (outgoing s im) ≡ held s after (outgoing s im)
-      → Tells b 3 × (at s end (reg (running s later) 3) ≡ at s im (reg (running s im) 3))
+  -- a service that is not wrong waits where its buffer stops it, a receive or an input where it is empty: the answer is 4, status and peer are set,
+  -- the task leaves the ready queue, and no register and no flags of any task change
+  pub waiting : (s : Shape) (im : List ℕ) (v : Service) (answer : Reply) (after : List ℕ) → Asks s im v answer after
+      → fault-of s im (running s im) v ≡ Fault.Nothing → blocked s im (running s im) v ≡ true → Tells answer 4 × BeginsToWait s im (running s im) v after
+  -- it stays so, and out of the ready queue, until a word comes for it, whatever events come
+  pub stays : (events : List ℕ) (count : ℕ) (c : Calls events count) → Checks (c .image 0) 0 → (i : Task) (v : Service)
+      → i .0 < shape-of (c .image 0) .n → at (shape-of (c .image 0)) (c .image 0) (status i) ≡ waits v → (n : ℕ) → n ≤ count → came-for c i v n ≡ []
+      → Unmoved (shape-of (c .image 0)) (c .image 0) (c .image n) i × (times (i .0) (held (shape-of (c .image 0)) (c .image n) Queue.Ready) ≡ 0)
+  -- and where its buffer does not stop it, it is done: the answer is 3
+  pub done : (s : Shape) (im : List ℕ) (v : Service) (answer : Reply) (after : List ℕ) → Asks s im v answer after
+      → fault-of s im (running s im) v ≡ Fault.Nothing → blocked s im (running s im) v ≡ false → Tells answer 3
+  -- of any calls of event, and so of a run: what a buffer held and then every word sent to it is every word got from it and then what it holds,
+  -- none lost, none made up, in order, 0 among them; of output up to the port
+  pub words : (events : List ℕ) (count : ℕ) (c : Calls events count) → Checks (c .image 0) 0 → (q : Queue) → Has (shape-of (c .image 0)) q → q ≢ Queue.Ready
+      → (n : ℕ) → n ≤ count
+      → held (shape-of (c .image 0)) (c .image 0) q ++ sent-in c q n ≡ got-in c q n ++ held (shape-of (c .image 0)) (c .image n) q
 
 -- DEMAND 3, with the bound of request 2
 -- "From an image that passes the check, slice S, c left on the clock, a ready task with k >= 1 others ahead: whatever mix of events comes, it stands
@@ -271,9 +283,18 @@ pub record Request2 : Type 0 where
   pub slice-used : (events : List ℕ) (count : ℕ) (c : Calls events count) → Checks (c .image 0) 0
       → (m n : ℕ) → m < n → n < count → Tells (c .reply m) 2 → Undisturbed c (suc m) n → Tells (c .reply n) 2 → UsesSlice c m n
 
+-- REQUEST 5
+-- "Show from the rules of a good image that a wake always finds room"
+
+pub record Request5 : Type 0 where
+  -- whom an event wakes is a task that is not in the ready queue, and of the queue's N slots one is free
+  pub finds-room : (im : List ℕ) (k d c : ℕ) → Checks im 0 → (i : Task) → whom (shape-of im) im (event-of (shape-of im) k d c) ≡ Woken.One i
+      → (i .0 < shape-of im .n) × (times (i .0) (held (shape-of im) im Queue.Ready) ≡ 0) × (length (held (shape-of im) im Queue.Ready) < shape-of im .n)
+
 -- what the user signs
 pub record Demands : Type 0 where
   pub first : Demand1
   pub second : Demand2
   pub third : Demand3
   pub request-2 : Request2
+  pub request-5 : Request5
