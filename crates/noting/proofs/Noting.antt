@@ -1,21 +1,20 @@
 -- What the functions that note come to. Assumes nothing.
-use mathlib.Core.Path.{_≡_, ap}
+use mathlib.Core.Path.{_≡_}
 use mathlib.Core.List.{List}
 use mathlib.Core.Bool.{Bool, true, false}
 use mathlib.Core.Logic.{_≢_}
 use Prim.Native.Nat.{ℕ, _+_, _-_, _*_, _<_}
 use native.Mathlib.Omega.{arith}
 use lib.ListN.{length}
-use Rattle.paper.specs.Image.{most-tasks}
+use Rattle.paper.specs.Image.{task, most-tasks}
 use Rattle.paper.specs.Numbers.{answer-task}
-use Rattle.paper.specs.Counts.{tally, headings, idle-count, all-counts, count-place, grown, counted}
+use Rattle.paper.specs.Counts.{tally, headings, all-counts, count-place, grown, counted}
 use Rattle.paper.specs.declared.Task.{Task}
 use Rattle.paper.specs.declared.Heading.{Heading}
 use Rattle.paper.specs.declared.Answer.{Answer}
-use Rattle.paper.specs.declared.Reply.{Reply}
 use Rattle.counting.specs.Room.{Room}
 use Rattle.counting.specs.Growing.{grown-length, room-less, room-grown}
-use Rattle.noting.specs.Noted.{counted-by, Within, orders-counted, Ledger}
+use Rattle.noting.specs.Noted.{orders-counted, Ledger}
 use Rattle.noting.specs.Ledgers.{ledger-kept, row-place}
 
 -- where there are counts, each of them is there
@@ -26,21 +25,14 @@ ledger-there counts l ne k h = omega (arith, l ne)
 pub ledger-as : (counts some : List ℕ) (k n : ℕ) → Ledger counts → some ≡ grown counts k n → Ledger some
 ledger-as counts some k n l e = rw e (ledger-kept counts (grown counts k n) l (grown-length counts k n))
 
--- a reply that accepts: its place is one of all, and there it is noted
-module _ (r : Reply) (a : Answer) (er : r ≡ Reply.Accepted a) where
-  pub named-place : Within r → (b : Answer) → a ≡ b → (c k : ℕ) → k ≡ headings * answer-task b + c → c < headings → k < all-counts
-  unfolding Within
-  named-place w b eb c k ek few =
-      let low : answer-task a < most-tasks = rw er at w in
-      let same : answer-task a ≡ answer-task b = ap answer-task eb in
-      omega (arith, ek, low, same)
+-- an answer: its place is one of all, and there it is noted
+module _ (a b : Answer) (e : a ≡ b) where
+  pub named-place : answer-task a < most-tasks → (c k : ℕ) → k ≡ headings * answer-task b + c → c < headings → k < all-counts
+  named-place low c k ek few = row-place (task (answer-task b)) c k ek few (rw (← e) low)
 
-  pub named-counted : (b : Answer) → a ≡ b → (counts out : List ℕ) (j k : ℕ) → j ≡ k → out ≡ grown counts j 1 → grown counts k 1 ≡ counted counts (tally b)
-      → out ≡ counted-by counts r
-  named-counted b eb counts out j k ek eo et = rw (er, eb, ← et, ← ek) eo
-
-  pub nobody-counted : (counts out : List ℕ) → a ≡ Answer.Idle → out ≡ grown counts idle-count 1 → out ≡ counted-by counts r
-  nobody-counted counts out ea eo = rw (er, ea) eo
+  pub named-counted : (counts out : List ℕ) (j k : ℕ) → j ≡ k → out ≡ grown counts j 1 → grown counts k 1 ≡ counted counts (tally b)
+      → out ≡ counted counts (tally a)
+  named-counted counts out j k ek eo et = rw (e, ← et, ← ek) eo
 
 -- orders in a row are noted
 module _ (counts : List ℕ) (i : Task) (n : ℕ) where

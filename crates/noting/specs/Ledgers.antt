@@ -1,18 +1,16 @@
--- Laws of lent counts, all of them or none, and of what is noted there. Assumes nothing.
-use mathlib.Core.Path.{_≡_, refl, sym, ap, _∙_}
+-- Laws of lent counts, all of them or none. Assumes nothing.
+use mathlib.Core.Path.{_≡_, sym, ap, _∙_}
 use mathlib.Core.List.{List}
 use mathlib.Core.Bool.{Bool, true, false}
 use Prim.Native.Nat.{ℕ, _+_, _-_, _*_, _<_}
 use native.Mathlib.Omega.{arith}
 use lib.ListN.{length}
 use Rattle.paper.specs.Image.{most-tasks}
-use Rattle.paper.specs.Counts.{tally, headings, all-counts, count-place, grown}
+use Rattle.paper.specs.Counts.{headings, all-counts, count-place, grown}
 use Rattle.paper.specs.declared.Task.{Task}
 use Rattle.paper.specs.declared.Heading.{Heading}
-use Rattle.paper.specs.declared.Reply.{Reply}
-use Rattle.counting.specs.Room.{Room}
-use Rattle.counting.specs.Growing.{counted-length, counted-room, grown-out, room-less}
-use Rattle.noting.specs.Noted.{counted-by, orders-counted, Ledger}
+use Rattle.counting.specs.Growing.{grown-out}
+use Rattle.noting.specs.Noted.{orders-counted, Ledger}
 
 -- all of them, or none
 pub all-ledger : (counts : List ℕ) → length counts ≡ all-counts → Ledger counts
@@ -41,12 +39,3 @@ none-orders counts i n false z = none-grown counts (count-place i Heading.Orders
 -- a place of a task's row is one of all
 pub row-place : (i : Task) (c k : ℕ) → k ≡ headings * i .0 + c → c < headings → i .0 < most-tasks → k < all-counts
 row-place i c k ek few l = omega (arith, ek)
-
--- a reply that is noted: as many counts, and room for one tick less
-pub noted-length : (counts : List ℕ) (r : Reply) → length (counted-by counts r) ≡ length counts
-noted-length counts (Reply.Accepted a) = counted-length counts (tally a)
-noted-length counts (Reply.Refused f) = refl
-
-pub noted-room : (counts : List ℕ) (n : ℕ) → Room counts (1 + n) → (r : Reply) → Room (counted-by counts r) n
-noted-room counts n h (Reply.Accepted a) = counted-room counts n h (tally a)
-noted-room counts n h (Reply.Refused f) = room-less counts n (1 + n) h (omega arith)
