@@ -14,7 +14,7 @@ use Rattle.paper.specs.Flags.{error-of}
 use Rattle.paper.specs.Machines.{Machine, Lies, lies, own}
 use Rattle.paper.specs.Orders.{after, order, order-answer}
 use Rattle.paper.specs.Events.{tick}
-use Rattle.paper.specs.Counts.{count-place, grown}
+use Rattle.paper.specs.Counts.{tally, count-place, grown, counted}
 use Rattle.paper.specs.declared.Task.{Task}
 use Rattle.paper.specs.declared.Place.{Place}
 use Rattle.paper.specs.declared.Shape.{Shape}
@@ -22,7 +22,6 @@ use Rattle.paper.specs.declared.Part.{Part}
 use Rattle.paper.specs.declared.Queue.{Queue}
 use Rattle.paper.specs.declared.Heading.{Heading}
 use Rattle.paper.specs.declared.Answer.{Answer}
-use Rattle.paper.specs.declared.Reply.{Reply}
 use Rattle.own.specs.Machines.{past-others}
 use Rattle.laws.specs.Sound.{Sound, sound}
 use Rattle.laws.specs.Effects.{answer-told}
@@ -35,9 +34,8 @@ use Rattle.ticks.specs.Seated.{Sits, Seated, First, part-of}
 use Rattle.ticks.proofs.Row.{row-part, row-flags, in-a-row, row-sound, row-table}
 use Rattle.ticks.proofs.Ticked.{ticks-row, row-told, past-clock, row-held, row-leads}
 use Rattle.ticks.proofs.Tallying.{last-counted}
-use Rattle.ticks.specs.Ticks.{ticked}
-use Rattle.ticks.specs.Told.{by-flags, Told}
-use Rattle.noting.specs.Noted.{counted-by}
+use Rattle.ticks.specs.Ticks.{ticked, Told}
+use Rattle.ticks.specs.Rounds.{by-flags}
 use Rattle.ticks.specs.Tallied.{tallied, RowCounted}
 use Rattle.counting.specs.Growing.{grown-none, grown-twice}
 use Rattle.ticks.specs.declared.Seat.{Seat}
@@ -161,7 +159,7 @@ module _ (s : Shape) (im : List ℕ) (x : Seat) (h : Sound s im) (f : First s im
             named = rw out-is (row-leads s im t h (sits .rowed .known) some named n d);
           }
 
-  -- the orders of a row were ticks, and the flags tell the reply of the last
+  -- the orders of a row were ticks, and the flags tell the answer of the last
   module _ (low : at s im (flags t) < 4) (c most n : ℕ) (ec : c ≡ at s im clock) (en : n ≡ row-length (x .segment) (part-of r im) most) where
     calm : (k : ℕ) → k < n → at s (in-a-row s im t k) (flags t) < 4
     calm k hk =
@@ -181,29 +179,30 @@ module _ (s : Shape) (im : List ℕ) (x : Seat) (h : Sound s im) (f : First s im
         let is = out-is n p ep (c - n) out eo in
         let same : at s out (flags t) ≡ at s (in-a-row s im t (suc k)) (flags t) =
         rw is (past-clock s (in-a-row s im t n) (c - n) (flags t) (sits .rowed .known, omega arith) tt) ∙
-        ap (λ (j : ℕ). at s (in-a-row s im t j) (flags t)) e in (
-          some-taken,
-          rw is (ticks-row s im t h (sits .rowed .known) some named c ec n (omega (arith, orders-few)) calm),
-          rw same (row-told s im t h (sits .rowed .known) some named c ec k (omega (arith, orders-few)) (λ j hj. calm j (omega arith)) ∙ ap Reply.Accepted (row-answer k (calm k (omega arith)))),
-        )
+        ap (λ (j : ℕ). at s (in-a-row s im t j) (flags t)) e in
+        let a : by-flags (at s out (flags t)) t ≡ tick s (ticked s im k) .answer =
+        rw (row-told s im t h (sits .rowed .known) some named c ec k (omega (arith, orders-few)) (λ j hj. calm j (omega arith)), same) (sym (row-answer k (calm k (omega arith)))) in
+        let b : out ≡ tick s (ticked s im k) .image =
+        is ∙ sym (ticks-row s im t h (sits .rowed .known) some named c ec n (omega (arith, orders-few)) calm) ∙ ap (ticked s im) e in
+        (some-taken, rw (a, b))
 
     -- each but the last is done
-    row-done : most ≤ c → (k : ℕ) → suc k < n → tick s (ticked s im k) .reply ≡ Reply.Accepted (Answer.OrderDone t)
+    row-done : most ≤ c → (k : ℕ) → suc k < n → tick s (ticked s im k) .answer ≡ Answer.OrderDone t
     row-done within k hk =
         let none : error-of (at s (in-a-row s im t (suc k)) (flags t)) ≡ 0 = omega (arith, calm (suc k) hk) in
         row-told s im t h (sits .rowed .known) some named c ec k (omega (arith, orders-few)) (λ j hj. calm j (omega arith)) ∙
-        ap Reply.Accepted (row-answer k (calm k (omega arith)) ∙ ap (λ (b : Bool). cond b (Answer.OrderDone t) (Answer.OrderFaulted t)) (eq-eqb _ 0 none))
+        row-answer k (calm k (omega arith)) ∙ ap (λ (b : Bool). cond b (Answer.OrderDone t) (Answer.OrderFaulted t)) (eq-eqb _ 0 none)
 
     row-grown : most ≤ c → (counts : List ℕ) (k : ℕ) → k < n → tallied s im k counts ≡ grown counts (count-place t Heading.Orders) k
     unfolding tallied
     row-grown within counts zero hk = sym (grown-none counts (count-place t Heading.Orders))
     row-grown within counts (suc k) hk =
         let e : k + 1 ≡ suc k = omega arith in
-        ap (counted-by (tallied s im k counts)) (row-done within k hk) ∙
+        ap (λ (a : Answer). counted (tallied s im k counts) (tally a)) (row-done within k hk) ∙
         ap (λ (l : List ℕ). grown l (count-place t Heading.Orders) 1) (row-grown within counts k (omega arith)) ∙
         grown-twice counts (count-place t Heading.Orders) k 1 ∙ ap (grown counts (count-place t Heading.Orders)) e
 
-    -- so a row is counted as orders, the last as its reply says
+    -- so a row is counted as orders, the last as its answer says
     pub row-counted : 0 < most → most ≤ c → (p out : List ℕ) → p ≡ part-after (x .segment) (part-of r im) n → out ≡ put s (with-part r im p) clock (c - n)
         → RowCounted s im n t (at s out (flags t))
     unfolding Told RowCounted tallied
@@ -211,6 +210,6 @@ module _ (s : Shape) (im : List ℕ) (x : Seat) (h : Sound s im) (f : First s im
         let told = orders-told some-order within p out ep eo in
         let some-taken : 0 < n = told .0 in
         let e : n ≡ suc (n - 1) = omega arith in
-        ap (λ (j : ℕ). tallied s im j counts) e ∙ ap (counted-by (tallied s im (n - 1) counts)) (told .2) ∙
-        ap (λ (l : List ℕ). counted-by l (by-flags (at s out (flags t)) t)) (row-grown within counts (n - 1) (omega arith)) ∙
+        ap (λ (j : ℕ). tallied s im j counts) e ∙ ap (λ o. counted (tallied s im (n - 1) counts) (tally (o .answer))) (sym (told .1)) ∙
+        ap (λ (l : List ℕ). counted l (tally (by-flags (at s out (flags t)) t))) (row-grown within counts (n - 1) (omega arith)) ∙
         last-counted counts t n (at s out (flags t)) some-taken

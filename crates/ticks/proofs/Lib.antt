@@ -2,5 +2,5 @@ mod Lent
 mod Needs
 mod Row
 mod Ticked
-mod Telling
+pub mod Telling
 pub mod Tallying

@@ -7,13 +7,14 @@ use Prim.Native.Nat.{ℕ, _+_, _-_, _<_, _≤_, min}
 use native.Mathlib.Omega.{arith}
 use borrow.Author.Tests.{eq-eqb, ne-eqb, le-leb, lt-leb}
 use lib.ListN.{length}
-use Rattle.paper.specs.Image.{task, cell, place, at, reg, clock, flags}
+use Rattle.paper.specs.Image.{task, most-tasks, cell, place, at, reg, clock, flags}
 use Rattle.paper.specs.Queues.{empty, first}
 use Rattle.paper.specs.Flags.{error-of}
-use Rattle.paper.specs.Waking.{outcome, accepted}
+use Rattle.paper.specs.Waking.{answered}
 use Rattle.paper.specs.Rules.{Fit, Flagged}
 use Rattle.paper.specs.Events.{turned, turn-of, tick}
-use Rattle.paper.specs.Counts.{count-place, grown}
+use Rattle.paper.specs.Numbers.{answer-task}
+use Rattle.paper.specs.Counts.{tally, count-place, grown, counted}
 use Rattle.paper.specs.declared.Task.{Task}
 use Rattle.paper.specs.declared.Place.{Place}
 use Rattle.paper.specs.declared.Shape.{Shape}
@@ -21,8 +22,6 @@ use Rattle.paper.specs.declared.Part.{Part}
 use Rattle.paper.specs.declared.Queue.{Queue}
 use Rattle.paper.specs.declared.Heading.{Heading}
 use Rattle.paper.specs.declared.Answer.{Answer}
-use Rattle.paper.specs.declared.Refusal.{Refusal}
-use Rattle.paper.specs.declared.Reply.{Reply}
 use Rattle.laws.specs.Checked.{good-sound}
 use Rattle.laws.specs.Sound.{Sound, sound}
 use Rattle.laws.specs.Orders.{lies-apart}
@@ -35,13 +34,11 @@ use Rattle.machine.specs.InRow.{row-length}
 use Rattle.machine.specs.RowLength.{row-few}
 use Rattle.effects.specs.declared.Segment.{Segment}
 use Rattle.ticks.specs.Seated.{Seated, First, FirstIf, part-of}
-use Rattle.ticks.specs.Told.{by-flags, reply-of, stays-of, one-gone, gone, Told, AtMost}
-use Rattle.noting.specs.Noted.{counted-by, Within}
+use Rattle.ticks.specs.Ticks.{Told}
+use Rattle.ticks.specs.Rounds.{by-flags, answer-of, stays-of, gone}
 use Rattle.ticks.specs.Tallied.{tallied}
-use Rattle.ticks.proofs.Tallying.{tick-within, tallied-one}
-use Rattle.ticks.proofs.Telling.{told-one, told-none}
+use Rattle.ticks.proofs.Tallying.{tick-few}
 use Rattle.ticks.specs.declared.Came.{Came}
-use Rattle.ticks.specs.declared.Gone.{Gone}
 use Rattle.ticks.specs.declared.Seat.{Seat}
 
 -- what a good image gives the calls
@@ -97,58 +94,24 @@ module _ (s : Shape) (im : List ℕ) (x : Seat) (f : First s im x) where
   tick-is = rw (f .some, f .named)
 
   -- a rule that comes before an order
-  module _ (r : Reply) (out : List ℕ) (e : outcome r out ≡ turn-of s im (x .row .task)) where
-    is : outcome r out ≡ tick s im
-    is = e ∙ sym tick-is
+  module _ (a : Answer) (out : List ℕ) (e : answered a out ≡ turn-of s im (x .row .task)) where
+    pub rule-is : answered a out ≡ tick s im
+    rule-is = e ∙ sym tick-is
 
-    reply-is : r ≡ tick s im .reply
-    reply-is = ap (λ o. o .reply) is
+    -- its task has a row of counts
+    pub rule-few : Lawful s im → answer-task a < most-tasks
+    rule-few h = rw (ap (λ o. o .answer) rule-is) (tick-few s im h)
 
-    image-is : out ≡ tick s im .image
-    image-is = ap (λ o. o .image) is
-
-    pub rule-refused : (f : Refusal) → r ≡ Reply.Refused f → Told s im 0 (reply-of s out x (Came.Replied r)) out
-    unfolding reply-of
-    rule-refused f q = told-none s im out r reply-is image-is f q
-
-    pub none-gone : (f : Refusal) → r ≡ Reply.Refused f → record { taken = 0; came = Came.Replied r } ≡ one-gone s im
-    unfolding one-gone
-    none-gone f q = rw (← reply-is, q)
-
-    pub none-most : (f : Refusal) → r ≡ Reply.Refused f → AtMost 1 0 (reply-of s out x (Came.Replied r))
-    unfolding reply-of AtMost
-    none-most f q = rw q (omega arith)
-
-    pub rule-taken : (a : Answer) → r ≡ Reply.Accepted a → Told s im 1 (reply-of s out x (Came.Replied r)) out
-    unfolding reply-of
-    rule-taken a q = told-one s im out r reply-is image-is a q
-
-    pub one-most : (a : Answer) → r ≡ Reply.Accepted a → AtMost 1 1 (reply-of s out x (Came.Replied r))
-    unfolding reply-of AtMost
-    one-most a q = rw q (omega arith)
-
-    pub some-gone : (a : Answer) → r ≡ Reply.Accepted a → record { taken = 1; came = Came.Replied r } ≡ one-gone s im
-    unfolding one-gone
-    some-gone a q = rw (← reply-is, q)
-
-    -- it is counted
-    pub rule-within : Lawful s im → Within r
-    rule-within h = rw reply-is (tick-within s im h)
-
-    pub rule-counted : (counts more : List ℕ) → more ≡ counted-by counts r → more ≡ tallied s im 1 counts
-    rule-counted counts more em = em ∙ ap (counted-by counts) reply-is ∙ tallied-one s im counts
-
-    -- it leaves the first task first where its reply tells so
-    pub rule-stays : Lawful s im → (a : Answer) → r ≡ Reply.Accepted a → FirstIf (stays-of (Came.Replied r)) s out x
+    -- it leaves the first task first where its answer tells so
+    pub rule-stays : Lawful s im → FirstIf (stays-of (Came.Answered a)) s out x
     unfolding stays-of FirstIf First Seated
-    rule-stays h a q = go (stays-first r) refl
+    rule-stays h = go (stays-first a) refl
       where
-        go : (b : Bool) → stays-first r ≡ b → FirstIf b s out x
+        go : (b : Bool) → stays-first a ≡ b → FirstIf b s out x
         go false eb = tt
         go true eb =
-            let tells : stays-first (Reply.Accepted a) ≡ true = ap stays-first (sym q) ∙ eb in
-            let k = tick-stays s im (good h) (f .some) a (sym reply-is ∙ q) tells in
-            rw image-is
+            let k = tick-stays s im (good h) (f .some) (rw (ap (λ o. o .answer) rule-is) at eb) in
+            rw (ap (λ o. o .image) rule-is)
             (record {
               seated = record {
                 rowed = f .seated .rowed;
@@ -159,63 +122,58 @@ module _ (s : Shape) (im : List ℕ) (x : Seat) (f : First s im x) where
               named = k .1 ∙ f .named;
             })
 
-    pub rule-leaves : (g : Refusal) → r ≡ Reply.Refused g → FirstIf (stays-of (Came.Replied r)) s out x
-    unfolding stays-of FirstIf
-    rule-leaves g q = rw q tt
-
   -- the turn passes, with no error and no time left
   module _ (c d : ℕ) (ec : c ≡ at s im (flags (x .row .task))) (calm : c < 4) (ed : d ≡ at s im clock) (z : d ≡ 0) where
-    turn-passed : turn-of s im (x .row .task) ≡ accepted (Answer.TurnPassed (x .row .task)) (turned s im (x .row .task))
+    turn-passed : turn-of s im (x .row .task) ≡ answered (Answer.TurnPassed (x .row .task)) (turned s im (x .row .task))
     unfolding turn-of
     turn-passed =
         let none : error-of c ≡ 0 = omega arith in
         rw (← ec, eq-eqb (error-of c) 0 none, ← ed, eq-eqb d 0 z)
 
-    turn-is : tick s im ≡ accepted (Answer.TurnPassed (x .row .task)) (turned s im (x .row .task))
-    turn-is = tick-is ∙ turn-passed
+    pub turn-is : (out : List ℕ) → out ≡ turned s im (x .row .task) → answered (Answer.TurnPassed (x .row .task)) out ≡ tick s im
+    turn-is out eo = rw (eo, tick-is, turn-passed)
 
-    pub turn-told : (out : List ℕ) → out ≡ turned s im (x .row .task) → Told s im 1 (reply-of s out x (Came.Replied (Reply.Accepted (Answer.TurnPassed (x .row .task))))) out
-    unfolding reply-of
-    turn-told out eo = told-one s im out (Reply.Accepted (Answer.TurnPassed (x .row .task))) (rw turn-is) (rw turn-is eo) _ refl
+-- one tick by a rule, as its answer tells
+module _ (s : Shape) (im : List ℕ) (a : Answer) (out : List ℕ) (e : answered a out ≡ tick s im) where
+  pub one-counted : (counts more : List ℕ) → more ≡ counted counts (tally a) → more ≡ tallied s im 1 counts
+  unfolding tallied
+  one-counted counts more em = em ∙ ap (λ o. counted counts (tally (o .answer))) e
 
-    pub turn-counted : (counts more : List ℕ) (k : ℕ) → k ≡ count-place (x .row .task) Heading.PassedTurns → more ≡ grown counts k 1 → more ≡ tallied s im 1 counts
-    turn-counted counts more k ek em =
-        em ∙ ap (λ (j : ℕ). grown counts j 1) ek ∙ ap (λ o. counted-by counts (o .reply)) (sym turn-is) ∙ tallied-one s im counts
+  module _ (x : Seat) where
+    pub one-told : Told s im 1 (answer-of s out x (Came.Answered a)) out
+    unfolding Told answer-of
+    one-told = (omega arith, e)
 
-    pub turn-gone : (most : ℕ) → record { taken = 1; came = Came.Replied (Reply.Accepted (Answer.TurnPassed (x .row .task))) } ≡ gone s im x most
-    unfolding gone one-gone
-    turn-gone most = rw (← ec, lt-leb 4 c calm, ← ed, eq-eqb d 0 z, turn-is)
+    -- by a rule before an order, or by the turn
+    module _ (c d : ℕ) (ec : c ≡ at s im (flags (x .row .task))) (ed : d ≡ at s im clock) (most : ℕ) where
+      pub rule-gone : 4 ≤ c → record { taken = 1; came = Came.Answered a } ≡ gone s im x most
+      unfolding gone
+      rule-gone loud = rw (← ec, le-leb 4 c loud, ← e)
 
-  -- what ticks at once come to
-  module _ (c d : ℕ) (ec : c ≡ at s im (flags (x .row .task))) (ed : d ≡ at s im clock) (most : ℕ) where
-    pub rule-gone : (g : Gone) → 4 ≤ c → g ≡ one-gone s im → g ≡ gone s im x most
-    unfolding gone
-    rule-gone g loud e = rw (← ec, le-leb 4 c loud) e
+      pub turn-gone : c < 4 → d ≡ 0 → record { taken = 1; came = Came.Answered a } ≡ gone s im x most
+      unfolding gone
+      turn-gone calm z = rw (← ec, lt-leb 4 c calm, ← ed, eq-eqb d 0 z, ← e)
 
-    pub orders-gone : (n : ℕ) → c < 4 → d ≢ 0 → n ≡ row-length (x .segment) (part-of (x .row .place .0) im) (min most d)
-        → record { taken = n; came = Came.Ordered } ≡ gone s im x most
-    unfolding gone
-    orders-gone n calm time en = rw (← ec, lt-leb 4 c calm, ← ed, ne-eqb d 0 time, en)
+pub turn-counted : (s : Shape) (im out : List ℕ) (i : Task) → answered (Answer.TurnPassed i) out ≡ tick s im → (counts more : List ℕ) (k : ℕ) → k ≡ count-place i Heading.PassedTurns
+    → more ≡ grown counts k 1 → more ≡ tallied s im 1 counts
+turn-counted s im out i e counts more k ek em = one-counted s im _ out e counts more (rw (← ek) em)
 
--- what a turn, and what orders, come to
-module _ (s : Shape) (out : List ℕ) (x : Seat) where
-  pub turn-most : (most : ℕ) → 0 < most → AtMost most 1 (reply-of s out x (Came.Replied (Reply.Accepted (Answer.TurnPassed (x .row .task)))))
-  unfolding reply-of AtMost
-  turn-most most some = some
+pub turn-leaves : (s : Shape) (out : List ℕ) (x : Seat) → FirstIf (stays-of (Came.Answered (Answer.TurnPassed (x .row .task)))) s out x
+unfolding stays-of FirstIf
+turn-leaves s out x = tt
 
-  pub turn-leaves : FirstIf (stays-of (Came.Replied (Reply.Accepted (Answer.TurnPassed (x .row .task))))) s out x
-  unfolding stays-of FirstIf
-  turn-leaves = tt
+-- orders in a row
+module _ (s : Shape) (im : List ℕ) (x : Seat) where
+  pub orders-gone : (c d : ℕ) → c ≡ at s im (flags (x .row .task)) → d ≡ at s im clock → (most n : ℕ) → c < 4 → d ≢ 0
+      → n ≡ row-length (x .segment) (part-of (x .row .place .0) im) (min most d) → record { taken = n; came = Came.Ordered } ≡ gone s im x most
+  unfolding gone
+  orders-gone c d ec ed most n calm time en = rw (← ec, lt-leb 4 c calm, ← ed, ne-eqb d 0 time, en)
 
-  pub orders-most : (g : Segment) (p : List ℕ) (n most d : ℕ) → n ≡ row-length g p (min most d) → AtMost most n (reply-of s out x Came.Ordered)
-  unfolding reply-of AtMost
-  orders-most g p n most d e = omega (arith, row-few g p (min most d))
+  pub orders-answer : (out : List ℕ) (n : ℕ) → Told s im n (by-flags (at s out (flags (x .row .task))) (x .row .task)) out → Told s im n (answer-of s out x Came.Ordered) out
+  unfolding answer-of
+  orders-answer out n t = t
 
-  pub orders-reply : (im : List ℕ) (n : ℕ) → Told s im n (by-flags (at s out (flags (x .row .task))) (x .row .task)) out → Told s im n (reply-of s out x Came.Ordered) out
-  unfolding reply-of
-  orders-reply im n t = t
-
-  pub orders-stay : First s out x → FirstIf (stays-of Came.Ordered) s out x
+  pub orders-stay : First s im x → FirstIf (stays-of Came.Ordered) s im x
   unfolding stays-of FirstIf
   orders-stay f = f
 
@@ -236,13 +194,10 @@ module _ (s : Shape) (im : List ℕ) (x : Seat) where
   pub first-still : (c : Came) (b : Bool) → FirstIf (stays-of c) s im x → b ≡ stays-of c → not b ≡ false → First s im x
   first-still c b f eb e = still (stays-of c) f (ap not (sym eb) ∙ e)
 
--- the least of two numbers: where they are not 0 it is not, and what is at most that is at most each
+-- the least of two numbers: where they are not 0 it is not, and what is at most that is at most the second
 module _ (a b l : ℕ) (e : l ≡ min a b) where
   pub least-some : 0 < b → 0 < a → 0 < l
   least-some hb ha = omega (arith, e)
-
-  pub least-first : (n : ℕ) → n ≤ l → n ≤ a
-  least-first n h = omega (arith, e)
 
   pub least-second : (n : ℕ) → n ≤ l → n ≤ b
   least-second n h = omega (arith, e)
@@ -255,20 +210,20 @@ module _ (g : Segment) (p : List ℕ) (n l : ℕ) (e : n ≡ row-length g p l) w
   pub row-least : (a b : ℕ) → l ≡ min a b → n ≡ row-length g p (min a b)
   row-least a b el = rw (← el) e
 
--- the reply of what a tick came to
-module _ (s : Shape) (im : List ℕ) (x : Seat) (c : Came) (r : Reply) where
-  pub told-order : (f : ℕ) → c ≡ Came.Ordered → f ≡ at s im (flags (x .row .task)) → r ≡ by-flags f (x .row .task) → r ≡ reply-of s im x c
-  unfolding reply-of
-  told-order f ec ef er = rw (ec, ← ef) er
+-- the answer of what a tick came to
+module _ (s : Shape) (im : List ℕ) (x : Seat) (c : Came) (a : Answer) where
+  pub told-order : (f : ℕ) → c ≡ Came.Ordered → f ≡ at s im (flags (x .row .task)) → a ≡ by-flags f (x .row .task) → a ≡ answer-of s im x c
+  unfolding answer-of
+  told-order f ec ef ea = rw (ec, ← ef) ea
 
-  pub told-reply : c ≡ Came.Replied r → r ≡ reply-of s im x c
-  unfolding reply-of
-  told-reply ec = rw ec
+  pub told-answer : c ≡ Came.Answered a → a ≡ answer-of s im x c
+  unfolding answer-of
+  told-answer ec = rw ec
 
--- the reply of an order
+-- the answer of an order
 module _ (f e : ℕ) (i : Task) (ee : e ≡ error-of f) where
-  pub flags-done : e ≡ 0 → Reply.Accepted (Answer.OrderDone i) ≡ by-flags f i
+  pub flags-done : e ≡ 0 → Answer.OrderDone i ≡ by-flags f i
   flags-done z = rw (← ee, eq-eqb e 0 z)
 
-  pub flags-faulted : e ≢ 0 → Reply.Accepted (Answer.OrderFaulted i) ≡ by-flags f i
+  pub flags-faulted : e ≢ 0 → Answer.OrderFaulted i ≡ by-flags f i
   flags-faulted z = rw (← ee, ne-eqb e 0 z)

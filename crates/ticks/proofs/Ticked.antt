@@ -1,17 +1,16 @@
--- Laws of Ticks. Assumes nothing.
+-- Laws of ticks one after another; orders of the first task in a row are such. Assumes nothing.
 use mathlib.Core.Path.{_≡_, refl, sym, ap, _∙_}
 use mathlib.Core.List.{List}
-use mathlib.Core.Bool.{Bool, true, false, not}
-use mathlib.Core.Logic.{_⊎_, inl, inr}
+use mathlib.Core.Bool.{true, false, not}
 use Prim.Native.Nat.{ℕ, zero, suc, _+_, _-_, _<_, _≤_}
 use native.Mathlib.Omega.{arith}
-use borrow.Author.Tests.{ltb-true, ltb-false, ne-eqb}
-use lib.Dec.{T, T-not, eqb, ltb}
+use borrow.Author.Tests.{ne-eqb}
+use lib.Dec.{T, T-not, eqb}
 use lib.Seq.{set-set}
 use Rattle.paper.specs.Image.{ord, Valid, place, at, put, clock, flags}
 use Rattle.paper.specs.Queues.{head, count, slot, first, empty}
 use Rattle.paper.specs.Flags.{error, pending}
-use Rattle.paper.specs.Waking.{accepted}
+use Rattle.paper.specs.Waking.{answered}
 use Rattle.paper.specs.Orders.{order, order-answer}
 use Rattle.paper.specs.Events.{spent, ordered, turn-of, tick}
 use Rattle.paper.specs.declared.Task.{Task}
@@ -19,7 +18,6 @@ use Rattle.paper.specs.declared.Shape.{Shape}
 use Rattle.paper.specs.declared.Cell.{Cell}
 use Rattle.paper.specs.declared.Queue.{Queue}
 use Rattle.paper.specs.declared.Answer.{Answer}
-use Rattle.paper.specs.declared.Reply.{Reply}
 use Rattle.laws.specs.Cells.{at-same, at-other, put-held}
 use Rattle.laws.specs.Queues.{word-valid}
 use Rattle.laws.specs.Sound.{Sound, sound}
@@ -27,7 +25,7 @@ use Rattle.laws.specs.Agree.{own-clock, order-agrees, after-clock}
 use Rattle.laws.specs.Events.{Lawful, lawful, good}
 use Rattle.event_laws.specs.Stays.{tick-good}
 use Rattle.ticks.proofs.Row.{in-a-row, row-sound, row-empty, row-first}
-use Rattle.ticks.specs.Ticks.{Taken, Ticks, ticked}
+use Rattle.ticks.specs.Ticks.{ticked}
 
 -- ticks after ticks
 pub ticked-joined : (s : Shape) (im : List ℕ) (n k : ℕ) → ticked s im (n + k) ≡ ticked s (ticked s im n) k
@@ -38,74 +36,21 @@ ticked-joined s im n (suc k) =
     let e : n + suc k ≡ suc (n + k) = omega arith in
     ap (ticked s im) e ∙ ap (λ m. tick s m .image) (ticked-joined s im n k)
 
--- after no ticks the image is as it was
-pub ticks-none : (s : Shape) (im : List ℕ) → Ticks s im 0 im
-unfolding Ticks
-ticks-none s im = (refl, λ k h. absurd (omega arith))
-
--- a number below a sum is below the first, or past it by less than the second
-below-sum : (j n k : ℕ) → j < n + k → (j < n) ⊎ ((j ≡ n + (j - n)) × (j - n < k))
-below-sum j n k h = go (ltb j n) refl
-  where
-    go : (b : Bool) → ltb j n ≡ b → (j < n) ⊎ ((j ≡ n + (j - n)) × (j - n < k))
-    go true e = inl (ltb-true j n e)
-    go false e = inr (omega (arith, ltb-false j n e), omega (arith, ltb-false j n e))
-
--- ticks, and then more of them
-pub ticks-joined : (s : Shape) (im m out : List ℕ) (n k : ℕ) → Ticks s im n m → Ticks s m k out → Ticks s im (n + k) out
-unfolding Ticks
-ticks-joined s im m out n k a b =
-    (b .0 ∙ ap (λ x. ticked s x k) (a .0) ∙ sym (ticked-joined s im n k), λ j h. go j (below-sum j n k h))
-  where
-    go : (j : ℕ) → (j < n) ⊎ ((j ≡ n + (j - n)) × (j - n < k)) → Taken (tick s (ticked s im j) .reply)
-    go j (inl l) = a .1 j l
-    go j (inr (e, l)) =
-        let z : ticked s im j ≡ ticked s m (j - n) = ap (ticked s im) e ∙ ticked-joined s im n (j - n) ∙ ap (λ x. ticked s x (j - n)) (sym (a .0)) in
-        rw z (b .1 (j - n) l)
-
--- the last of k ticks that follow others
-pub ticked-last : (s : Shape) (im m : List ℕ) (n k : ℕ) → Ticks s im n m → 0 < k → ticked s im (n + k - 1) ≡ ticked s m (k - 1)
-unfolding Ticks
-ticked-last s im m n k t h =
-    let e : n + k - 1 ≡ n + (k - 1) = omega arith in
-    ap (ticked s im) e ∙ ticked-joined s im n (k - 1) ∙ ap (λ x. ticked s x (k - 1)) (sym (t .0))
-
--- one tick that was accepted
-pub one-tick : (s : Shape) (m out : List ℕ) (a : Answer) → Reply.Accepted a ≡ tick s m .reply → out ≡ tick s m .image → Ticks s m 1 out
-unfolding Ticks
-one-tick s m out a r e = (e, λ k h. go k h)
-  where
-    go : (k : ℕ) → k < 1 → Taken (tick s (ticked s m k) .reply)
-    go zero h = rw (← r) tt
-    go (suc k) h = absurd (omega arith)
-
--- one more tick
-ticks-more : (s : Shape) (im m out : List ℕ) (n : ℕ) → Ticks s im n m → (a : Answer) → Reply.Accepted a ≡ tick s m .reply → out ≡ tick s m .image
-    → Ticks s im (n + 1) out
-ticks-more s im m out n h a r e = ticks-joined s im m out n 1 h (one-tick s m out a r e)
-
 module _ (s : Shape) (im : List ℕ) (none : empty s im Queue.Ready ≡ true) where
   -- a tick of nobody changes nothing
-  pub idle-tick : tick s im ≡ accepted Answer.Idle im
+  pub idle-tick : tick s im ≡ answered Answer.Idle im
   unfolding tick
   idle-tick = rw none
 
   -- nor do more of them
-  pub ticks-idle : (n : ℕ) → Ticks s im n im
-  ticks-idle zero = ticks-none s im
-  ticks-idle (suc n) =
-      let e : n + 1 ≡ suc n = omega arith in
-      rw (← e) (ticks-more s im im im n (ticks-idle n) Answer.Idle (rw idle-tick) (rw idle-tick))
+  pub ticked-idle : (n : ℕ) → ticked s im n ≡ im
+  ticked-idle zero = refl
+  ticked-idle (suc n) = ap (λ (m : List ℕ). tick s m .image) (ticked-idle n) ∙ ap (λ t. t .image) idle-tick
 
 -- a lawful image stays lawful after so many ticks
-ticked-lawful : (s : Shape) (im : List ℕ) → Lawful s im → (n : ℕ) → Lawful s (ticked s im n)
+pub ticked-lawful : (s : Shape) (im : List ℕ) → Lawful s im → (n : ℕ) → Lawful s (ticked s im n)
 ticked-lawful s im h zero = h
 ticked-lawful s im h (suc n) = lawful (tick-good s (ticked s im n) (good (ticked-lawful s im h n)))
-
--- and so after ticks that were accepted
-pub ticks-lawful : (s : Shape) (im out : List ℕ) (n : ℕ) → Lawful s im → Ticks s im n out → Lawful s out
-unfolding Ticks
-ticks-lawful s im out n h t = rw (t .0) (ticked-lawful s im h n)
 
 -- whatever the clock says, a cell of another part holds what it held
 module _ (s : Shape) (m : List ℕ) (d : ℕ) where
@@ -159,7 +104,7 @@ module _ (s : Shape) (im : List ℕ) (i : Task) (h : Sound s im) (hi : i .0 < s 
 
   -- one more order
   row-tick : (k d : ℕ) → 0 < d → at s (in-a-row s im i k) (flags i) < 4
-      → tick s (row-at k d) ≡ accepted (order-answer i (order s (in-a-row s im i k) i)) (row-at (suc k) (d - 1))
+      → tick s (row-at k d) ≡ answered (order-answer i (order s (in-a-row s im i k) i)) (row-at (suc k) (d - 1))
   unfolding ordered spent
   row-tick k d time calm =
       let m = in-a-row s im i k in
@@ -171,21 +116,15 @@ module _ (s : Shape) (im : List ℕ) (i : Task) (h : Sound s im) (hi : i .0 < s 
 
   module _ (c : ℕ) (ec : c ≡ at s im clock) where
     -- n orders are n ticks, and the clock falls by n
-    pub ticks-row : (n : ℕ) → n ≤ c → ((k : ℕ) → k < n → at s (in-a-row s im i k) (flags i) < 4) → Ticks s im n (row-at n (c - n))
-    ticks-row zero l calm =
-        let z : put s im clock (c - 0) ≡ im = put-held s im clock (c - 0) (omega arith) in
-        rw z (ticks-none s im)
+    pub ticks-row : (n : ℕ) → n ≤ c → ((k : ℕ) → k < n → at s (in-a-row s im i k) (flags i) < 4) → ticked s im n ≡ row-at n (c - n)
+    ticks-row zero l calm = sym (put-held s im clock (c - 0) (omega arith))
     ticks-row (suc n) l calm =
-        let so = ticks-row n (omega arith) (λ k hk. calm k (omega arith)) in
-        let t = row-tick n (c - n) (omega arith) (calm n (omega arith)) in
-        let a : n + 1 ≡ suc n = omega arith in
-        let b : c - n - 1 ≡ c - (n + 1) = omega arith in
-        rw (← a, ← b) (ticks-more s im _ _ n so (order-answer i (order s (in-a-row s im i n) i)) (rw t) (rw t))
+        let b : c - n - 1 ≡ c - suc n = omega arith in
+        ap (λ (m : List ℕ). tick s m .image) (ticks-row n (omega arith) (λ k hk. calm k (omega arith))) ∙
+        ap (λ t. t .image) (row-tick n (c - n) (omega arith) (calm n (omega arith))) ∙ ap (row-at (suc n)) b
 
     -- and the last of them tells what the last order does
     pub row-told : (n : ℕ) → n < c → ((k : ℕ) → k < suc n → at s (in-a-row s im i k) (flags i) < 4)
-        → tick s (ticked s im n) .reply ≡ Reply.Accepted (order-answer i (order s (in-a-row s im i n) i))
-    unfolding Ticks
+        → tick s (ticked s im n) .answer ≡ order-answer i (order s (in-a-row s im i n) i)
     row-told n l calm =
-        let so : row-at n (c - n) ≡ ticked s im n = ticks-row n (omega arith) (λ k hk. calm k (omega arith)) .0 in
-        rw (← so) (ap (λ o. o .reply) (row-tick n (c - n) (omega arith) (calm n (omega arith))))
+        rw (ticks-row n (omega arith) (λ k hk. calm k (omega arith))) (ap (λ t. t .answer) (row-tick n (c - n) (omega arith) (calm n (omega arith))))

@@ -1,4 +1,4 @@
 pub mod Seated
 pub mod Ticks
-pub mod Told
+pub mod Rounds
 pub mod Tallied

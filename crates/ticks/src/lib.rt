@@ -4,8 +4,9 @@ ghost use mathlib.Core.Bool.{false};
 ghost use Prim.Native.Nat.{_<_, _≤_, min};
 ghost use Rattle.paper.specs.Image.{at as word-at, clock as clock-cell, flags as flags-cell};
 ghost use Rattle.paper.specs.Queues.{empty as empty-of};
-ghost use Rattle.paper.specs.declared.Answer.{Answer};
-ghost use Rattle.paper.specs.declared.Reply.{Reply};
+ghost use Rattle.paper.specs.Waking.{answered};
+ghost use Rattle.paper.specs.Events.{tick};
+ghost use Rattle.paper.specs.Counts.{tally, counted};
 ghost use Rattle.paper.specs.declared.Queue.the-variants.{Ready};
 ghost use Rattle.laws.specs.Events.{Lawful};
 ghost use Rattle.order_table.specs.Entries.{OrderTable};
@@ -15,15 +16,17 @@ ghost use Rattle.words.specs.Spots.{Rowed};
 ghost use Rattle.counting.specs.Room.{Room};
 ghost use Rattle.noting.specs.Noted.{orders-counted, Ledger};
 ghost use Rattle.ticks.specs.Tallied.{tallied, faulted-by, RowCounted};
-ghost use Rattle.ticks.specs.Told.{by-flags, reply-of, stays-of, one-gone, gone, Told, AtMost, Passes};
+ghost use Rattle.ticks.specs.declared.Came.the-variants.{Answered};
+ghost use Rattle.ticks.specs.Ticks.{Told};
+ghost use Rattle.ticks.specs.Rounds.{by-flags, answer-of, stays-of, gone};
 use counting::place_of;
 use effects::Segment;
 use events::before_order;
 use events::turn;
 use machine::orders;
 use noting::note;
+use noting::note_answer;
 use noting::note_orders;
-use noting::note_reply;
 use paper::Answer;
 use paper::BASE;
 use paper::ERROR;
@@ -34,7 +37,6 @@ use paper::IDLE_COUNT;
 use paper::LENGTH;
 use paper::NO_ERROR;
 use paper::Queue;
-use paper::Reply;
 use paper::Shape;
 use paper::Task;
 use results::error_of;
@@ -54,22 +56,16 @@ pub struct Seat {
     pub segment: Segment,
 }
 
-// What a tick came to: an order, whose reply the flags of its task tell; or a reply.
+// What a tick came to: an order, whose answer the flags of its task tell; or an answer.
 pub enum Came {
     Ordered,
-    Replied(Reply),
+    Answered(Answer),
 }
 
-// How many ticks were taken at once, and what the last of them came to, or the one that was refused.
+// How many ticks were taken at once, and what the last of them came to.
 pub struct Gone {
     pub taken: usize,
     pub came: Came,
-}
-
-// How many ticks were taken, and the reply of the last, or of the one that was refused.
-pub struct Passed {
-    pub taken: usize,
-    pub last: Reply,
 }
 
 // The seat of the first task, which there is.
@@ -127,14 +123,14 @@ fn run_orders(
     taken as usize
 }
 
-// The reply of an order after which the flags are f.
-fn by_flags(f: u16, t: Task) -> Reply
+// The answer of an order after which the flags are f.
+fn by_flags(f: u16, t: Task) -> Answer
     ensures { λ r. ⌜ r ≡ by-flags f t ⌝ }
 {
     if error_of(f) == NO_ERROR {
-        return Reply::Accepted(Answer::OrderDone(t));
+        return Answer::OrderDone(t);
     }
-    Reply::Accepted(Answer::OrderFaulted(t))
+    Answer::OrderFaulted(t)
 }
 
 // Whether the first task is first still after a tick.
@@ -143,13 +139,10 @@ fn stays(c: Came) -> bool
 {
     match c {
         Came::Ordered => true,
-        Came::Replied(r) => match r {
-            Reply::Accepted(a) => match a {
-                Answer::ServiceDone(_) => true,
-                Answer::ServiceFaulted(_) => true,
-                _ => false,
-            },
-            Reply::Refused(_) => false,
+        Came::Answered(a) => match a {
+            Answer::ServiceDone(_) => true,
+            Answer::ServiceFaulted(_) => true,
+            _ => false,
         },
     }
 }
@@ -170,7 +163,7 @@ fn note_row(s: Shape, im: &[u16], counts: &mut [u32], x: Seat, n: usize)
 }
 
 // A tick by a rule that comes before an order: the flags have an error or a service pending.
-fn rule(s: Shape, im: &mut [u16], counts: &mut [u32], x: Seat, flags: u16, clock: u16) -> Gone
+fn rule(s: Shape, im: &mut [u16], counts: &mut [u32], x: Seat, flags: u16, clock: u16) -> Answer
     requires { ⌜ Lawful s (now im) ⌝ }
     requires { ⌜ First s (now im) x ⌝ }
     requires { ⌜ flags ≡ word-at s (now im) (flags-cell (x .row .task)) ⌝ }
@@ -178,24 +171,13 @@ fn rule(s: Shape, im: &mut [u16], counts: &mut [u32], x: Seat, flags: u16, clock
     requires { ⌜ 4 ≤ flags ⌝ }
     requires { ⌜ Ledger (now counts) ⌝ }
     requires { ⌜ Room (now counts) 1 ⌝ }
-    ensures { λ r. ⌜ now (counts .exit) ≡ tallied s (now (im .entry)) (r .taken) (now (counts .entry)) ⌝ }
-    ensures { λ r. ⌜ r ≡ one-gone s (now (im .entry)) ⌝ }
-    ensures { λ r. ⌜ AtMost 1 (r .taken) (reply-of s (now (im .exit)) x (r .came)) ⌝ }
-    ensures { λ r. ⌜ Told s (now (im .entry)) (r .taken) (reply-of s (now (im .exit)) x (r .came)) (now (im .exit)) ⌝ }
-    ensures { λ r. ⌜ FirstIf (stays-of (r .came)) s (now (im .exit)) x ⌝ }
+    ensures { λ r. ⌜ now (counts .exit) ≡ counted (now (counts .entry)) (tally r) ⌝ }
+    ensures { λ r. ⌜ answered r (now (im .exit)) ≡ tick s (now (im .entry)) ⌝ }
+    ensures { λ r. ⌜ FirstIf (stays-of (Answered r)) s (now (im .exit)) x ⌝ }
 {
-    let last = before_order(s, im, x.row, flags, clock);
-    if let Reply::Refused(_) = last {
-        return Gone {
-            taken: 0,
-            came: Came::Replied(last),
-        };
-    }
-    note_reply(counts, last);
-    Gone {
-        taken: 1,
-        came: Came::Replied(last),
-    }
+    let a = before_order(s, im, x.row, flags, clock);
+    note_answer(counts, a);
+    a
 }
 
 // One tick by the rules of the first task, or orders of it in a row.
@@ -215,14 +197,17 @@ fn go_on(
     requires { ⌜ Room (now counts) most ⌝ }
     ensures { λ r. ⌜ now (counts .exit) ≡ tallied s (now (im .entry)) (r .taken) (now (counts .entry)) ⌝ }
     ensures { λ r. ⌜ r ≡ gone s (now (im .entry)) x most ⌝ }
-    ensures { λ r. ⌜ AtMost most (r .taken) (reply-of s (now (im .exit)) x (r .came)) ⌝ }
-    ensures { λ r. ⌜ Told s (now (im .entry)) (r .taken) (reply-of s (now (im .exit)) x (r .came)) (now (im .exit)) ⌝ }
+    ensures { λ r. ⌜ r .taken ≤ most ⌝ }
+    ensures { λ r. ⌜ Told s (now (im .entry)) (r .taken) (answer-of s (now (im .exit)) x (r .came)) (now (im .exit)) ⌝ }
     ensures { λ r. ⌜ FirstIf (stays-of (r .came)) s (now (im .exit)) x ⌝ }
 {
     let flags = own(s, im, x.row, FLAGS);
     let clock = get(s, im, Spot::Clock);
     if ERROR <= flags {
-        return rule(s, im, counts, x, flags, clock);
+        return Gone {
+            taken: 1,
+            came: Came::Answered(rule(s, im, counts, x, flags, clock)),
+        };
     }
     if clock == 0 {
         let t = x.row.task;
@@ -230,7 +215,7 @@ fn go_on(
         note(counts, place_of(t, Heading::PassedTurns), 1);
         return Gone {
             taken: 1,
-            came: Came::Replied(Reply::Accepted(Answer::TurnPassed(t))),
+            came: Came::Answered(Answer::TurnPassed(t)),
         };
     }
     let taken = run_orders(s, im, table, x, clock, most);
@@ -241,78 +226,56 @@ fn go_on(
     }
 }
 
-// The reply of a tick that came to something.
-fn told(s: Shape, im: &[u16], x: Seat, c: Came) -> Reply
+// The answer of a tick that came to something.
+fn told(s: Shape, im: &[u16], x: Seat, c: Came) -> Answer
     requires { ⌜ Lawful s (now im) ⌝ }
     requires { ⌜ Rowed s (x .row) ⌝ }
-    ensures { λ r. ⌜ r ≡ reply-of s (now (im .entry)) x c ⌝ }
+    ensures { λ r. ⌜ r ≡ answer-of s (now (im .entry)) x c ⌝ }
 {
     match c {
         Came::Ordered => by_flags(own(s, im, x.row, FLAGS), x.row.task),
-        Came::Replied(r) => r,
+        Came::Answered(a) => a,
     }
 }
 
-// So many ticks with nobody ready.
-fn idled(most: usize) -> Passed
-    ensures { λ r. ⌜ (r .taken ≡ most) × (r .last ≡ Reply.Accepted Answer.Idle) ⌝ }
-{
-    Passed {
-        taken: most,
-        last: Reply::Accepted(Answer::Idle),
-    }
-}
-
-// At most so many ticks, up to one that is refused; they are counted, where there are counts.
+// So many ticks: the answer of the last. They are counted, where there are counts.
 pub fn ticks(
     s: Shape,
     im: &mut [u16],
     table: &[u16; HIGH_BYTES],
     counts: &mut [u32],
-    most: usize,
-) -> Passed
+    n: usize,
+) -> Answer
     requires { ⌜ Lawful s (now im) ⌝ }
     requires { ⌜ OrderTable (now table) ⌝ }
-    requires { ⌜ 0 < most ⌝ }
+    requires { ⌜ 0 < n ⌝ }
     requires { ⌜ Ledger (now counts) ⌝ }
-    requires { ⌜ Room (now counts) most ⌝ }
-    ensures { λ r. ⌜ now (counts .exit) ≡ tallied s (now (im .entry)) (r .taken) (now (counts .entry)) ⌝ }
-    ensures { λ r. ⌜ Passes s (now (im .entry)) most (r .taken) (r .last) (now (im .exit)) ⌝ }
+    requires { ⌜ Room (now counts) n ⌝ }
+    ensures { λ _. ⌜ now (counts .exit) ≡ tallied s (now (im .entry)) n (now (counts .entry)) ⌝ }
+    ensures { λ r. ⌜ Told s (now (im .entry)) n r (now (im .exit)) ⌝ }
     ensures { λ _. ⌜ Lawful s (now (im .exit)) ⌝ }
 {
     if empty(s, im, Queue::Ready) {
-        note(counts, IDLE_COUNT, most);
-        return idled(most);
+        note(counts, IDLE_COUNT, n);
+        return Answer::Idle;
     }
     let mut x = first_seat(s, im);
     let mut taken: usize = 0;
     let mut came = Came::Ordered;
-    while taken < most {
-        let gone = go_on(s, im, table, counts, x, most - taken);
+    while taken < n {
+        let gone = go_on(s, im, table, counts, x, n - taken);
         taken += gone.taken;
         came = gone.came;
-        if gone.taken == 0 {
-            return Passed {
-                taken: taken,
-                last: told(s, im, x, came),
-            };
-        }
         if !stays(came) {
             if empty(s, im, Queue::Ready) {
-                if taken < most {
-                    note(counts, IDLE_COUNT, most - taken);
-                    return idled(most);
+                if taken < n {
+                    note(counts, IDLE_COUNT, n - taken);
+                    return Answer::Idle;
                 }
-                return Passed {
-                    taken: taken,
-                    last: told(s, im, x, came),
-                };
+                return told(s, im, x, came);
             }
             x = first_seat(s, im);
         }
     }
-    Passed {
-        taken: taken,
-        last: told(s, im, x, came),
-    }
+    told(s, im, x, came)
 }

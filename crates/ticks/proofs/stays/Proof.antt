@@ -5,9 +5,8 @@ use mathlib.Core.List.{[], _∷_}
 use types.Run.{OneOf, miss}
 use denote.Enum.Declared.{tagOf}
 use Rattle.paper.specs.declared.Answer.{Answer}
-use Rattle.paper.specs.declared.Reply.{Reply}
 use Rattle.paper.proofs.Answer as answer
-use Rattle.ticks.specs.Told.{stays-of}
+use Rattle.ticks.specs.Rounds.{stays-of}
 use Rattle.ticks.specs.declared.Came.{Came}
 use borrow.Author.Needs.{needs}
 use Rattle.ticks.proofs.stays.Statement.{statement}
@@ -26,29 +25,24 @@ unfolding stays-of
 returns-3 c = search needs
 
 -- what the last arm says: an answer that tells of no service done or faulted
-no-service : (a : Answer) → OneOf (0 ∷ 1 ∷ 2 ∷ 4 ∷ 6 ∷ 7 ∷ 8 ∷ 9 ∷ []) (tagOf answer.the-type a) → (r : Reply) → r ≡ Reply.Accepted a → (c : Came) → c ≡ Came.Replied r → false ≡ stays-of c
+no-service : (a : Answer) → OneOf (0 ∷ 1 ∷ 2 ∷ 4 ∷ 6 ∷ 7 ∷ 8 ∷ 9 ∷ []) (tagOf answer.the-type a) → (c : Came) → c ≡ Came.Answered a → false ≡ stays-of c
 unfolding stays-of
-no-service Answer.Idle h r er c ec = rw (ec, er)
-no-service (Answer.ErrorStop i) h r er c ec = rw (ec, er)
-no-service (Answer.TurnPassed i) h r er c ec = rw (ec, er)
-no-service (Answer.ServiceDone i) h r er c ec = absurd (miss (0 ∷ 1 ∷ 2 ∷ 4 ∷ 6 ∷ 7 ∷ 8 ∷ 9 ∷ []) 3 tt h)
-no-service (Answer.ServiceWaits i) h r er c ec = rw (ec, er)
-no-service (Answer.ServiceFaulted i) h r er c ec = absurd (miss (0 ∷ 1 ∷ 2 ∷ 4 ∷ 6 ∷ 7 ∷ 8 ∷ 9 ∷ []) 5 tt h)
-no-service (Answer.OrderDone i) h r er c ec = rw (ec, er)
-no-service (Answer.OrderFaulted i) h r er c ec = rw (ec, er)
-no-service (Answer.Input i) h r er c ec = rw (ec, er)
-no-service (Answer.OutputDone i) h r er c ec = rw (ec, er)
+no-service Answer.Idle h c ec = rw ec
+no-service (Answer.ErrorStop i) h c ec = rw ec
+no-service (Answer.TurnPassed i) h c ec = rw ec
+no-service (Answer.ServiceDone i) h c ec = absurd (miss (0 ∷ 1 ∷ 2 ∷ 4 ∷ 6 ∷ 7 ∷ 8 ∷ 9 ∷ []) 3 tt h)
+no-service (Answer.ServiceWaits i) h c ec = rw ec
+no-service (Answer.ServiceFaulted i) h c ec = absurd (miss (0 ∷ 1 ∷ 2 ∷ 4 ∷ 6 ∷ 7 ∷ 8 ∷ 9 ∷ []) 5 tt h)
+no-service (Answer.OrderDone i) h c ec = rw ec
+no-service (Answer.OrderFaulted i) h c ec = rw ec
+no-service (Answer.Input i) h c ec = rw ec
+no-service (Answer.OutputDone i) h c ec = rw ec
 
 returns-4 : tie.Need-returns-4
-returns-4 c = no-service _ (c .match3 .keys3) _ (c .before .before .r .given .1) _ (c .before .before .before .before .before .c .given .1)
-
-returns-5 : tie.Need-returns-5
-unfolding stays-of
-returns-5 c = search needs
+returns-4 c = no-service _ (c .match2 .keys3) _ (c .before .before .c .given .1)
 
 pub stays-spec : {M : Type 1} → statement M
 stays-spec =
     tie.close
     (tie.spec
-    (λ c. search needs) (λ c. search needs) (λ c. search needs) (λ c. search needs) (λ c. search needs)
-    (λ c. search needs) returns returns-2 returns-3 returns-4 returns-5)
+    (λ c. search needs) (λ c. search needs) (λ c. search needs) (λ c. search needs) returns returns-2 returns-3 returns-4)

@@ -1,5 +1,5 @@
--- An order's reply is told by the flags, any other is at hand.
-use Rattle.ticks.proofs.Needs.{lawful-sound, told-order, told-reply}
+-- An order's answer is told by the flags, any other is at hand.
+use Rattle.ticks.proofs.Needs.{lawful-sound, told-order, told-answer}
 use borrow.Author.Needs.{needs}
 use Rattle.ticks.proofs.told.Statement.{statement}
 use Rattle.ticks.proofs.told.Tie as tie
@@ -11,7 +11,7 @@ returns : tie.Need-returns
 returns c = search told-order
 
 returns-2 : tie.Need-returns-2
-returns-2 c = search told-reply
+returns-2 c = search told-answer
 
 pub told-spec : {M : Type 1} → statement M
 told-spec =
