@@ -5,7 +5,7 @@ use Prim.Native.Nat.{ℕ, zero, suc, _+_, _-_, _*_, _%_, _/_, _<_, _≤_}
 use native.Mathlib.Omega.{arith}
 use lib.ListN.{length, getD, drop}
 use lib.Seq.{drop-cons, drop-length}
-use Rattle.paper.specs.Waking.{Outcome, outcome}
+use Rattle.paper.specs.Waking.{Outcome, outcome, accepting}
 use Rattle.paper.specs.Events.{event-of, tick, happening}
 use Rattle.paper.specs.declared.Shape.{Shape}
 use Rattle.paper.specs.declared.Event.{Event}
@@ -15,10 +15,8 @@ use Rattle.paper.specs.declared.Reply.{Reply}
 use Rattle.laws.specs.Sound.{Sound, sound}
 use Rattle.laws.specs.Checked.{good-sound}
 use Rattle.laws.specs.Events.{Formed, Lawful, lawful, good, event-formed}
-use Rattle.event_laws.specs.Walk.{happening-unchanged}
 use Rattle.event_laws.specs.Stays.{words-good}
-use Rattle.ticks.specs.Ticks.{ticked, Taken, Ticks}
-use Rattle.ticks.specs.Told.{Told, Passes}
+use Rattle.ticks.specs.Ticks.{ticked, Told}
 use Rattle.happening.specs.Lists.{nth-event, ended, counted, onward, tells-on, told-from, Ends}
 use Rattle.happening.specs.Ahead.{Ahead}
 use Rattle.happening.proofs.AllZero.{ahead-ticks}
@@ -82,7 +80,7 @@ pub outcome-is : (o : Outcome) (r : Reply) (im : List ℕ) → r ≡ o .reply �
 outcome-is o r im er ei = rw (er, ei)
 
 -- an event that is a tick
-pub tick-event : (s : Shape) (x : List ℕ) (e : Event) → e ≡ Event.Tick → happening s x e ≡ tick s x
+pub tick-event : (s : Shape) (x : List ℕ) (e : Event) → e ≡ Event.Tick → happening s x e ≡ accepting (tick s x)
 unfolding happening
 tick-event s x e z = rw z
 
@@ -91,46 +89,27 @@ module _ (s : Shape) (im events : List ℕ) (k : ℕ) (last : Reply) (m : List �
   -- the reply before tick n
   abbrev last-before : ℕ → Reply
   last-before zero = last
-  last-before (suc n) = tick s (ticked s m n) .reply
+  last-before (suc n) = Reply.Accepted (tick s (ticked s m n) .answer)
 
-  -- one of them
-  tick-taken : (n : ℕ) → TakenFrom s im events (k + n) (last-before n) (ticked s m n) → nth-event s events (k + n) ≡ Event.Tick
-      → 3 * (k + n) + 2 < length events → (r : Reply) → r ≡ tick s (ticked s m n) .reply → Taken r → TakenFrom s im events (k + n + 1) r (ticked s m (suc n))
-  tick-taken n before e l (Reply.Accepted a) t y =
-      let here = tick-event s (ticked s m n) (nth-event s events (k + n)) e in
-      taken-more s im events (k + n) (last-before n) (ticked s m n) _ _ l before (rw (here, t)) a refl
-  tick-taken n before e l (Reply.Refused f) t y = absurd y
-
-  -- all of them
-  ticked-taken : (n : ℕ) → ((j : ℕ) → j < n → Taken (tick s (ticked s m j) .reply)) → ((j : ℕ) → j < n → nth-event s events (k + j) ≡ Event.Tick)
-      → 3 * (k + n) ≤ length events → TakenFrom s im events (k + n) (last-before n) (ticked s m n)
-  ticked-taken zero a e l =
+  ticked-taken : (n : ℕ) → ((j : ℕ) → j < n → nth-event s events (k + j) ≡ Event.Tick) → 3 * (k + n) ≤ length events
+      → TakenFrom s im events (k + n) (last-before n) (ticked s m n)
+  ticked-taken zero e l =
       let z : k + 0 ≡ k = omega arith in
       rw z h
-  ticked-taken (suc n) a e l =
+  ticked-taken (suc n) e l =
       let z : k + suc n ≡ k + n + 1 = omega arith in
-      let before = ticked-taken n (λ j hj. a j (omega arith)) (λ j hj. e j (omega arith)) (omega arith) in
-      rw z (tick-taken n before (e n (omega arith)) (omega arith) (tick s (ticked s m n) .reply) refl (a n (omega arith)))
+      let before = ticked-taken n (λ j hj. e j (omega arith)) (omega arith) in
+      let here = tick-event s (ticked s m n) (nth-event s events (k + n)) (e n (omega arith)) in
+      rw z (taken-more s im events (k + n) (last-before n) (ticked s m n) _ _ (omega arith) before (sym here) _ refl)
 
-  module _ (n : ℕ) (out : List ℕ) (e : (j : ℕ) → j < n → nth-event s events (k + j) ≡ Event.Tick) (l : 3 * (k + n) ≤ length events) where
-    -- and so ticks that were accepted
-    pub ticks-taken : (a : Answer) → Told s m n (Reply.Accepted a) out → TakenFrom s im events (k + n) (Reply.Accepted a) out
-    unfolding Told Ticks
-    ticks-taken a (some, t, r) =
-        let z : n ≡ suc (n - 1) = omega arith in
-        let b : last-before n ≡ Reply.Accepted a = ap last-before z ∙ r in
-        rw (t .0, ← b) (ticked-taken n (t .1) e l)
-
-    -- and the one after them that is refused
-    pub ticks-refused : (f : Refusal) → Told s m n (Reply.Refused f) out → nth-event s events (k + n) ≡ Event.Tick → 3 * (k + n) + 2 < length events
-        → Ends s im events (k + n) (Reply.Refused f) out
-    unfolding Told Ticks
-    ticks-refused f (t, r) en there =
-        let here = tick-event s out (nth-event s events (k + n)) en in
-        let told : happening s out (nth-event s events (k + n)) .reply ≡ Reply.Refused f = ap (λ o. o .reply) here ∙ r in
-        let before : TakenFrom s im events (k + n) (last-before n) out = rw (t .0) (ticked-taken n (t .1) e l) in
-        taken-refused s im events (k + n) (last-before n) out out (Reply.Refused f) there before
-        (outcome-is _ _ _ (sym told) (sym (happening-unchanged s out (nth-event s events (k + n)) f told))) f refl
+  -- and so the ticks ahead
+  pub ticks-taken : (to : ℕ) → Ahead events k to → 3 * to ≤ length events → (a : Answer) (out : List ℕ) → Told s m (to - k) a out → TakenFrom s im events to (Reply.Accepted a) out
+  unfolding Told
+  ticks-taken to ahead ends a out (some, e) =
+      let n = to - k - 1 in
+      let z : k + suc n ≡ to = omega arith in
+      let done = ticked-taken (suc n) (λ j hj. ahead-ticks s events k to ahead j (omega arith)) (omega arith) in
+      rw (ap (λ o. o .answer) e, ap (λ o. o .image) e) (rw z at done)
 
 -- a lawful image is sound
 pub lawful-sound : (s : Shape) (im : List ℕ) → Lawful s im → Sound s im
@@ -158,44 +137,6 @@ module _ (s : Shape) (im events : List ℕ) (k : ℕ) (e : Event)
 -- there is an event k
 pub event-there : (events : List ℕ) (k count : ℕ) → count ≡ length events / 3 → k < count → 3 * k + 2 < length events
 event-there events k count e h = omega arith
-
--- no more ticks are taken than there may be
-pub pass-few : (s : Shape) (im : List ℕ) (most n : ℕ) (r : Reply) (out : List ℕ) → Passes s im most n r out → n ≤ most
-unfolding Passes
-pass-few s im most n (Reply.Accepted a) out p = let all : n ≡ most = p .1 in omega arith
-pass-few s im most n (Reply.Refused f) out p = let few : n < most = p .1 in omega arith
-
--- the events before one are taken, on a lawful image
-pub record Reached (s : Shape) (im events : List ℕ) (to k : ℕ) (last : Reply) (m : List ℕ) : Type 0 where
-  pub kept : Lawful s m
-  pub taken : TakenFrom s im events k last m
-  pub there : k ≡ to
-
--- ticks ahead, taken or refused
-module _ (s : Shape) (im events : List ℕ) (k : ℕ) (last : Reply) (m : List ℕ) (h : TakenFrom s im events k last m) (to count : ℕ) (ahead : Ahead events k to)
-    (from : k ≤ to) (ends : to ≤ count) (ec : count ≡ length events / 3) (n : ℕ) (r : Reply) (out : List ℕ) (p : Passes s m (to - k) n r out) where
-  pub ticks-reach : (a : Answer) → r ≡ Reply.Accepted a → Lawful s out → (x : List ℕ) (j : ℕ) (y : Reply) → x ≡ out → j ≡ k + n → y ≡ r
-      → Reached s im events to j y x
-  unfolding Passes
-  ticks-reach a f good x j y ex ej ey =
-      let q : Told s m n (Reply.Accepted a) out × (n ≡ to - k) = rw f at p in
-      let all : n ≡ to - k = q .1 in
-      let done = ticks-taken s im events k last m h n out (λ j hj. ahead-ticks s events k to ahead j (omega arith)) (omega arith) a (q .0) in
-      rw (ex, ej, ey, f) (record { kept = good; taken = done; there = omega arith })
-
-  pub ticks-end : (f : Refusal) → r ≡ Reply.Refused f → Ends s im events (k + n) r out
-  unfolding Passes
-  ticks-end f e =
-      let q : Told s m n (Reply.Refused f) out × (n < to - k) = rw e at p in
-      let few : n < to - k = q .1 in
-      rw e (ticks-refused s im events k last m h n out (λ j hj. ahead-ticks s events k to ahead j (omega arith)) (omega arith) f (q .0)
-      (ahead-ticks s events k to ahead n (omega arith)) (omega arith))
-
--- no ticks ahead
-pub none-reach : (s : Shape) (im events : List ℕ) (k : ℕ) (last : Reply) (m : List ℕ) → TakenFrom s im events k last m → Lawful s m → (to : ℕ) → k ≤ to → to ≤ k
-    → (x : List ℕ) (j : ℕ) (y : Reply) → x ≡ m → j ≡ k → y ≡ last → Reached s im events to j y x
-none-reach s im events k last m h good to from here x j y ex ej ey =
-    rw (ex, ej, ey) (record { kept = good; taken = h; there = omega arith })
 
 -- all events are taken
 pub all-end : (s : Shape) (im events : List ℕ) (k count : ℕ) (last : Reply) (m : List ℕ) → length events % 3 ≡ 0 → count ≡ length events / 3 → k ≤ count → count ≤ k

@@ -154,15 +154,8 @@ fn pass_events(
     while taken < count {
         let end = ticks_ahead(events, taken, count);
         if taken < end {
-            let passed = ticks(s, im, table, counts, end - taken);
-            taken += passed.taken;
-            last = passed.last;
-            if let Reply::Refused(_) = last {
-                return Past {
-                    taken: taken,
-                    last: last,
-                };
-            }
+            last = Reply::Accepted(ticks(s, im, table, counts, end - taken));
+            taken = end;
         }
         if taken < count {
             last = report_at(s, im, events, taken);

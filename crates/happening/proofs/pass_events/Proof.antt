@@ -4,8 +4,8 @@ use native.Mathlib.Omega.{arith}
 use mathlib.Core.Logic.{⊎-elim}
 use Rattle.laws.specs.Events.{Lawful}
 use Rattle.happening.proofs.AllZero.{stopped}
-use Rattle.happening.proofs.Taking.{TakenFrom, taken-none, taken-more, taken-refused, lawful-long, event-there, ticks-end, pass-few, all-end}
-use Rattle.happening.proofs.Tallying.{Books, Stood, books-none, books-ledger, books-long, books-room, books-reach, books-end, books-event, books-refused, books-still, books-all}
+use Rattle.happening.proofs.Taking.{TakenFrom, taken-none, taken-more, taken-refused, lawful-long, event-there, all-end}
+use Rattle.happening.proofs.Tallying.{Books, Stood, books-none, books-ledger, books-room, books-reach, books-event, books-refused, books-still, books-all}
 use borrow.Author.Needs.{needs}
 use Rattle.happening.proofs.pass_events.Statement.{statement}
 use Rattle.happening.proofs.pass_events.Tie as tie
@@ -29,48 +29,37 @@ loop-holds c = search (taken-none, books-none, needs)
 ticks-requires : tie.Need-ticks-requires Inv-loop μ-loop
 ticks-requires c κs = (search needs, (search needs, (omega arith, (search books-ledger, search books-room))))
 
-add-taken : tie.Need-add-taken Inv-loop μ-loop
-add-taken c = omega (arith, pass-few _ _ _ _ _ _ (c .before .before .before .before .before .ticks .ensures .1 .0))
+report-at-requires : tie.Need-report-at-requires Inv-loop μ-loop
+report-at-requires c κs = let r = stood (c .before .before) in (r .kept, (search event-there, search (stopped, r)))
+
+same-length-2 : tie.Need-same-length-2 Inv-loop μ-loop
+same-length-2 c = stood (c .before .before .before .before .before .before .before) .books .long
 
 returns : tie.Need-returns Inv-loop μ-loop
-returns c = (search books-end, (search ticks-end, search needs))
-
-report-at-requires : tie.Need-report-at-requires Inv-loop μ-loop
-report-at-requires c κs = let r = stood (c .before .before) .reached in (r .kept, (search event-there, search (stopped, r)))
-
-same-length-4 : tie.Need-same-length-4 Inv-loop μ-loop
-same-length-4 c =
-    let c5 = c .before .before .before .before .before in
-    stood (c5 .before .before) .books .long
-
-returns-2 : tie.Need-returns-2 Inv-loop μ-loop
-returns-2 c =
-    let c5 = c .before .before .before .before .before in
-    let r = stood (c5 .before .before) in
-    (search (books-refused, event-there, r .books), (search (taken-refused, event-there, r .reached), search needs))
+returns c =
+    let r = stood (c .before .before .before .before .before .before .before) in
+    (search (books-refused, event-there, r .books), (search (taken-refused, event-there, r .taken), search needs))
 
 loop-less : tie.Need-loop-less Inv-loop μ-loop
-loop-less c =
-    let c5 = c .before .before .before .before .before in
-    omega (arith, stood (c5 .before .before .before) .reached .there)
+loop-less c = omega (arith, stood (c .before .before .before .before .before .before .before .before) .there)
 
 loop-again : tie.Need-loop-again Inv-loop μ-loop
-loop-again c = let b = c .before .before .before .before .before in
+loop-again c =
+    let b = c .before .before .before .before .before in
     let r = stood (b .before .before .before) in
-    let told = c .before .enum-told4 .given .1 in
-    (search needs, taken-more _ _ _ _ _ _ _ _ (search event-there) (r .reached .taken) (b .report-at .ensures .0) _ told, books-event _ _ _ _ _ _ _ (r .books) _ _ (b .report-at .ensures .0) (search event-there) (search (stopped, r .reached)) _ told, omega arith)
+    let told = c .before .enum-told2 .given .1 in
+    (search needs, taken-more _ _ _ _ _ _ _ _ (search event-there) (r .taken) (b .report-at .ensures .0) _ told, books-event _ _ _ _ _ _ _ (r .books) _ _ (b .report-at .ensures .0) (search event-there) (search (stopped, r)) _ told, omega arith)
 
 loop-again-2 : tie.Need-loop-again-2 Inv-loop μ-loop
-loop-again-2 c = let r = stood (c .before) in (r .reached .kept, r .reached .taken, r .books, omega (arith, r .reached .there))
+loop-again-2 c = let r = stood (c .before) in (r .kept, r .taken, r .books, omega (arith, r .there))
 
-returns-3 : tie.Need-returns-3 Inv-loop μ-loop
-returns-3 c = (search books-all, (search all-end, search needs))
+returns-2 : tie.Need-returns-2 Inv-loop μ-loop
+returns-2 c = (search books-all, (search all-end, search needs))
 
 pub pass-events-spec : {M : Type 1} → statement M
 pass-events-spec =
     tie.close
     (tie.spec
-    Inv-loop μ-loop loop-holds (λ c κs. (omega arith, omega arith)) (λ c. omega arith) ticks-requires add-taken
-    (λ c. search needs) (λ c. search lawful-long) (λ c. search books-long) returns (λ c. search needs) report-at-requires
-    (λ c. search needs) (λ c. search lawful-long) same-length-4 returns-2 (λ c. search needs) (λ c. omega arith) loop-less
-    loop-again (λ c. omega arith) loop-again-2 (λ c. search lawful-long) (λ c. c .before .loop .inv .2 .long) returns-3)
+    Inv-loop μ-loop loop-holds (λ c κs. (omega arith, omega arith)) (λ c. omega arith) ticks-requires report-at-requires
+    (λ c. search needs) (λ c. search lawful-long) same-length-2 returns (λ c. search needs) (λ c. omega arith) loop-less
+    loop-again (λ c. omega arith) loop-again-2 (λ c. search lawful-long) (λ c. c .before .loop .inv .2 .long) returns-2)

@@ -1,4 +1,5 @@
 -- The three words make the event that is reported.
+use Rattle.laws.specs.Room.{lawful-roomy}
 use Rattle.happening.proofs.AllZero.{words-no-tick}
 use Rattle.happening.proofs.Taking.{lawful-sound, made-formed, nth-outcome, nth-lawful}
 use borrow.Author.Needs.{needs}
@@ -6,7 +7,7 @@ use Rattle.happening.proofs.report_at.Statement.{statement}
 use Rattle.happening.proofs.report_at.Tie as tie
 
 report-requires : tie.Need-report-requires
-report-requires c κs = (search lawful-sound, (search made-formed, search words-no-tick))
+report-requires c κs = (search lawful-sound, (search lawful-roomy, (search made-formed, search words-no-tick)))
 
 returns : tie.Need-returns
 returns c = (search nth-outcome, search nth-lawful)

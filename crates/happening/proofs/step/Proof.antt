@@ -1,5 +1,4 @@
 -- A list of one event ends with that event; it is counted nowhere.
-use mathlib.Core.Path.{refl}
 use Rattle.happening.proofs.RepliesInParts.{one-answered, one-refused}
 use Rattle.counting.specs.Growing.{none-room}
 use Rattle.noting.specs.Ledgers.{none-ledger}
