@@ -12,8 +12,8 @@ use Rattle.paper.specs.declared.Queue.{Queue}
 use Rattle.paper.specs.declared.Service.{Service}
 use Rattle.paper.specs.declared.Fault.{Fault}
 use Rattle.laws.specs.Frame.{Apart, kept, kept-status, kept-peer, kept-empty, kept-full}
-use Rattle.laws.specs.Changes.{error-none, buffer-has}
-use Rattle.event_laws.specs.Own.{header-part, clock-apart}
+use Rattle.laws.specs.Changes.{header-part, error-none, buffer-has}
+use Rattle.event_laws.specs.Own.{clock-apart}
 use Rattle.event_laws.specs.Turns.{Leads, leads-in}
 use Rattle.event_laws.specs.Walk.{Begins}
 

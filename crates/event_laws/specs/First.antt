@@ -27,8 +27,8 @@ use Rattle.laws.specs.Sound.{Sound, sound, has-word}
 use Rattle.laws.specs.Checked.{good-sound}
 use Rattle.laws.specs.Frame.{Apart, frame-none, frame-put, kept-full, kept-held}
 use Rattle.laws.specs.Room.{finds-room, good-roomy}
-use Rattle.laws.specs.Changes.{moved-parts}
-use Rattle.event_laws.specs.Own.{own-parts, header-part, clock-apart}
+use Rattle.laws.specs.Changes.{header-part, moved-parts}
+use Rattle.event_laws.specs.Own.{own-parts, clock-apart}
 use Rattle.event_laws.specs.Turns.{woken-tail, Leads, leads-sound, leads-in, leads-list}
 use Rattle.event_laws.specs.Serving.{served-nearly, wakes-whom}
 use Rattle.event_laws.specs.Walk.{ServiceCases, Begins, tick-any}

@@ -19,16 +19,14 @@ use Rattle.paper.specs.declared.Woken.{Woken}
 use Rattle.laws.specs.Queues.{same-task}
 use Rattle.laws.specs.Sound.{Sound, fixed}
 use Rattle.laws.specs.Frame.{Frame, Apart, frame-more, frame-sound, flagged-frame, kept-flags, kept-status, kept-peer, kept-same}
+use Rattle.laws.specs.Changes.{header-part}
 use Rattle.laws.specs.Orders.{OwnCell, Keeps, keeps-sound}
 use Rattle.event_laws.specs.Standing.{ready-stands}
 use Rattle.event_laws.specs.Kept.{Spared, Nearly, kept-stands, kept-nearly, kept-listed, kept-clocked, kept-none}
 
--- the parts of own words: the task table and the segments; and the header
+-- the parts of own words: the task table and the segments
 abbrev pub own-parts : Part → Bool
 own-parts p = eqb (ord p) 1 || eqb (ord p) 9
-
-abbrev pub header-part : Part → Bool
-header-part p = eqb (ord p) 0
 
 pub own-picked : (s : Shape) (im : List ℕ) (i : Task) (c : Cell) → OwnCell s im i c → own-parts (c .part) ≡ true
 own-picked s im i c (inl (p, _)) = ap own-parts p

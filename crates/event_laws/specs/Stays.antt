@@ -28,11 +28,11 @@ use Rattle.laws.specs.Checked.{good-sound}
 use Rattle.laws.specs.Events.{Formed, event-formed}
 use Rattle.laws.specs.Frame.{Frame, Apart, frame-none, frame-more, frame-then, frame-appended, kept, kept-status, kept-empty, kept-first}
 use Rattle.laws.specs.Room.{waits-not, waits-on}
-use Rattle.laws.specs.Changes.{moved-parts, small-error, status-is, peer-is, frame-next, frame-served}
+use Rattle.laws.specs.Changes.{header-part, moved-parts, small-error, status-is, peer-is, frame-next, frame-served}
 use Rattle.laws.specs.Orders.{OwnCell, Keeps, order-keeps, not-own, keeps-sound, order-flagged}
 use Rattle.event_laws.specs.Standing.{make-stands}
 use Rattle.event_laws.specs.Kept.{Spared, Nearly, good-nearly, nearly-good}
-use Rattle.event_laws.specs.Own.{header-part, own-nearly, clock-apart, clock-nearly}
+use Rattle.event_laws.specs.Own.{own-nearly, clock-apart, clock-nearly}
 use Rattle.event_laws.specs.Turns.{status-part, entry-apart, woken-nearly, Leads, leads-sound, leads-in, leads-ready, leads-peer, left-good, turned-good}
 use Rattle.event_laws.specs.Moving.{free-input, free-output, append-nearly, appended-chars, next-nearly}
 use Rattle.event_laws.specs.Serving.{faulted-good, waiting-good, served-nearly, wakes-whom}

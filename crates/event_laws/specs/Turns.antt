@@ -29,10 +29,10 @@ use Rattle.laws.specs.Checked.{good-sound}
 use Rattle.laws.specs.Sound.{Sound, sound, has-space, has-word, put-sound, appended-sound, taken-sound}
 use Rattle.laws.specs.Frame.{Frame, Apart, frame-none, frame-more, frame-put, frame-appended, frame-taken, kept, kept-flags, kept-clock, kept-status, kept-peer, kept-count, kept-empty, kept-full, kept-held, kept-same}
 use Rattle.laws.specs.Room.{Listed, listed-room}
-use Rattle.laws.specs.Changes.{dispatch-parts, turn-parts, status-sound, status-is, peer-is, frame-status, frame-left}
+use Rattle.laws.specs.Changes.{header-part, dispatch-parts, turn-parts, status-sound, status-is, peer-is, frame-status, frame-left}
 use Rattle.event_laws.specs.Standing.{ready-stands}
 use Rattle.event_laws.specs.Kept.{Spared, Clocked, Nearly, good-nearly, nearly-good, kept-stands, kept-nearly}
-use Rattle.event_laws.specs.Own.{header-part, clock-apart, clock-nearly}
+use Rattle.event_laws.specs.Own.{clock-apart, clock-nearly}
 
 -- a cell that a turn of task i changes: of the header and the ready queue, or its entry of the status table
 abbrev pub TurnCell : Task → Cell → Type 0

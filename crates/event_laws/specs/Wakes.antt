@@ -1,5 +1,5 @@
 -- Whom an event wakes: one that is not ready, so it finds room; any other task that is not ready stays as it is. Assumes nothing.
-use mathlib.Core.Path.{_≡_, refl, sym, ap, subst, _∙_}
+use mathlib.Core.Path.{_≡_, refl, sym, ap, _∙_}
 use mathlib.Core.List.{List}
 use mathlib.Core.Bool.{Bool, true, false, not, cond, _||_, true≢false}
 use mathlib.Core.Logic.{_≢_, inl, inr}
@@ -30,10 +30,9 @@ use Rattle.laws.specs.Sound.{Sound, has-space, appended-sound}
 use Rattle.laws.specs.Checked.{good-sound}
 use Rattle.laws.specs.Events.{Formed}
 use Rattle.laws.specs.Frame.{Frame, frame-none, frame-more, frame-put, frame-appended, kept-status}
-use Rattle.laws.specs.Changes.{device-parts, status-sound, frame-status, frame-left, frame-woken, frame-served, frame-next}
+use Rattle.laws.specs.Changes.{header-part, device-parts, status-sound, frame-status, frame-left, frame-woken, frame-served, frame-next}
 use Rattle.laws.specs.Orders.{OwnCell}
 use Rattle.laws.specs.Room.{good-listed, listed-none, listed-few, waits-not}
-use Rattle.event_laws.specs.Own.{header-part}
 use Rattle.event_laws.specs.Turns.{Leads, leads-sound, leads-in, leads-ready, turned-frame}
 use Rattle.event_laws.specs.Serving.{served-nearly, wakes-whom}
 use Rattle.event_laws.specs.Walk.{asked-waits, ServiceCases, Begins, tick-any, input-any, done-any, event-any}

@@ -25,9 +25,12 @@ use Rattle.laws.specs.Cells.{cells}
 use Rattle.laws.specs.Sound.{Sound, sound, has-space, put-sound, appended-sound}
 use Rattle.laws.specs.Frame.{Frame, frame-put, frame-appended, frame-taken}
 
--- the parts that a dispatch changes: header and ready queue; and a turn: the status table with them
+-- the part that a clock written changes: the header; a dispatch: the ready queue with it; and a turn: the status table with them
+abbrev pub header-part : Part → Bool
+header-part p = eqb (ord p) 0
+
 abbrev pub dispatch-parts : Part → Bool
-dispatch-parts p = eqb (ord p) 0 || eqb (ord p) 2
+dispatch-parts p = header-part p || eqb (ord p) 2
 
 abbrev pub turn-parts : Part → Bool
 turn-parts p = dispatch-parts p || eqb (ord p) 3

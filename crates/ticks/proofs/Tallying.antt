@@ -9,7 +9,7 @@ use lib.ListN.{length}
 use Rattle.paper.specs.Image.{most-tasks}
 use Rattle.paper.specs.Queues.{empty}
 use Rattle.paper.specs.Flags.{error-of}
-use Rattle.paper.specs.Events.{tick, running}
+use Rattle.paper.specs.Events.{tick}
 use Rattle.paper.specs.Numbers.{answer-task}
 use Rattle.paper.specs.Counts.{tally, idle-count, count-place, grown, counted}
 use Rattle.paper.specs.declared.Task.{Task}
@@ -20,10 +20,9 @@ use Rattle.paper.specs.declared.Answer.{Answer}
 use Rattle.laws.specs.Sound.{sound}
 use Rattle.laws.specs.Checked.{good-sound}
 use Rattle.laws.specs.Events.{Lawful, good}
-use Rattle.event_laws.specs.Walk.{tick-any}
-use Rattle.event_laws.specs.Stays.{first-task}
 use Rattle.counting.specs.Room.{Room}
 use Rattle.counting.specs.Growing.{grown-none, grown-twice, room-less, counted-length, counted-room}
+use Rattle.event_laws.specs.Stays.{tick-names}
 use Rattle.noting.specs.Noted.{orders-counted, Ledger}
 use Rattle.noting.specs.Ledgers.{ledger-kept}
 use Rattle.ticks.specs.Ticks.{ticked}
@@ -48,19 +47,8 @@ module _ (s : Shape) (im : List ℕ) (h : Lawful s im) where
   pub task-few : (t : ℕ) → t < s .n → t < most-tasks
   task-few t l = omega (arith, sound (good-sound s im (good h)) .laid .fit .tasks)
 
-  runs-few : empty s im Queue.Ready ≡ false → running s im .0 < most-tasks
-  runs-few some = task-few (running s im .0) (first-task s im (good h) some)
-
   pub tick-few : answer-task (tick s im .answer) < most-tasks
-  tick-few =
-      tick-any (λ t. answer-task (t .answer) < most-tasks)
-      record {
-        idle = λ _. omega arith;
-        stops = λ some _. runs-few some;
-        turns = λ some _ _. runs-few some;
-        serves = λ some _ _ _ _ _ _. record { faults = λ _ _. runs-few some; stuck = λ _ _. runs-few some; alone = λ _ _ _. runs-few some; woke = λ _ _ _ _. runs-few some };
-        orders = λ some _ _ _ _ _. record { does = λ _ _ _. runs-few some; faults = λ _ _. runs-few some };
-      }
+  tick-few = task-few _ (tick-names s im (good h))
 
 -- the counts after ticks
 module _ (s : Shape) (im : List ℕ) where

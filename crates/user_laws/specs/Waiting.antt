@@ -1,20 +1,20 @@
 -- A task that waits stays as it is until a word comes for it. Assumes nothing.
 use mathlib.Core.Path.{_≡_, refl, sym, ap, _∙_}
 use mathlib.Core.List.{List, [], _∷_, _++_}
-use mathlib.Core.Bool.{Bool, true, false, not, cond, _&&_, _||_, and-eq-true-iff, true≢false}
+use mathlib.Core.Bool.{Bool, true, false, cond, _||_, and-eq-true-iff, true≢false}
 use mathlib.Core.Logic.{_≢_}
 use Prim.Native.Nat.{ℕ, zero, suc, _<_, _≤_}
 use native.Mathlib.Omega.{arith}
 use borrow.Author.Tests.{eqb-true, eqb-false, eq-eqb, ne-eqb}
 use lib.Dec.{eqb}
 use lib.ListN.{length}
-use Rattle.paper.specs.Image.{task, at, clock, reg, status, peer, character}
-use Rattle.paper.specs.Queues.{Has, held, empty, full}
-use Rattle.paper.specs.Flags.{error, pending, is-ready, waits}
+use Rattle.paper.specs.Image.{task, at, clock, status, peer, character}
+use Rattle.paper.specs.Queues.{empty}
+use Rattle.paper.specs.Flags.{pending, waits}
 use Rattle.paper.specs.Waking.{woken, one-if}
-use Rattle.paper.specs.Services.{asked, other, fault-of, blocked, waits-for, wakes}
+use Rattle.paper.specs.Services.{asked, fault-of, blocked, waits-for, wakes}
 use Rattle.paper.specs.Events.{event-of, running, tick, input, port-next, output-done, happening}
-use Rattle.paper.specs.Rules.{Empty, times, Good}
+use Rattle.paper.specs.Rules.{Empty, Good}
 use Rattle.paper.specs.declared.Task.{Task}
 use Rattle.paper.specs.declared.Shape.{Shape}
 use Rattle.paper.specs.declared.Queue.{Queue}

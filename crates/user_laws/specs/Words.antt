@@ -34,8 +34,8 @@ use Rattle.laws.specs.Checked.{good-sound}
 use Rattle.laws.specs.Events.{words-any}
 use Rattle.laws.specs.Frame.{Frame, Apart, frame-none, frame-more, frame-then, frame-put, frame-appended, frame-taken, kept}
 use Rattle.laws.specs.Orders.{OwnCell}
-use Rattle.laws.specs.Changes.{turn-parts, buffer-has, out-sound, status-sound, frame-status, frame-left, frame-woken, frame-printing, frame-next}
-use Rattle.event_laws.specs.Own.{header-part, clock-apart}
+use Rattle.laws.specs.Changes.{header-part, turn-parts, buffer-has, out-sound, status-sound, frame-status, frame-left, frame-woken, frame-printing, frame-next}
+use Rattle.event_laws.specs.Own.{clock-apart}
 use Rattle.event_laws.specs.Standing.{waits-one}
 use Rattle.event_laws.specs.Turns.{Leads, leads-sound, leads-in, turned-frame}
 use Rattle.event_laws.specs.Serving.{served-nearly, wakes-whom}
