@@ -23,7 +23,7 @@ use Rattle.laws.specs.Room.{good-listed, listed-none, waits-not}
 use Rattle.event_laws.specs.Stays.{words-good}
 use Rattle.event_laws.specs.Wakes.{wake-finds-room}
 use Rattle.user_laws.specs.Folded.{event-is, event-unchanged, run-refused}
-use Rattle.user_laws.specs.Words.{calls-good, calls-words}
+use Rattle.user_laws.specs.Balance.{calls-good, calls-words}
 use Rattle.user_laws.specs.Asked.{asked-waits, asked-done}
 use Rattle.user_laws.specs.Waiting.{calls-stay}
 use Rattle.demands.specs.Demands.{due, run-tests, word-of, Demand1, Asks, Demand2, Demand3, Request5, Demands}

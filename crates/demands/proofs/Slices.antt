@@ -22,9 +22,10 @@ use Rattle.paper.specs.declared.Reply.{Reply}
 use Rattle.laws.specs.Checked.{good-sound, check-zero}
 use Rattle.event_laws.specs.Turns.{Leads, turned-list, turned-clock}
 use Rattle.event_laws.specs.Walk.{tick-any, input-any, done-any, event-any}
-use Rattle.event_laws.specs.Stays.{first-leads, words-good}
+use Rattle.event_laws.specs.Stays.{first-leads}
 use Rattle.event_laws.specs.First.{held-some, keeps-some, keeps-first}
 use Rattle.user_laws.specs.Folded.{event-is}
+use Rattle.user_laws.specs.Balance.{calls-good}
 use Rattle.bound.specs.Bound.{IsFirst, tick-count, if-accepted}
 use Rattle.bound.specs.Ticks.{Stays, Step, event-steps}
 use Rattle.demands.specs.Demands.{word-of, Tells, Calls, ticks-in, Quiet, Undisturbed, IsTick, Answered, UsesClock, UsesSlice, Request2}
@@ -125,9 +126,6 @@ module _ (s : Shape) (im : List ℕ) (g : Good s im) where
 
 -- a call on a good image
 module _ (s : Shape) (im : List ℕ) (g : Good s im) (x y z : ℕ) (a : Reply) (m : List ℕ) (h : Happens im x y z a m) where
-  call-good : Good s m
-  call-good = rw (h .left, event-is s im g x y z) (words-good s im g x y z)
-
   call-steps : empty s im Queue.Ready ≡ false → Step s im (tick-count x y z) a m
   call-steps some = rw (h .answered, h .left, event-is s im g x y z) (event-steps s im g some x y z)
 
@@ -139,8 +137,7 @@ module _ (events : List ℕ) (count : ℕ) (c : Calls events count) (fine : Chec
   s = shape-of (c .image 0)
 
   good : (n : ℕ) → n ≤ count → Good s (c .image n)
-  good zero l = check-zero (c .image 0) .0 (sym (fine .answered))
-  good (suc n) l = call-good s (c .image n) (good n (omega arith)) _ _ _ (c .reply n) (c .image (suc n)) (c .kept n (omega arith))
+  good = calls-good s (c .image) (word-of events) (c .reply) count (check-zero (c .image 0) .0 (sym (fine .answered))) (c .kept)
 
   abbrev ticked : ℕ → ℕ
   ticked n = tick-count (word-of events n 0) (word-of events n 1) (word-of events n 2)

@@ -30,11 +30,10 @@ use Rattle.paper.specs.declared.Reply.{Reply}
 use Rattle.paper.specs.declared.Size.{Size}
 use Rattle.paper.specs.declared.Ended.{Ended}
 use Rattle.event_laws.specs.Standing.{awaits}
-use Rattle.event_laws.specs.Wakes.{whom, Unmoved}
+use Rattle.event_laws.specs.Whom.{whom, Unmoved}
 use Rattle.user_laws.specs.Taken.{first-events}
-use Rattle.user_laws.specs.Words.{all-sent, all-got}
+use Rattle.user_laws.specs.Words.{all-sent, all-got, for-it}
 use Rattle.user_laws.specs.Asked.{BeginsToWait}
-use Rattle.user_laws.specs.Waiting.{for-it}
 use Rattle.bound.specs.Bound.{Behind, bound, IsFirst, Untouched, tick-count, if-accepted}
 
 -- "NUMBERS THAT COME BACK"

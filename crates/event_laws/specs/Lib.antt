@@ -10,4 +10,5 @@ pub mod Stays
 pub mod Touched
 pub mod First
 pub mod Begun
+pub mod Whom
 pub mod Wakes

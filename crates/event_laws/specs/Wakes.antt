@@ -1,7 +1,7 @@
--- Whom an event wakes: one that is not ready, so it finds room; any other task that is not ready stays as it is. Assumes nothing.
+-- Whom an event wakes is not ready, so it finds room; any other task that is not ready stays as it is. Assumes nothing.
 use mathlib.Core.Path.{_≡_, refl, sym, ap, _∙_}
 use mathlib.Core.List.{List}
-use mathlib.Core.Bool.{Bool, true, false, not, cond, _||_, true≢false}
+use mathlib.Core.Bool.{Bool, true, false, _||_, true≢false}
 use mathlib.Core.Logic.{_≢_, inl, inr}
 use Prim.Native.Nat.{ℕ, _<_, _≤_}
 use native.Mathlib.Omega.{arith}
@@ -9,10 +9,10 @@ use borrow.Author.Tests.{eqb-true, eq-eqb, ne-eqb}
 use lib.Dec.{eqb}
 use lib.ListN.{length}
 use Rattle.paper.specs.Image.{ord, cell, at, clock, reg, flags, status, peer}
-use Rattle.paper.specs.Queues.{Has, header-capacity, appended, held, empty, full}
-use Rattle.paper.specs.Flags.{error, pending, is-ready, waits}
+use Rattle.paper.specs.Queues.{Has, header-capacity, appended, held, full}
+use Rattle.paper.specs.Flags.{error, is-ready, waits}
 use Rattle.paper.specs.Waking.{woken, one-if}
-use Rattle.paper.specs.Services.{asked, service-faulted, fault-of, blocked, awaited, waiting, wakes, served}
+use Rattle.paper.specs.Services.{service-faulted, fault-of, blocked, awaited, waiting, wakes, served}
 use Rattle.paper.specs.Events.{running, tick, input, port-next, output-done, happening}
 use Rattle.paper.specs.Rules.{Empty, Full, times, Good}
 use Rattle.paper.specs.declared.Task.{Task}
@@ -21,7 +21,6 @@ use Rattle.paper.specs.declared.Cell.{Cell}
 use Rattle.paper.specs.declared.Part.{Part}
 use Rattle.paper.specs.declared.Queue.{Queue}
 use Rattle.paper.specs.declared.Service.{Service}
-use Rattle.paper.specs.declared.Asked.{Asked}
 use Rattle.paper.specs.declared.Fault.{Fault}
 use Rattle.paper.specs.declared.Woken.{Woken}
 use Rattle.paper.specs.declared.Event.{Event}
@@ -38,33 +37,7 @@ use Rattle.event_laws.specs.Serving.{served-nearly, wakes-whom}
 use Rattle.event_laws.specs.Walk.{asked-waits, ServiceCases, Begins, tick-any, input-any, done-any, event-any}
 use Rattle.event_laws.specs.Stays.{begins-leads, stopped-is, order-frame, first-leads, next-owner}
 use Rattle.event_laws.specs.Begun.{clock-only, fault-same, blocked-same, wakes-same}
-
--- a service wakes where it is not wrong and its buffer does not stop it
-abbrev pub woken-unless : Fault → Bool → Woken → Woken
-woken-unless (Fault.Error e) stopped w = Woken.Nobody
-woken-unless Fault.Nothing stopped w = cond stopped Woken.Nobody w
-
-abbrev pub asked-wakes : Shape → List ℕ → Task → Asked → Woken
-asked-wakes s im i Asked.Nothing = Woken.Nobody
-asked-wakes s im i (Asked.For v) = woken-unless (fault-of s im i v) (blocked s im i v) (wakes s im i v)
-
--- a tick wakes by rule 4 alone, where the rules before it do not apply
-abbrev pub tick-wakes : Shape → List ℕ → Task → Woken
-tick-wakes s im i =
-    cond (empty s im Queue.Ready || not (eqb (error s im i) 0) || eqb (at s im clock) 0) Woken.Nobody (asked-wakes s im i (asked (pending s im i)))
-
--- a device event wakes its owner, if it waits for that
-abbrev pub whom : Shape → List ℕ → Event → Woken
-whom s im Event.Tick = tick-wakes s im (running s im)
-whom s im (Event.Input i c) = one-if (eqb (at s im (status i)) (waits Service.Input)) i
-whom s im (Event.OutputDone i) = one-if (eqb (at s im (status i)) (waits Service.Output)) i
-whom s im Event.Malformed = Woken.Nobody
-
--- a task's status, peer, registers and flags are as they were
-pub record Unmoved (s : Shape) (im m : List ℕ) (j : Task) : Type 0 where
-  pub status : at s m (status j) ≡ at s im (status j)
-  pub peer : at s m (peer j) ≡ at s im (peer j)
-  pub words : (r : ℕ) → r < 9 → at s m (reg j r) ≡ at s im (reg j r)
+use Rattle.event_laws.specs.Whom.{woken-unless, whom, Unmoved}
 
 -- what an event that wakes w makes of im: w was not ready, and any other task that was not is as it was
 pub record WakesOnly (s : Shape) (im : List ℕ) (w : Woken) (m : List ℕ) : Type 0 where

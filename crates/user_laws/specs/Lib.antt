@@ -2,5 +2,6 @@ pub mod Folded
 pub mod Taken
 pub mod Once
 pub mod Words
+pub mod Balance
 pub mod Asked
 pub mod Waiting

@@ -30,17 +30,12 @@ use Rattle.laws.specs.Room.{waits-not}
 use Rattle.event_laws.specs.Standing.{awaits, waits-one}
 use Rattle.event_laws.specs.Serving.{one-is}
 use Rattle.event_laws.specs.Walk.{asked-for, input-any, done-any}
-use Rattle.event_laws.specs.Wakes.{woken-unless, asked-wakes, whom, Unmoved, some-capacity, is-full, wakes-only}
+use Rattle.event_laws.specs.Whom.{woken-unless, asked-wakes, whom, Unmoved}
+use Rattle.event_laws.specs.Wakes.{some-capacity, is-full, wakes-only}
 use Rattle.user_laws.specs.Folded.{event-is}
-use Rattle.user_laws.specs.Words.{done, sent, got, all-sent, all-got, send-told, receive-told, served-reply, calls-good}
+use Rattle.user_laws.specs.Words.{done, sent, got, all-sent, all-got, for-it}
+use Rattle.user_laws.specs.Balance.{send-told, receive-told, served-reply, calls-good}
 use Rattle.user_laws.specs.Asked.{asked-done}
-
--- the words that a task waits for with a service: those sent to its buffer, or those got from it, which free a slot
-abbrev pub for-it : Service → List ℕ → List ℕ → List ℕ
-for-it Service.Send sent got = got
-for-it Service.Receive sent got = sent
-for-it Service.Input sent got = sent
-for-it Service.Output sent got = got
 
 -- a test that wakes somebody, and what it tells
 module _ (j : Task) where
