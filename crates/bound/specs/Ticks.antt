@@ -34,10 +34,9 @@ use Rattle.laws.specs.Agree.{own-after}
 use Rattle.laws.specs.Checked.{good-sound}
 use Rattle.laws.specs.Events.{Formed, event-formed, words-any}
 use Rattle.laws.specs.Frame.{Apart, frame-none, frame-put, kept, kept-clock, kept-empty, kept-full}
-use Rattle.laws.specs.Room.{finds-room, good-roomy}
+use Rattle.laws.specs.Room.{finds-room, waits-not, good-roomy}
 use Rattle.laws.specs.Changes.{header-part, moved-parts, small-error}
 use Rattle.event_laws.specs.Own.{own-parts, own-picked, clock-apart}
-use Rattle.laws.specs.Room.{waits-not}
 use Rattle.event_laws.specs.Turns.{joined-clock, Leads, leads-sound, leads-in, leads-list, left-list, turned-list}
 use Rattle.event_laws.specs.Serving.{served-nearly, wakes-whom}
 use Rattle.event_laws.specs.Walk.{ServiceCases, Begins, Spends, tick-any, input-any, done-any, event-any}

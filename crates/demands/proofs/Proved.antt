@@ -21,7 +21,7 @@ use Rattle.laws.specs.Fresh.{fresh-checked}
 use Rattle.laws.specs.Events.{event-formed}
 use Rattle.laws.specs.Room.{good-listed, listed-none, waits-not}
 use Rattle.event_laws.specs.Stays.{words-good}
-use Rattle.event_laws.specs.Wakes.{wake-finds-room}
+use Rattle.event_laws.specs.Wakes.{wake-finds-room, wakes-exactly}
 use Rattle.user_laws.specs.Folded.{event-is, event-unchanged, run-refused}
 use Rattle.user_laws.specs.Balance.{calls-good, calls-words}
 use Rattle.user_laws.specs.Asked.{asked-waits, asked-done}
@@ -173,7 +173,13 @@ demand3 =
     }
 
 request5 : Request5
-request5 = record { finds-room = λ im k d c w. wake-finds-room (shape-of im) im (passed im w) (event-of (shape-of im) k d c) (event-formed (shape-of im) k d c) }
+request5 =
+    record {
+      wakes = λ im k d c answer after w p.
+          let g = passed im w in
+          rw (p .left, event-is (shape-of im) im g k d c) (wakes-exactly (shape-of im) im g (event-of (shape-of im) k d c) (event-formed (shape-of im) k d c));
+      finds-room = λ im k d c w. wake-finds-room (shape-of im) im (passed im w) (event-of (shape-of im) k d c) (event-formed (shape-of im) k d c);
+    }
 
 pub demands : Demands
 demands = record { first = demand1; second = demand2; third = demand3; request-2 = request2; request-5 = request5 }

@@ -10,7 +10,7 @@ use lib.Dec.{eqb}
 use lib.ListN.{length, getD}
 use Rattle.paper.specs.Image.{total, shape-of, at, clock, status, busy}
 use Rattle.paper.specs.Queues.{Has, held, empty, full}
-use Rattle.paper.specs.Flags.{pending, waits}
+use Rattle.paper.specs.Flags.{pending, is-ready, waits}
 use Rattle.paper.specs.Services.{fault-of, blocked}
 use Rattle.paper.specs.Events.{event-of, running, happening}
 use Rattle.paper.specs.Plans.{plan-shape, fresh}
@@ -286,6 +286,9 @@ pub record Request2 : Type 0 where
 -- "Show from the rules of a good image that a wake always finds room"
 
 pub record Request5 : Type 0 where
+  -- a task that is not ready becomes so exactly where an event wakes it
+  pub wakes : (im : List ℕ) (k d c : ℕ) (answer : Reply) (after : List ℕ) → Checks im 0 → Happens im k d c answer after → (i : Task) → i .0 < shape-of im .n
+      → at (shape-of im) im (status i) ≢ is-ready → (at (shape-of im) after (status i) ≡ is-ready) ↔ (whom (shape-of im) im (event-of (shape-of im) k d c) ≡ Woken.One i)
   -- whom an event wakes is a task that is not in the ready queue, and of the queue's N slots one is free
   pub finds-room : (im : List ℕ) (k d c : ℕ) → Checks im 0 → (i : Task) → whom (shape-of im) im (event-of (shape-of im) k d c) ≡ Woken.One i
       → (i .0 < shape-of im .n) × (times (i .0) (held (shape-of im) im Queue.Ready) ≡ 0) × (length (held (shape-of im) im Queue.Ready) < shape-of im .n)

@@ -2,16 +2,17 @@
 use mathlib.Core.Path.{_≡_, refl, sym, ap, _∙_}
 use mathlib.Core.List.{List}
 use mathlib.Core.Bool.{Bool, true, false, _||_, true≢false}
-use mathlib.Core.Logic.{_≢_, inl, inr}
+use mathlib.Core.Logic.{_≢_, _↔_, _⊎_, inl, inr, ⊎-elim, dite}
 use Prim.Native.Nat.{ℕ, _<_, _≤_}
+use native.Mathlib.Decide.{ℕ-discrete}
 use native.Mathlib.Omega.{arith}
 use borrow.Author.Tests.{eqb-true, eq-eqb, ne-eqb}
 use lib.Dec.{eqb}
 use lib.ListN.{length}
 use Rattle.paper.specs.Image.{ord, cell, at, clock, reg, flags, status, peer}
-use Rattle.paper.specs.Queues.{Has, header-capacity, appended, held, full}
+use Rattle.paper.specs.Queues.{Has, header-capacity, appended, held, empty, full}
 use Rattle.paper.specs.Flags.{error, is-ready, waits}
-use Rattle.paper.specs.Waking.{woken, one-if}
+use Rattle.paper.specs.Waking.{dispatched, with-status, readied, woken, one-if}
 use Rattle.paper.specs.Services.{service-faulted, fault-of, blocked, awaited, waiting, wakes, served}
 use Rattle.paper.specs.Events.{running, tick, input, port-next, output-done, happening}
 use Rattle.paper.specs.Rules.{Empty, Full, times, Good}
@@ -25,11 +26,12 @@ use Rattle.paper.specs.declared.Fault.{Fault}
 use Rattle.paper.specs.declared.Woken.{Woken}
 use Rattle.paper.specs.declared.Event.{Event}
 use Rattle.laws.specs.Queues.{same-task}
+use Rattle.laws.specs.Cases.{when}
 use Rattle.laws.specs.Sound.{Sound, has-space, appended-sound}
 use Rattle.laws.specs.Checked.{good-sound}
 use Rattle.laws.specs.Events.{Formed}
-use Rattle.laws.specs.Frame.{Frame, frame-none, frame-more, frame-put, frame-appended, kept-status}
-use Rattle.laws.specs.Changes.{header-part, device-parts, status-sound, frame-status, frame-left, frame-woken, frame-served, frame-next}
+use Rattle.laws.specs.Frame.{Frame, Apart, frame-none, frame-more, frame-put, frame-appended, kept-status}
+use Rattle.laws.specs.Changes.{header-part, dispatch-parts, device-parts, status-is, status-sound, frame-status, frame-left, frame-woken, frame-served, frame-next}
 use Rattle.laws.specs.Orders.{OwnCell}
 use Rattle.laws.specs.Room.{good-listed, listed-none, listed-few, waits-not}
 use Rattle.event_laws.specs.Turns.{Leads, leads-sound, leads-in, leads-ready, turned-frame}
@@ -39,9 +41,10 @@ use Rattle.event_laws.specs.Stays.{begins-leads, stopped-is, order-frame
 use Rattle.event_laws.specs.Begun.{clock-only, fault-same, blocked-same, wakes-same}
 use Rattle.event_laws.specs.Whom.{woken-unless, whom, Unmoved}
 
--- what an event that wakes w makes of im: w was not ready, and any other task that was not is as it was
+-- what an event that wakes w makes of im: w was not ready and is so now, and any other task that was not is as it was
 pub record WakesOnly (s : Shape) (im : List ℕ) (w : Woken) (m : List ℕ) : Type 0 where
   pub waited : (k : Task) → w ≡ Woken.One k → (k .0 < s .n) × (at s im (status k) ≢ is-ready)
+  pub becomes : (k : Task) → w ≡ Woken.One k → at s m (status k) ≡ is-ready
   pub stays : (j : Task) → j .0 < s .n → at s im (status j) ≢ is-ready → w ≢ Woken.One j → Unmoved s im m j
 
 -- cells that are not of a task's rows in the status table and the task table
@@ -80,18 +83,32 @@ unmoved j hj f =
 -- nobody is woken, and the task whose rows change, if one does, was ready
 wakes-nobody : {s : Shape} {im m : List ℕ} → ((j : Task) → j .0 < s .n → at s im (status j) ≢ is-ready → Frame s (Off j) im m) → WakesOnly s im Woken.Nobody m
 wakes-nobody f =
-    record { waited = λ k e. absurd (let z : _≡_ {A = ℕ} 0 1 = cc in omega arith); stays = λ j hj ne _. unmoved j hj (f j hj ne) }
+    record {
+      waited = λ k e. absurd (let z : _≡_ {A = ℕ} 0 1 = cc in omega arith);
+      becomes = λ k e. absurd (let z : _≡_ {A = ℕ} 0 1 = cc in omega arith);
+      stays = λ j hj ne _. unmoved j hj (f j hj ne);
+    }
 
 -- a ready task is another than one that is not
 not-ready : (s : Shape) (im : List ℕ) (i j : Task) → at s im (status i) ≡ is-ready → at s im (status j) ≢ is-ready → i .0 ≢ j .0
 not-ready s im i j r n e = n (ap (λ (x : ℕ). at s im (cell Part.StatusTable x 0)) (sym e) ∙ r)
 
+-- a task that is woken is ready
+woken-ready : (s : Shape) (m : List ℕ) (k : Task) → k .0 < s .n → Sound s m → at s (woken s m k) (status k) ≡ is-ready
+unfolding woken readied dispatched
+woken-ready s m k hk h =
+    let n = with-status s m k is-ready 0 in
+    let joined : Apart s dispatch-parts n (readied s m k) = frame-appended frame-none Queue.Ready tt (status-sound s m k hk h is-ready 0) (λ r. refl) (k .0) in
+    let late : Apart s dispatch-parts n (woken s m k) = when (Apart s dispatch-parts n) (empty s m Queue.Ready) (λ _. frame-put joined clock _ (omega arith, omega arith) refl) (λ _. joined) in
+    kept-status dispatch-parts late refl k hk ∙ status-is s m k hk h is-ready 0
+
 -- one task is woken, and of tasks that were not ready no other's rows change
-wakes-one : {s : Shape} {im m : List ℕ} (k : Task) → k .0 < s .n → at s im (status k) ≢ is-ready
+wakes-one : {s : Shape} {im m : List ℕ} (k : Task) → k .0 < s .n → at s im (status k) ≢ is-ready → at s m (status k) ≡ is-ready
     → ((j : Task) → at s im (status j) ≢ is-ready → k .0 ≢ j .0 → Frame s (Off j) im m) → WakesOnly s im (Woken.One k) m
-wakes-one k hk ne f =
+wakes-one k hk ne now f =
     record {
       waited = λ j e. let z : k ≡ j = cc in rw (← z) (hk, ne);
+      becomes = λ j e. let z : k ≡ j = cc in rw (← z) now;
       stays = λ j hj still other. unmoved j hj (f j still (λ e. other (ap Woken.One (same-task k j e))));
     }
 
@@ -129,9 +146,14 @@ module _ {s : Shape} {im m : List ℕ} {i : Task} (l : Leads s im i) (b : Begins
             let w = wakes-whom here v right k one in
             let st = kept-status header-part (clock-only l b) refl k (w .0) in
             rw (sym same ∙ right, sym (clear right) ∙ free, sym (woke right) ∙ one)
-            (wakes-one k (w .0) (λ z. w .1 (st ∙ z)) (λ j ne other.
+            (wakes-one k (w .0) (λ z. w .1 (st ∙ z)) (woken-ready s _ k (w .0) (served-nearly here v right free .lies)) (λ j ne other.
             frame-woken (moves v right free j ne) (served-nearly here v right free .lies) (λ r. off-part j _ refl) (off-part j _ refl) k (w .0) (off-row k j other Part.StatusTable)));
       }
+
+one-or-not : (w : Woken) (i : Task) → (w ≡ Woken.One i) ⊎ (w ≢ Woken.One i)
+one-or-not Woken.Nobody i = inr (λ e. let z : _≡_ {A = ℕ} 0 1 = cc in omega arith)
+one-or-not (Woken.One k) i =
+    dite (ℕ-discrete (k .0) (i .0)) (λ e. inl (ap Woken.One (same-task k i e))) (λ ne. inr (λ e. let z : k ≡ i = cc in ne (ap (λ (x : Task). x .0) z)))
 
 module _ (s : Shape) (im : List ℕ) (g : Good s im) where
   tick-wakes-only : WakesOnly s im (whom s im Event.Tick) (tick s im .image)
@@ -171,7 +193,7 @@ module _ (s : Shape) (im : List ℕ) (g : Good s im) where
     owner-wakes-only : Sound s m → at s im (status i) ≡ waits v → WakesOnly s im (one-if (eqb (at s im (status i)) (waits v)) i) (woken s m i)
     owner-wakes-only h e =
         rw (eq-eqb (at s im (status i)) (waits v) e)
-        (wakes-one i hi (λ z. waits-not v (sym z ∙ e)) (λ j _ other. frame-woken (f j) h (λ r. off-part j _ refl) (off-part j _ refl) i hi (off-row i j other Part.StatusTable)))
+        (wakes-one i hi (λ z. waits-not v (sym z ∙ e)) (woken-ready s m i hi h) (λ j _ other. frame-woken (f j) h (λ r. off-part j _ refl) (off-part j _ refl) i hi (off-row i j other Part.StatusTable)))
 
   -- a queue is not both empty and full
   pub some-capacity : (q : Queue) → Has s q → 1 ≤ header-capacity s q → Empty s im q → ¬ Full s im q
@@ -209,3 +231,10 @@ module _ (s : Shape) (im : List ℕ) (g : Good s im) where
   wake-finds-room e f k one =
       let w = wakes-only e f .waited k one in
       (w .0, listed-none s im (good-listed g) k (w .0) (w .1), listed-few s im (good-listed g) k (w .0) (w .1))
+
+  -- and a task that is not ready becomes so exactly where the event wakes it
+  pub wakes-exactly : (e : Event) → Formed s e → (i : Task) → i .0 < s .n → at s im (status i) ≢ is-ready
+      → (at s (happening s im e .image) (status i) ≡ is-ready) ↔ (whom s im e ≡ Woken.One i)
+  wakes-exactly e f i hi ne =
+      let w = wakes-only e f in
+      (λ now. ⊎-elim (λ one. one) (λ other. absurd (ne (sym (w .stays i hi ne other .status) ∙ now))) (one-or-not (whom s im e) i), w .becomes i)
