@@ -1,18 +1,17 @@
 -- The twenty rules are what number 6 goes by: all of them hold exactly where the tests of `rules-hold` do. Assumes nothing.
-use mathlib.Core.Path.{_≡_, refl, sym, ap, _∙_}
+use mathlib.Core.Path.{_≡_, refl, ap, _∙_}
 use mathlib.Core.List.{List}
-use mathlib.Core.Bool.{Bool, true, false, not, _&&_, and-eq-true-iff}
-use mathlib.Core.Logic.{_≢_, dite}
+use mathlib.Core.Bool.{Bool, true, and-eq-true-iff}
+use mathlib.Core.Logic.{dite}
 use Prim.Native.Nat.{ℕ, _+_, _-_, _*_, _/_, _%_, _<_, _≤_}
 use native.Mathlib.Nat.{mul-le-mul-right, mul-add-div-right, mul-add-mod-self-right, div-eq-of-lt, mod-eq-of-lt}
 use native.Mathlib.Decide.{ℕ-discrete, decLt}
 use native.Mathlib.Omega.{arith}
 use borrow.Author.Tests.{lt-ltb, le-ltb, eq-eqb, ne-eqb, eqb-true}
-use lib.Dec.{eqb, leb, ltb}
 use Rattle.paper.specs.Image.{task, most-character, at}
-use Rattle.paper.specs.Queues.{Has, header-capacity, head, tail, count, capacity, held}
+use Rattle.paper.specs.Queues.{Has, header-capacity, capacity, held}
 use Rattle.paper.specs.Rules.{Fit}
-use Rattle.paper.specs.Tests.{every, every-task, all-below, queued, readied-tasks, clock-holds, buffers-hold, characters, readied-once, port-holds, flags-hold, status-holds, task-holds, rules-hold}
+use Rattle.paper.specs.Tests.{every-task, all-below, queued, readied-tasks, clock-holds, buffers-hold, characters, readied-once, port-holds, flags-hold, status-holds, task-holds, rules-hold}
 use Rattle.paper.specs.declared.Task.{Task}
 use Rattle.paper.specs.declared.Shape.{Shape}
 use Rattle.paper.specs.declared.Queue.{Queue}

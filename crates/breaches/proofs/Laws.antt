@@ -2,7 +2,7 @@
 -- rules hold. Assumes nothing.
 use mathlib.Core.Path.{_≡_, refl, sym, ap, _∙_}
 use mathlib.Core.List.{List}
-use mathlib.Core.Bool.{Bool, true, false, not, cond, true≢false}
+use mathlib.Core.Bool.{Bool, true, false, not, true≢false}
 use mathlib.Core.Logic.{_≢_, dite}
 use Prim.Native.Nat.{ℕ, _+_, _-_, _<_, _≤_}
 use native.Mathlib.Decide.{ℕ-discrete}
@@ -10,17 +10,17 @@ use native.Mathlib.Omega.{arith}
 use borrow.Author.Tests.{eq-eqb, ne-eqb, eqb-true}
 use lib.Dec.{eqb}
 use Rattle.paper.specs.Image.{shape-of}
-use Rattle.paper.specs.Rules.{Fit, Good}
+use Rattle.paper.specs.Rules.{Good}
 use Rattle.paper.specs.Tests.{every, rules-hold}
 use Rattle.paper.specs.Numbers.{number, verdict-number, too-short, not-marked, out-of-range, not-packed, wrong-segments, check}
 use Rattle.paper.specs.declared.Shape.{Shape}
 use Rattle.paper.specs.declared.Refusal.{Refusal}
 use Rattle.paper.specs.declared.Verdict.{Verdict}
-use Rattle.laws.specs.Checked.{every-is, passed, checked-good, good-checked, never-fine}
+use Rattle.laws.specs.Checked.{every-is, passed, checked-good, good-checked}
 use Rattle.laws.specs.Sound.{Sized, sized-fit}
 use Rattle.single_rules.specs.Each.{kind, subjects, holds}
 use Rattle.single_rules.specs.declared.Rule.{Rule}
-use Rattle.breaches.specs.Order.{rules, rule, number-of-rule, subject}
+use Rattle.breaches.specs.Order.{rule, number-of-rule, subject}
 use Rattle.breaches.specs.First.{first-failing}
 use Rattle.breaches.specs.Broken.{kept, breaker, told, breach-at, breach, broken-as, broken}
 use Rattle.breaches.specs.declared.Failing.{Failing}

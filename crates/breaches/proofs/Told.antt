@@ -1,12 +1,12 @@
 -- The first broken rule, as the code finds it. Assumes nothing.
 use mathlib.Core.Path.{_≡_, refl, sym, ap, _∙_}
 use mathlib.Core.List.{List}
-use mathlib.Core.Bool.{Bool, true, false, not, cond, true≢false}
+use mathlib.Core.Bool.{Bool, true, false, not}
 use mathlib.Core.Logic.{_≢_}
 use Prim.Native.Nat.{ℕ, _*_, _<_, _≤_}
 use native.Mathlib.Nat.{mul-le-mul}
 use native.Mathlib.Omega.{arith}
-use borrow.Author.Tests.{eq-eqb, ne-eqb, not-true, not-false}
+use borrow.Author.Tests.{eq-eqb, ne-eqb, not-true}
 use Rattle.paper.specs.Image.{task, most-tasks, shape-of}
 use Rattle.paper.specs.Rules.{Fit}
 use Rattle.paper.specs.Tests.{every, rules-hold}
@@ -16,18 +16,17 @@ use Rattle.paper.specs.declared.Queue.{Queue}
 use Rattle.paper.specs.declared.Refusal.{Refusal}
 use Rattle.paper.specs.declared.Verdict.{Verdict}
 use Rattle.laws.specs.Every.{every-fails}
-use Rattle.laws.specs.Sound.{Sized, sized-fit}
+use Rattle.laws.specs.Sound.{Sized}
 use Rattle.inspect.proofs.Tested.{sized-so}
 use Rattle.single_rules.specs.Each.{kind, queues, subjects, queue, holds}
 use Rattle.single_rules.specs.declared.Rule.{Rule}
 use Rattle.single_rules.specs.declared.Kind.{Kind}
 use Rattle.breaches.specs.Order.{rule, subject}
-use Rattle.breaches.specs.First.{first-failing}
 use Rattle.breaches.specs.Broken.{kept, breaker, breach, broken, TellsBroken}
 use Rattle.breaches.specs.declared.Failing.{Failing}
 use Rattle.breaches.specs.declared.Broken.{Broken}
 use Rattle.breaches.specs.declared.Subject.{Subject}
-use Rattle.breaches.proofs.First.{FailsFirst, Says, first-says, first-at, first-nowhere}
+use Rattle.breaches.proofs.First.{Says, first-says, first-at, first-nowhere}
 
 -- how many tasks, queues or clocks there are, and which each is
 pub few-pairs : (s : Shape) → Fit s → s .n * s .n ≤ most-tasks * most-tasks

@@ -4,7 +4,7 @@ use Prim.Native.Nat.{ℕ}
 use lib.ListN.{getD}
 use Rattle.paper.specs.Image.{task}
 use Rattle.paper.specs.declared.Shape.{Shape}
-use Rattle.single_rules.specs.Each.{kind, queue}
+use Rattle.single_rules.specs.Each.{queue}
 use Rattle.single_rules.specs.declared.Rule.{Rule}
 use Rattle.single_rules.specs.declared.Kind.{Kind}
 use Rattle.breaches.specs.declared.Subject.{Subject}

@@ -1,5 +1,5 @@
 -- Laws of counts that grow and of their room. Assumes nothing.
-use mathlib.Core.Path.{_≡_, refl, sym}
+use mathlib.Core.Path.{_≡_, refl}
 use mathlib.Core.List.{List, [], _∷_}
 use mathlib.Core.Bool.{false}
 use mathlib.Core.Logic.{_≢_, dite}
@@ -8,7 +8,7 @@ use native.Mathlib.Decide.{ℕ-discrete, decLt}
 use native.Mathlib.Omega.{arith}
 use borrow.Author.Tests.{ne-eqb}
 use lib.ListN.{length, getD, length-set, List·getD-eq-default}
-use lib.Seq.{getD-set-same, getD-set-other, set-getD, set-set, set-comm, set-out}
+use lib.Seq.{getD-set-same, getD-set-other, set-getD, set-set, set-out}
 use Rattle.paper.specs.Image.{most-tasks}
 use Rattle.paper.specs.Counts.{headings, idle-count, column, count-place, grown, counted, most-count, at-end, passes-end, sum}
 use Rattle.paper.specs.declared.Task.{Task}
@@ -65,20 +65,6 @@ grown-twice counts k m n =
     (λ (h : ¬ (k < length counts)).
     let out : length counts ≤ k = omega (arith, h) in
     rw (grown-out counts k m out, grown-out counts k n out, grown-out counts k (m + n) out))
-
-swap-apart : (counts : List ℕ) (k j m n : ℕ) → j ≢ k → grown (grown counts k m) j n ≡ grown (grown counts j n) k m
-unfolding grown
-swap-apart counts k j m n ne =
-    rw (getD-set-other counts k j (getD counts k 0 + m) 0 ne, getD-set-other counts j k (getD counts j 0 + n) 0 (λ e. ne (sym e)))
-    (set-comm counts k j _ _ (λ e. ne (sym e)))
-
-pub grown-swap : (counts : List ℕ) (k j m n : ℕ) → grown (grown counts k m) j n ≡ grown (grown counts j n) k m
-grown-swap counts k j m n =
-    dite (ℕ-discrete j k)
-    (λ e.
-    let swapped : m + n ≡ n + m = omega arith in
-    rw (e, grown-twice counts k m n, grown-twice counts k n m, swapped))
-    (swap-apart counts k j m n)
 
 -- room for so many ticks is room at each place, and room for fewer
 pub room-at : (counts : List ℕ) (n : ℕ) → Room counts n → (k : ℕ) → RoomAt counts k n

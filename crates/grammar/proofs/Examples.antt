@@ -1,6 +1,6 @@
 -- The page's example, one small text for each kind of refusal, and small lists printed, as one statement. Assumes nothing.
 use mathlib.Core.Path.{_≡_, refl}
-use mathlib.Core.List.{List, [], _∷_}
+use mathlib.Core.List.{[], _∷_}
 use Prim.Native.Nat.{ℕ}
 use Prim.Native.String.{String}
 use Rattle.paper.specs.Runner.{decimal as in-digits}

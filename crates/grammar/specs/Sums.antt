@@ -1,5 +1,5 @@
 -- Sums, products and terms: each reads what it can of a row of tokens, works its value left to right, and leaves the rest.
-use mathlib.Core.Bool.{Bool, true, false}
+use mathlib.Core.Bool.{true, false}
 use mathlib.Core.List.{List, [], _∷_}
 use Prim.Native.Nat.{ℕ, zero, suc, _+_, _-_, _*_}
 use lib.Dec.{leb, ltb}

@@ -3,7 +3,7 @@
 use mathlib.Core.Path.{_≡_, refl, sym, ap, _∙_}
 use mathlib.Core.List.{List}
 use mathlib.Core.Logic.{_≢_, _↔_, dite}
-use Prim.Native.Nat.{ℕ, _<_, _≤_}
+use Prim.Native.Nat.{ℕ, _≤_}
 use native.Mathlib.Decide.{ℕ-discrete}
 use native.Mathlib.Omega.{arith}
 use borrow.Author.Tests.{lt-ltb}
@@ -12,8 +12,6 @@ use Rattle.paper.specs.Numbers.{verdict-number, check}
 use Rattle.paper.specs.declared.Queue.{Queue}
 use Rattle.paper.specs.declared.Shape.{Shape}
 use Rattle.breaches.specs.Order.{number-of-rule}
-use Rattle.breaches.specs.Broken.{broken}
-use Rattle.breaches.specs.declared.Broken.{Broken}
 use Rattle.breaches.specs.declared.Subject.{Subject}
 use Rattle.breaches.proofs.Laws.{number-range, six-has-a-rule, told-else}
 use Rattle.views.specs.Looks.{named-queue}

@@ -1,5 +1,5 @@
 -- What the exported function that tells the first broken rule promises, from what the call behind it answers. Assumes nothing.
-use mathlib.Core.Path.{_≡_, refl, ap, _∙_}
+use mathlib.Core.Path.{_≡_, ap, _∙_}
 use mathlib.Core.List.{List}
 use Prim.Native.Nat.{ℕ}
 use Rattle.paper.specs.Numbers.{number}

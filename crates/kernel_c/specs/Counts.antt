@@ -1,5 +1,5 @@
 -- A run that counts and a task's share, on counts of any length: another length than 97 is refused, and no share is told of it.
-use mathlib.Core.Bool.{Bool, true, false, not, cond}
+use mathlib.Core.Bool.{Bool, not, cond}
 use mathlib.Core.List.{List}
 use Prim.Native.Nat.{ℕ}
 use lib.Dec.{eqb}

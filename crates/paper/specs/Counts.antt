@@ -1,10 +1,10 @@
 -- "Who used the machine last night" (request 4): the heading of an answer, the counts, a run that counts, a task's share.
 use mathlib.Core.List.{List, [], _∷_}
-use mathlib.Core.Bool.{Bool, true, false, cond}
+use mathlib.Core.Bool.{Bool, false, cond}
 use Prim.Native.Nat.{ℕ, _+_, _*_}
 use lib.Dec.{eqb, ltb}
 use lib.ListN.{getD, set, take, drop}
-use lib.Ieee.{Float, binary64, round}
+use lib.Ieee.{binary64, round}
 use Rattle.paper.specs.Image.{most-tasks, shape-of}
 use Rattle.paper.specs.Events.{event-of, happening}
 use Rattle.paper.specs.Calls.{check-run}

@@ -1,11 +1,9 @@
 -- What the two calls answer, by the length of the list and of the buffer. Assumes nothing.
 use mathlib.Core.Path.{_≡_, refl, sym, ap, _∙_}
-use mathlib.Core.List.{List, _++_}
+use mathlib.Core.List.{List}
 use Prim.Native.Nat.{ℕ, _<_, _≤_}
-use native.Mathlib.Omega.{arith}
 use borrow.Author.Tests.{le-leb, lt-leb}
-use lib.Dec.{leb}
-use lib.ListN.{length, drop}
+use lib.ListN.{length}
 use Rattle.grammar.specs.Printing.{printed, most-printed, measured, printing, fitting, inscribed, printing-number, printing-bytes}
 use Rattle.grammar.specs.Promises.{Prints, MeasuresText}
 use Rattle.grammar.specs.declared.Printing.{Printing}

@@ -1,14 +1,14 @@
 -- How many bytes a word gives to the text, as they are counted. Assumes nothing.
 use mathlib.Core.Path.{_≡_, refl, sym, ap, _∙_}
-use mathlib.Core.Logic.{_⊎_, inl, inr, _≢_, ⊎-elim}
-use mathlib.Core.List.{List, _++_}
-use Prim.Native.Nat.{ℕ, zero, suc, _+_, _-_, _*_, _<_, _≤_}
+use mathlib.Core.Logic.{_⊎_, _≢_, ⊎-elim}
+use mathlib.Core.List.{_++_}
+use Prim.Native.Nat.{ℕ, zero, suc, _+_, _-_, _*_, _≤_}
 use native.Mathlib.Omega.{arith}
 use lib.ListN.{length, length-append}
 use Rattle.paper.specs.Runner.{decimal, newline}
 use Rattle.packing.specs.Placing.{unpacked-length}
 use Rattle.rows.specs.Rows.{row-of, front, tail}
-use Rattle.spelling.specs.Pieces.{tail-at, order-piece}
+use Rattle.spelling.specs.Pieces.{tail-at}
 use Rattle.spelling.specs.Spelt.{piece-in-parts}
 use Rattle.printing.specs.Pieces.{piece, most-piece, RowFor, is-order}
 

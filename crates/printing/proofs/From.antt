@@ -1,12 +1,8 @@
 -- The text of a list is the piece of its first word and the text of the rest. Assumes nothing.
 use mathlib.Core.Path.{_≡_, refl, sym, ap, _∙_}
-use mathlib.Core.Bool.{Bool, true, false}
-use mathlib.Core.Logic.{_⊎_, inl, inr, _≢_}
 use mathlib.Core.List.{List, [], _∷_, _++_, append-assoc, append-nil}
-use Prim.Native.Nat.{ℕ, zero, suc, _+_, _-_, _*_, _<_, _≤_}
+use Prim.Native.Nat.{ℕ, zero, suc, _+_, _-_, _*_, _≤_}
 use native.Mathlib.Omega.{arith}
-use lib.Dec.{eqb}
-use lib.ListN.{length, getD, take, drop}
 use Rattle.paper.specs.Runner.{decimal, space, newline}
 use Rattle.grammar.specs.Tokens.{bytes}
 use Rattle.grammar.specs.Kept.{kept-words}
@@ -15,7 +11,7 @@ use Rattle.print_laws.specs.Back.{whole-of}
 use Rattle.rows.specs.Rows.{row-of, row-at, second}
 use Rattle.spelling.specs.Pieces.{number-piece, piece-by, order-piece}
 use Rattle.spelling.specs.Spelt.{plain-spelt, followed, second-spelt}
-use Rattle.printing.specs.Pieces.{piece, RowFor, row-alone, row-first, text-from}
+use Rattle.printing.specs.Pieces.{piece, row-alone, row-first, text-from}
 
 no-second : second 0 ≡ 0
 unfolding second row-at bytes kept-words

@@ -1,7 +1,7 @@
 -- How far the text of a list is counted or written after its first k words. Assumes nothing.
 use mathlib.Core.Path.{_≡_, refl, sym, ap, _∙_}
 use mathlib.Core.Bool.{Bool, true, false}
-use mathlib.Core.Logic.{_⊎_, inl, inr, _≢_}
+use mathlib.Core.Logic.{inl, inr, _≢_}
 use mathlib.Core.List.{List, [], _∷_, _++_}
 use Prim.Native.Nat.{ℕ, zero, suc, _+_, _-_, _*_, _<_, _≤_}
 use native.Mathlib.Omega.{arith}
@@ -10,8 +10,7 @@ use lib.Dec.{eqb}
 use lib.ListN.{length, getD, take, drop, length-append, length-drop, take-append-drop, drop-of-length-le}
 use lib.Seq.{drop-cons, length-take-le, take-append-add, drop-append-add, take-append-seam, drop-append-seam}
 use Rattle.grammar.specs.Printing.{printed}
-use Rattle.rows.specs.Rows.{row-of, second, rows-end}
-use Rattle.spelling.specs.Spelt.{row-few}
+use Rattle.rows.specs.Rows.{row-of, second}
 use Rattle.printing.specs.Pieces.{piece, RowFor, row-alone, row-first, text-from}
 use Rattle.printing.proofs.From.{first-piece}
 

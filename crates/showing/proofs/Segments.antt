@@ -6,7 +6,7 @@ use native.Mathlib.Nat.{mul-le-mul-right, min-le-left}
 use native.Mathlib.Omega.{arith}
 use lib.ListN.{length, take, drop, length-append, length-take}
 use lib.Seq.{take-at, length-take-le}
-use Rattle.paper.specs.Image.{start, total, at, base, len}
+use Rattle.paper.specs.Image.{start, at, base, len}
 use Rattle.paper.specs.Rules.{Fit}
 use Rattle.paper.specs.declared.Task.{Task}
 use Rattle.paper.specs.declared.Shape.{Shape}

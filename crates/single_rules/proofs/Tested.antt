@@ -1,14 +1,14 @@
 -- The rules one by one, as they are tested. Assumes nothing.
-use mathlib.Core.Path.{_≡_, refl, sym, ap, _∙_}
+use mathlib.Core.Path.{_≡_, sym, _∙_}
 use mathlib.Core.List.{List}
-use mathlib.Core.Bool.{Bool, true, false, not, cond, _&&_, _||_}
+use mathlib.Core.Bool.{Bool, true, false, not, _&&_, _||_}
 use mathlib.Core.Logic.{_≢_}
 use Prim.Native.Nat.{ℕ, _+_, _-_, _*_, _/_, _%_, _<_, _≤_}
 use native.Mathlib.Nat.{mod-lt, div-lt-iff-lt-mul, mul-le-mul-right}
 use native.Mathlib.Omega.{arith}
 use borrow.Author.Tests.{lt-ltb, le-ltb, eq-eqb, ne-eqb, not-true, not-false}
 use lib.Dec.{eqb, leb, ltb}
-use Rattle.paper.specs.Image.{most-tasks, most-capacity, most-character, at, task, clock, flags, status, peer, busy, character}
+use Rattle.paper.specs.Image.{most-tasks, most-character, at, task, clock, flags, status, peer, busy, character}
 use Rattle.paper.specs.Queues.{Has, header-capacity, head, tail, count, capacity, held, empty}
 use Rattle.paper.specs.Flags.{error}
 use Rattle.paper.specs.Rules.{Fit}

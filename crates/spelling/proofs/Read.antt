@@ -1,14 +1,13 @@
 -- What is read from the tables. Assumes nothing.
-use mathlib.Core.Path.{_≡_, refl, sym, ap, _∙_}
-use mathlib.Core.Bool.{true, false}
+use mathlib.Core.Path.{_≡_, sym, ap, _∙_}
 use mathlib.Core.List.{List}
-use Prim.Native.Nat.{ℕ, suc, _+_, _*_, _/_, _%_, _^_, _<_, _≤_}
+use Prim.Native.Nat.{ℕ, _+_, _*_, _/_, _%_, _^_, _<_, _≤_}
 use native.Mathlib.Omega.{arith}
 use borrow.Author.Tests.{lt-ltb, le-ltb}
 use lib.ListN.{length, getD}
 use Rattle.paper.specs.Orders.{a-of, b-of}
 use Rattle.packing.specs.Packed.{unpacked}
-use Rattle.rows.specs.Rows.{rows-end, sixteenths, row-of, front, tail, second, end-b, place, packed, form, RowTable, ByRow, FormTable, NameTable, TailTable, PlaceTable}
+use Rattle.rows.specs.Rows.{rows-end, row-of, front, tail, second, end-b, place, packed, form, RowTable, ByRow, FormTable, NameTable, TailTable, PlaceTable}
 use Rattle.spelling.specs.Pieces.{tail-value, tail-at, sixteenth-of}
 use Rattle.spelling.specs.Spelt.{row-few, looked, row-looked, form-front, form-tail, form-second, form-end, front-short, tail-short, front-unpacked, registers-fit, tail-fits}
 

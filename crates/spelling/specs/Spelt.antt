@@ -1,23 +1,23 @@
 -- What the rows say of words, by tests that antt computes over the words that orders begin with and over the rows. Assumes nothing.
 use mathlib.Core.Path.{_≡_, refl, sym, ap, _∙_}
-use mathlib.Core.Bool.{Bool, true, false, not, _&&_, _||_, So, and-eq-true-iff, true≢false}
+use mathlib.Core.Bool.{Bool, true, false, not, _||_, So, true≢false}
 use mathlib.Core.Logic.{_≢_}
-use mathlib.Core.List.{List, [], _∷_, _++_}
-use Prim.Native.Nat.{ℕ, zero, suc, _+_, _*_, _/_, _%_, _^_, _<_, _≤_, min}
+use mathlib.Core.List.{List, _++_}
+use Prim.Native.Nat.{ℕ, _+_, _*_, _/_, _%_, _^_, _<_, _≤_}
 use native.Mathlib.Omega.{arith}
 use borrow.Author.Tests.{eqb-true, eq-eqb, ne-eqb, ltb-true, lt-ltb, leb-true}
 use lib.Dec.{eqb, leb, ltb}
-use lib.ListN.{length, getD, take, drop}
+use lib.ListN.{length}
 use Rattle.paper.specs.Orders.{a-of, b-of}
 use Rattle.paper.specs.Runner.{decimal}
 use Rattle.grammar.specs.Tokens.{bytes, same}
 use Rattle.grammar.specs.Kept.{kept-words}
-use Rattle.grammar.specs.Printing.{Named, named-in, named-as, Spelling, spelling}
+use Rattle.grammar.specs.Printing.{named-in, named-as, Spelling, spelling}
 use Rattle.order_table.specs.Reading.{all-below, all-below-at}
-use Rattle.print_laws.specs.Sweep.{end-of-orders, none-past, each-order, swept}
+use Rattle.print_laws.specs.Sweep.{end-of-orders, swept}
 use Rattle.text_laws.specs.Words.{same-is}
 use Rattle.packing.specs.Packed.{unpacked}
-use Rattle.rows.specs.Rows.{rows-end, sixteenths, row-from, row-named, row-of, row-at, front, tail, second, end-b, place, packed, form}
+use Rattle.rows.specs.Rows.{rows-end, row-from, row-named, row-of, row-at, front, tail, second, end-b, place, packed, form}
 use Rattle.spelling.specs.Pieces.{tail-value, tail-at, sixteenth-of, piece-by, order-piece}
 
 -- there are 24 rows

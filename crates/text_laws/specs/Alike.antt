@@ -10,7 +10,7 @@ use lib.ListN.{length, getD}
 use Rattle.grammar.specs.Tokens.{lines, tokens}
 use Rattle.grammar.specs.Sums.{Entry}
 use Rattle.grammar.specs.Lines.{names-line, label-of, body-of, size-of, given, line-words}
-use Rattle.grammar.specs.Texts.{number, lower, names-flaw, names-give, label-gives, label-flaw, given-flaw, noted, line, next, names-given, labels-given, script-words, last-line, nowhere, judged-as, judged, answered, stored, program, given-names, given-all, text-of}
+use Rattle.grammar.specs.Texts.{number, lower, names-flaw, names-give, label-gives, label-flaw, given-flaw, noted, next, names-given, labels-given, script-words, last-line, nowhere, judged-as, judged, answered, stored, program, given-names, given-all, text-of}
 use Rattle.grammar.specs.Promises.{Translates}
 use Rattle.grammar.specs.declared.Refusal.{Refusal}
 use Rattle.grammar.specs.declared.Flaw.{Flaw}

@@ -1,6 +1,6 @@
 -- What is told of a refused line lies in it, and an accepted program in its target. Assumes nothing.
 use mathlib.Core.List.{List}
-use Prim.Native.Nat.{ℕ, _-_, _≤_}
+use Prim.Native.Nat.{ℕ, _≤_}
 use lib.ListN.{length}
 
 -- both texts are short enough

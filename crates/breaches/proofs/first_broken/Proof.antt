@@ -1,10 +1,10 @@
 -- The rules before k are kept.
-use mathlib.Core.Path.{_≡_, sym, ap, _∙_}
+use mathlib.Core.Path.{sym, ap, _∙_}
 use Prim.Native.Nat.{_-_, _≤_}
 use native.Mathlib.Omega.{arith}
 use Rattle.laws.specs.Every.{every-none, every-more}
 use Rattle.laws.specs.Sound.{sized-fit}
-use Rattle.breaches.specs.Broken.{kept, breaker}
+use Rattle.breaches.specs.Broken.{kept}
 use Rattle.breaches.proofs.Told.{KeptBefore, is-kept, at-in, breach-told, breach-none}
 use borrow.Author.Needs.{needs}
 use Rattle.breaches.proofs.first_broken.Statement.{statement}

@@ -4,7 +4,6 @@ use native.Mathlib.Omega.{arith}
 use mathlib.Core.Logic.{⊎-elim}
 use lib.ListN.{length}
 use Rattle.counting.proofs.Counting.{FirstUpto, first-none, first-more, first-all}
-use borrow.Author.Needs.{needs}
 use Rattle.counting.proofs.greatest.Statement.{statement}
 use Rattle.counting.proofs.greatest.Tie as tie
 

@@ -1,5 +1,4 @@
 -- What a callee tells is told on.
-use Rattle.outside.specs.Reasons.{Fits}
 use borrow.Author.Needs.{needs}
 use Rattle.outside.proofs.end_reason.Statement.{statement}
 use Rattle.outside.proofs.end_reason.Tie as tie

@@ -1,5 +1,4 @@
 -- A number as one number of bytes, an order as two.
-use mathlib.Core.Path.{_≡_, sym, _∙_}
 use native.Mathlib.Omega.{arith}
 use Rattle.printing.proofs.Put.{number-fits, number-put, own-row, own-row-few, front-fits, tail-fits, order-put}
 use borrow.Author.Needs.{needs}

@@ -1,5 +1,5 @@
 -- After k words the text stands in front, up to `at`, and nothing past its end is altered.
-use Prim.Native.Nat.{_-_, _≤_}
+use Prim.Native.Nat.{_-_}
 use native.Mathlib.Omega.{arith}
 use lib.ListN.{length, take}
 use Rattle.grammar.specs.Printing.{printed}

@@ -1,5 +1,4 @@
 -- The row of the word's sixteenth, where the field b is in range.
-use native.Mathlib.Omega.{arith}
 use Rattle.spelling.proofs.Read.{row-read, row-taken, row-none}
 use borrow.Author.Needs.{needs}
 use Rattle.spelling.proofs.row_of.Statement.{statement}

@@ -1,5 +1,4 @@
 -- The tail of the word's row, with the word's registers.
-use native.Mathlib.Omega.{arith}
 use Rattle.packing.specs.Packed.{bytes-of}
 use Rattle.spelling.proofs.Read.{row-is-few, registers-small, tail-small, tail-made, tail-few}
 use borrow.Author.Needs.{needs}

@@ -1,5 +1,5 @@
 -- As many bytes were found as the buffer holds, or fewer, and then the file has ended.
-use Rattle.disk.proofs.Bytes.{starts-short, starts-full}
+use Rattle.disk.proofs.Bytes.{starts-short}
 use borrow.Author.Needs.{needs}
 use Rattle.disk.proofs.reading.load_start.Statement.{statement}
 use Rattle.disk.proofs.reading.load_start.Tie as tie

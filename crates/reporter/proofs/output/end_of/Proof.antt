@@ -1,7 +1,6 @@
 -- A page ends in its room.
 use native.Mathlib.Omega.{arith}
 use Rattle.disk.proofs.Bytes.{counted}
-use borrow.Author.Needs.{needs}
 use Rattle.reporter.proofs.output.end_of.Statement.{statement}
 use Rattle.reporter.proofs.output.end_of.Tie as tie
 

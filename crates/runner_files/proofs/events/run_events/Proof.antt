@@ -1,5 +1,5 @@
 -- The image stays good, the buffers keep their lengths, and there are numbers left for the events of the buffers to come.
-use mathlib.Core.Path.{_≡_, refl, _∙_}
+use mathlib.Core.Path.{_≡_, refl}
 use Prim.Native.Nat.{_+_, _*_, _<_, _≤_}
 use native.Mathlib.Omega.{arith}
 use lib.ListN.{length}
