@@ -33,8 +33,8 @@ use Rattle.laws.specs.Orders.{own-flags}
 use Rattle.laws.specs.Agree.{own-after}
 use Rattle.laws.specs.Checked.{good-sound}
 use Rattle.laws.specs.Events.{Formed, event-formed, words-any}
-use Rattle.laws.specs.Frame.{Apart, frame-none, frame-put, kept, kept-clock, kept-empty, kept-full}
-use Rattle.laws.specs.Room.{finds-room, waits-not, good-roomy}
+use Rattle.laws.specs.Frame.{Apart, frame-none, frame-put, kept, kept-clock, kept-empty}
+use Rattle.laws.specs.Room.{waits-not}
 use Rattle.laws.specs.Changes.{header-part, moved-parts, small-error}
 use Rattle.event_laws.specs.Own.{own-parts, own-picked, clock-apart}
 use Rattle.event_laws.specs.Turns.{joined-clock, Leads, leads-sound, leads-in, leads-list, left-list, turned-list}
@@ -103,12 +103,9 @@ uses-count : (s : Shape) (k d c : ℕ) → tick-count k d c ≡ uses (event-of s
 uses-count s k d c = words-any s k d c (λ e. tick-count k d c ≡ uses e) (λ t. rw t) (λ f _ _. rw f) (λ f _. rw f) (λ f. rw f)
 
 -- a word moved and a task woken, where the ready queue is not empty: no dispatch
-woke-clock : {s : Shape} {im m : List ℕ} → Apart s moved-parts im m → Good s im → Sound s m → (k : Task) → k .0 < s .n → at s im (status k) ≢ is-ready
-    → empty s im Queue.Ready ≡ false → at s (woken s m k) clock ≡ at s im clock
+woke-clock : {s : Shape} {im m : List ℕ} → Apart s moved-parts im m → Sound s m → (k : Task) → k .0 < s .n → empty s im Queue.Ready ≡ false → at s (woken s m k) clock ≡ at s im clock
 unfolding woken
-woke-clock {s} {im} {m} a g h k hk waited some =
-    let room = finds-room s im (good-roomy g) k hk waited in
-    rw (kept-empty moved-parts a Queue.Ready tt refl ∙ some) (joined-clock s m k hk h (kept-full moved-parts a Queue.Ready tt refl ∙ room) ∙ kept-clock moved-parts a refl)
+woke-clock {s} {im} {m} a h k hk some = rw (kept-empty moved-parts a Queue.Ready tt refl ∙ some) (joined-clock s m k hk h ∙ kept-clock moved-parts a refl)
 
 -- a service that does not wait leaves the clock that it began with
 module _ {s : Shape} {im : List ℕ} {i : Task} (l : Leads s im i) (v : Service) where
@@ -144,7 +141,7 @@ module _ (s : Shape) (im : List ℕ) (g : Good s im) (some : empty s im Queue.Re
         woke = λ k right clear one.
             let w = wakes-whom here v right k one in
             Step.does calm (inl refl) refl
-            (stays (served-woke here v right clear k one) (woke-clock (served-apart here v right clear) (here .rules) (served-nearly here v right clear .lies) k (w .0) (w .1) (here .some)));
+            (stays (served-woke here v right clear k one) (woke-clock (served-apart here v right clear) (served-nearly here v right clear .lies) k (w .0) (here .some)));
       }
     where
       stays : {o : List ℕ} → KeepsPlace s m o → at s o clock ≡ at s m clock → Stays s im o 1
@@ -185,7 +182,7 @@ module _ (s : Shape) (im : List ℕ) (g : Good s im) (some : empty s im Queue.Re
     alone-stays a = (apart-keeps moved-parts a refl (leads-sound l), omega (arith, kept-clock moved-parts a refl))
 
     woke-stays : {m : List ℕ} → Apart s moved-parts im m → Sound s m → at s im (status j) ≢ is-ready → Stays s im (woken s m j) 0
-    woke-stays a h waited = (woke-keeps a g h j hj waited, omega (arith, woke-clock a g h j hj waited some))
+    woke-stays a h waited = (woke-keeps a g h j hj waited, omega (arith, woke-clock a h j hj some))
 
     device-steps : {m : List ℕ} {a : Answer} → 8 ≤ kind a → Stays s im m 0 → Apart s event-parts im m → Step s im 0 (Reply.Accepted a) m
     device-steps d k u = Step.device d k (rw (kept event-parts u (flags i) (leads-in l, omega arith) refl))

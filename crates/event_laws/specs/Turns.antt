@@ -130,12 +130,9 @@ module _ (s : Shape) (im : List ℕ) (j : Task) (hj : j .0 < s .n) (h : Sound s 
   entry-held = kept-held status-part entry-apart Queue.Ready tt refl h
 
 -- a task that joins the ready queue
-module _ (s : Shape) (im : List ℕ) (j : Task) (hj : j .0 < s .n) (h : Sound s im) (room : full s im Queue.Ready ≡ false) where
+module _ (s : Shape) (im : List ℕ) (j : Task) (hj : j .0 < s .n) (h : Sound s im) where
   entry-sound : Sound s (with-status s im j is-ready 0)
   entry-sound = status-sound s im j hj h is-ready 0
-
-  entry-room : at s (with-status s im j is-ready 0) (count s Queue.Ready) < at s (with-status s im j is-ready 0) (capacity s Queue.Ready)
-  entry-room = has-space s _ entry-sound Queue.Ready tt (kept-full status-part (entry-apart s im j hj h is-ready 0) Queue.Ready tt refl ∙ room)
 
   joined-frame : Frame s (TurnCell j) im (readied s im j)
   unfolding readied
@@ -145,23 +142,48 @@ module _ (s : Shape) (im : List ℕ) (j : Task) (hj : j .0 < s .n) (h : Sound s 
   unfolding readied
   joined-late = frame-appended frame-none Queue.Ready tt entry-sound (λ r. refl) (j .0)
 
+  joined-status : at s (readied s im j) (status j) ≡ is-ready
+  joined-status = kept-status dispatch-parts joined-late refl j hj ∙ status-is s im j hj h is-ready 0
+
+  -- before a dispatch the clock is as it was
+  pub joined-clock : at s (readied s im j) clock ≡ at s im clock
+  unfolding readied
+  joined-clock =
+      kept-clock ready-part (frame-appended frame-none Queue.Ready tt entry-sound (λ r. refl) (j .0)) refl ∙
+      kept-clock status-part (entry-apart s im j hj h is-ready 0) refl
+
+  -- woken, a task is ready
+  pub woken-ready : at s (woken s im j) (status j) ≡ is-ready
+  unfolding woken dispatched
+  woken-ready =
+      when (λ m. at s m (status j) ≡ is-ready) (empty s im Queue.Ready)
+      (λ _. kept-status header-part (clock-apart (clock-put s (readied s im j) _)) refl j hj ∙ joined-status) (λ _. joined-status)
+
+-- where there is room
+module _ (s : Shape) (im : List ℕ) (j : Task) (hj : j .0 < s .n) (h : Sound s im) (room : full s im Queue.Ready ≡ false) where
+  entry : Sound s (with-status s im j is-ready 0)
+  entry = entry-sound s im j hj h
+
+  entry-room : at s (with-status s im j is-ready 0) (count s Queue.Ready) < at s (with-status s im j is-ready 0) (capacity s Queue.Ready)
+  entry-room = has-space s _ entry Queue.Ready tt (kept-full status-part (entry-apart s im j hj h is-ready 0) Queue.Ready tt refl ∙ room)
+
   joined-sound : Sound s (readied s im j)
   unfolding readied
-  joined-sound = appended-sound s _ Queue.Ready tt entry-sound (j .0) entry-room
+  joined-sound = appended-sound s _ Queue.Ready tt entry (j .0) entry-room
 
   joined-list : held s (readied s im j) Queue.Ready ≡ held s im Queue.Ready ++ (j .0 ∷ [])
   unfolding readied
   joined-list =
-      appended-held s _ Queue.Ready tt (sound entry-sound .laid .words) (sound entry-sound .queues Queue.Ready tt) (j .0) entry-room ∙
+      appended-held s _ Queue.Ready tt (sound entry .laid .words) (sound entry .queues Queue.Ready tt) (j .0) entry-room ∙
       rw (entry-held s im j hj h is-ready 0)
 
   joined-some : at s (readied s im j) (count s Queue.Ready) ≢ 0
   unfolding readied
   joined-some e =
-      let c = appended-count s _ Queue.Ready tt (sound entry-sound .laid .words) (sound entry-sound .queues Queue.Ready tt) (j .0) in
+      let c = appended-count s _ Queue.Ready tt (sound entry .laid .words) (sound entry .queues Queue.Ready tt) (j .0) in
       omega arith
 
-  -- woken, a task stands at the tail of the ready queue
+  -- it stands at the tail of the ready queue
   pub woken-tail : held s (woken s im j) Queue.Ready ≡ held s im Queue.Ready ++ (j .0 ∷ [])
   unfolding woken
   woken-tail = go (empty s im Queue.Ready)
@@ -169,13 +191,6 @@ module _ (s : Shape) (im : List ℕ) (j : Task) (hj : j .0 < s .n) (h : Sound s 
       go : (b : Bool) → held s (cond b (dispatched s (readied s im j)) (readied s im j)) Queue.Ready ≡ held s im Queue.Ready ++ (j .0 ∷ [])
       go true = dispatched-held s _ joined-sound ∙ joined-list
       go false = joined-list
-
-  -- and before a dispatch the clock is as it was
-  pub joined-clock : at s (readied s im j) clock ≡ at s im clock
-  unfolding readied
-  joined-clock =
-      kept-clock ready-part (frame-appended frame-none Queue.Ready tt entry-sound (λ r. refl) (j .0)) refl ∙
-      kept-clock status-part (entry-apart s im j hj h is-ready 0) refl
 
 -- and the image is good, where it was but for that task, which finds room
 module _ {s : Shape} {im : List ℕ} (j : Task) (hj : j .0 < s .n) (h : Nearly s im (Woken.One j)) (waited : at s im (status j) ≢ is-ready) where
@@ -185,20 +200,17 @@ module _ {s : Shape} {im : List ℕ} (j : Task) (hj : j .0 < s .n) (h : Nearly s
   joined-times : (x : ℕ) → times x (held s (readied s im j) Queue.Ready) ≡ times x (held s im Queue.Ready) + (cond (eqb x (j .0)) 1 0 + 0)
   joined-times x = rw (joined-list s im j hj (h .lies) room, times-append)
 
-  joined-status : at s (readied s im j) (status j) ≡ is-ready
-  joined-status =
-      kept-status dispatch-parts (joined-late s im j hj (h .lies) room) refl j hj ∙ status-is s im j hj (h .lies) is-ready 0
-
   readied-nearly : Nearly s (readied s im j) Woken.Nobody
   readied-nearly =
-      let f = joined-frame s im j hj (h .lies) room in
-      let c = joined-clock s im j hj (h .lies) room in
+      let f = joined-frame s im j hj (h .lies) in
+      let c = joined-clock s im j hj (h .lies) in
+      let now = joined-status s im j hj (h .lies) in
       turn-nearly j f (Woken.One j) Woken.Nobody h hj (joined-sound s im j hj (h .lies) room)
       (λ x ne. joined-times x ∙ rw (ne-eqb x (j .0) ne) (omega arith))
-      (λ _. joined-times (j .0) ∙ rw (eq-eqb (j .0) (j .0) refl, h .listed j .1 (λ r. waited (r .1))), λ n. absurd (n joined-status))
+      (λ _. joined-times (j .0) ∙ rw (eq-eqb (j .0) (j .0) refl, h .listed j .1 (λ r. waited (r .1))), λ n. absurd (n now))
       (rw c (h .clocked .0), λ e. absurd (joined-some s im j hj (h .lies) room e))
-      (ready-stands s (readied s im j) j joined-status
-      (kept-peer dispatch-parts (joined-late s im j hj (h .lies) room) refl j hj ∙ peer-is s im j hj (h .lies) is-ready 0)) (λ i sp ne. ne)
+      (ready-stands s (readied s im j) j now
+      (kept-peer dispatch-parts (joined-late s im j hj (h .lies)) refl j hj ∙ peer-is s im j hj (h .lies) is-ready 0)) (λ i sp ne. ne)
 
   pub woken-nearly : Nearly s (woken s im j) Woken.Nobody
   unfolding woken

@@ -10,9 +10,9 @@ use borrow.Author.Tests.{eqb-true, eq-eqb, ne-eqb}
 use lib.Dec.{eqb}
 use lib.ListN.{length}
 use Rattle.paper.specs.Image.{ord, cell, at, clock, reg, flags, status, peer}
-use Rattle.paper.specs.Queues.{Has, header-capacity, appended, held, empty, full}
+use Rattle.paper.specs.Queues.{Has, header-capacity, appended, held, full}
 use Rattle.paper.specs.Flags.{error, is-ready, waits}
-use Rattle.paper.specs.Waking.{dispatched, with-status, readied, woken, one-if}
+use Rattle.paper.specs.Waking.{woken, one-if}
 use Rattle.paper.specs.Services.{service-faulted, fault-of, blocked, awaited, waiting, wakes, served}
 use Rattle.paper.specs.Events.{running, tick, input, port-next, output-done, happening}
 use Rattle.paper.specs.Rules.{Empty, Full, times, Good}
@@ -26,15 +26,14 @@ use Rattle.paper.specs.declared.Fault.{Fault}
 use Rattle.paper.specs.declared.Woken.{Woken}
 use Rattle.paper.specs.declared.Event.{Event}
 use Rattle.laws.specs.Queues.{same-task}
-use Rattle.laws.specs.Cases.{when}
 use Rattle.laws.specs.Sound.{Sound, has-space, appended-sound}
 use Rattle.laws.specs.Checked.{good-sound}
 use Rattle.laws.specs.Events.{Formed}
-use Rattle.laws.specs.Frame.{Frame, Apart, frame-none, frame-more, frame-put, frame-appended, kept-status}
-use Rattle.laws.specs.Changes.{header-part, dispatch-parts, device-parts, status-is, status-sound, frame-status, frame-left, frame-woken, frame-served, frame-next}
+use Rattle.laws.specs.Frame.{Frame, frame-none, frame-more, frame-put, frame-appended, kept-status}
+use Rattle.laws.specs.Changes.{header-part, device-parts, status-sound, frame-status, frame-left, frame-woken, frame-served, frame-next}
 use Rattle.laws.specs.Orders.{OwnCell}
 use Rattle.laws.specs.Room.{good-listed, listed-none, listed-few, waits-not}
-use Rattle.event_laws.specs.Turns.{Leads, leads-sound, leads-in, leads-ready, turned-frame}
+use Rattle.event_laws.specs.Turns.{woken-ready, Leads, leads-sound, leads-in, leads-ready, turned-frame}
 use Rattle.event_laws.specs.Serving.{served-nearly, wakes-whom}
 use Rattle.event_laws.specs.Walk.{asked-waits, ServiceCases, Begins, tick-any, input-any, done-any, event-any}
 use Rattle.event_laws.specs.Stays.{begins-leads, stopped-is, order-frame, first-leads, next-owner}
@@ -92,15 +91,6 @@ wakes-nobody f =
 -- a ready task is another than one that is not
 not-ready : (s : Shape) (im : List ℕ) (i j : Task) → at s im (status i) ≡ is-ready → at s im (status j) ≢ is-ready → i .0 ≢ j .0
 not-ready s im i j r n e = n (ap (λ (x : ℕ). at s im (cell Part.StatusTable x 0)) (sym e) ∙ r)
-
--- a task that is woken is ready
-woken-ready : (s : Shape) (m : List ℕ) (k : Task) → k .0 < s .n → Sound s m → at s (woken s m k) (status k) ≡ is-ready
-unfolding woken readied dispatched
-woken-ready s m k hk h =
-    let n = with-status s m k is-ready 0 in
-    let joined : Apart s dispatch-parts n (readied s m k) = frame-appended frame-none Queue.Ready tt (status-sound s m k hk h is-ready 0) (λ r. refl) (k .0) in
-    let late : Apart s dispatch-parts n (woken s m k) = when (Apart s dispatch-parts n) (empty s m Queue.Ready) (λ _. frame-put joined clock _ (omega arith, omega arith) refl) (λ _. joined) in
-    kept-status dispatch-parts late refl k hk ∙ status-is s m k hk h is-ready 0
 
 -- one task is woken, and of tasks that were not ready no other's rows change
 wakes-one : {s : Shape} {im m : List ℕ} (k : Task) → k .0 < s .n → at s im (status k) ≢ is-ready → at s m (status k) ≡ is-ready
@@ -181,11 +171,7 @@ module _ (s : Shape) (im : List ℕ) (g : Good s im) where
       off-own j ne c (inl (_, row)) = record { elsewhere = λ _ e. ne (sym row ∙ e) }
       off-own j ne c (inr (p, _)) = off-part j c (ap task-parts p)
 
-  -- a device event that changes nothing, where its owner does not wait
-  none-wakes-only : (i : Task) (v : Service) → at s im (status i) ≢ waits v → WakesOnly s im (one-if (eqb (at s im (status i)) (waits v)) i) im
-  none-wakes-only i v ne = rw (ne-eqb (at s im (status i)) (waits v) ne) (wakes-nobody (λ j _ _. frame-none))
-
-  -- one that has made m of im, and wakes its owner if it waits with service v
+  -- a device event that has made m of im, and wakes its owner if it waits with service v
   module _ (i : Task) (hi : i .0 < s .n) (v : Service) (m : List ℕ) (f : (j : Task) → Frame s (Off j) im m) where
     alone-wakes-only : at s im (status i) ≢ waits v → WakesOnly s im (one-if (eqb (at s im (status i)) (waits v)) i) m
     alone-wakes-only ne = rw (ne-eqb (at s im (status i)) (waits v) ne) (wakes-nobody (λ j _ _. f j))
@@ -208,7 +194,7 @@ module _ (s : Shape) (im : List ℕ) (g : Good s im) where
       let h = good-sound s im g in
       let f : (j : Task) → Frame s (Off j) im (appended s im (Queue.Input i) c) = λ j. frame-appended frame-none (Queue.Input i) hi h (λ r. off-part j _ refl) c in
       input-any s im i (λ o. WakesOnly s im (whom s im (Event.Input i c)) (o .image)) c
-      (λ stopped. none-wakes-only i Service.Input (λ e. some-capacity (Queue.Input i) hi (g .laid .fit .inputs .0) (g .statuses i hi .inputs e .1) (is-full (Queue.Input i) stopped)))
+      (λ stopped. alone-wakes-only i hi Service.Input im (λ j. frame-none) (λ e. some-capacity (Queue.Input i) hi (g .laid .fit .inputs .0) (g .statuses i hi .inputs e .1) (is-full (Queue.Input i) stopped)))
       (λ _. alone-wakes-only i hi Service.Input _ f) (λ clear. owner-wakes-only i hi Service.Input _ f (appended-sound s im (Queue.Input i) hi h c (has-space s im h (Queue.Input i) hi clear)))
 
   done-wakes-only : (i : Task) → i .0 < s .n → WakesOnly s im (whom s im (Event.OutputDone i)) (output-done s im i .image)
@@ -216,7 +202,7 @@ module _ (s : Shape) (im : List ℕ) (g : Good s im) where
       let h = good-sound s im g in
       let f : (j : Task) → Frame s (Off j) im (port-next s im i) = λ j. frame-next frame-none h i hi (λ r. off-part j _ refl) (λ r. off-part j _ refl) in
       done-any s im i (λ o. WakesOnly s im (whom s im (Event.OutputDone i)) (o .image))
-      (λ idle. none-wakes-only i Service.Output (λ e. some-capacity (Queue.Output i) hi (g .laid .fit .outputs .0) (g .ports i hi .idle idle .1) (g .statuses i hi .outputs e .2)))
+      (λ idle. alone-wakes-only i hi Service.Output im (λ j. frame-none) (λ e. some-capacity (Queue.Output i) hi (g .laid .fit .outputs .0) (g .ports i hi .idle idle .1) (g .statuses i hi .outputs e .2)))
       (λ _. alone-wakes-only i hi Service.Output _ f) (λ _. owner-wakes-only i hi Service.Output _ f (next-owner s im g i hi (Woken.One i) (λ _. refl) .lies))
 
   pub wakes-only : (e : Event) → Formed s e → WakesOnly s im (whom s im e) (happening s im e .image)

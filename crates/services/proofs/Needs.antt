@@ -1,7 +1,7 @@
 -- What the calls of this crate ask and make, as laws over values. Assumes nothing.
 use mathlib.Core.Path.{_≡_, refl, sym, ap, _∙_}
 use mathlib.Core.List.{List}
-use mathlib.Core.Bool.{Bool, true, false, _&&_}
+use mathlib.Core.Bool.{Bool, true, false, _&&_, and-eq-true-iff}
 use mathlib.Core.Logic.{_≢_}
 use Prim.Native.Nat.{ℕ, _<_, _≤_}
 use native.Mathlib.Omega.{arith}
@@ -164,17 +164,13 @@ module _ (s : Shape) (im : List ℕ) (i : Task) (k : ℕ) (ek : k ≡ at s im (r
               (answers (ap (λ (o : Answered). o .answer) em) (eo ∙ ap (λ (l : List ℕ). woken s l (task k)) passed))
 
 -- a task that waits finds room, also once a word has moved
-both-first : (a b : Bool) → (a && b) ≡ true → a ≡ true
-both-first true b e = refl
-both-first false b e = e
-
 module _ (s : Shape) (im m : List ℕ) (i j : Task) (r : Answer) (q : Queue) (h : Sound s im) (hi : i .0 < s .n) (hq : Has s q) (hj : j .0 < s .n) (roomy : Roomy s im)
     (v : Service) (a : Bool) (ea : a ≡ (eqb (at s im (status j)) (waits v) && eqb (at s im (peer j)) (i .0))) (ta : a ≡ true) where
   room-done : (l : List ℕ) → Apart s moved-parts im l → answered r m ≡ answered (Answer.ServiceDone i) (done s im i l) → full s m Queue.Ready ≡ false
   unfolding done
   room-done l a em =
       rw (ap (λ (o : Answered). o .image) em) (kept-full moved-parts (frame-put a (flags i) _ (hi, omega arith) refl) Queue.Ready tt refl) ∙
-      waiting-room s im roomy j hj v (eqb-true (at s im (status j)) (waits v) (both-first _ _ (sym ea ∙ ta)))
+      waiting-room s im roomy j hj v (eqb-true (at s im (status j)) (waits v) (and-eq-true-iff _ _ .0 (sym ea ∙ ta) .0))
 
   pub room-sent : answered r m ≡ answered (Answer.ServiceDone i) (done s im i (appended s im q (given s im i))) → moved-parts (part-of q) ≡ true → full s m Queue.Ready ≡ false
   room-sent em p = room-done _ (frame-appended frame-none q hq h (λ j. p) _) em

@@ -34,11 +34,11 @@ use Rattle.laws.specs.Events.{words-any}
 use Rattle.laws.specs.Frame.{Frame, Apart, frame-none, frame-more, frame-then, frame-put, frame-appended, frame-taken, kept}
 use Rattle.laws.specs.Orders.{OwnCell}
 use Rattle.laws.specs.Changes.{header-part, turn-parts, buffer-has, out-sound, status-sound, frame-status, frame-left, frame-woken, frame-printing, frame-next}
-use Rattle.event_laws.specs.Own.{clock-apart}
 use Rattle.event_laws.specs.Standing.{waits-one}
 use Rattle.event_laws.specs.Turns.{Leads, leads-sound, leads-in, turned-frame}
 use Rattle.event_laws.specs.Serving.{served-nearly, wakes-whom}
 use Rattle.event_laws.specs.Walk.{ServiceCases, Begins, tick-any, input-any, done-any}
+use Rattle.event_laws.specs.Begun.{clock-only, reg-same}
 use Rattle.event_laws.specs.Stays.{begins-leads, stopped-is, order-frame, first-leads, tick-good, next-owner, words-good}
 use Rattle.user_laws.specs.Folded.{event-is}
 use Rattle.user_laws.specs.Words.{told, done, word-if, sent, got, Balanced, all-sent, all-got}
@@ -205,14 +205,11 @@ module _ {s : Shape} {im m : List ℕ} {i : Task} (l : Leads s im i) (b : Begins
   here = leads-sound (begins-leads l b)
 
   -- of which it reads what stands in im
-  same : (a : Cell) → Valid s a → header-part (a .part) ≡ false → at s m a ≡ at s im a
-  same = kept header-part (clock-apart (b .but-clock))
-
   two : at s m (reg i 2) ≡ at s im (reg i 2)
-  two = same (reg i 2) (hi, omega arith) refl
+  two = reg-same l b 2 (omega arith)
 
   three : at s m (reg i 3) ≡ at s im (reg i 3)
-  three = same (reg i 3) (hi, omega arith) refl
+  three = reg-same l b 3 (omega arith)
 
   same-buffer : (v : Service) → buffer s m i v ≡ buffer s im i v
   same-buffer Service.Send = rw two
@@ -286,7 +283,7 @@ module _ {s : Shape} {im m : List ℕ} {i : Task} (l : Leads s im i) (b : Begins
         let lies : Sound s a = out-sound s m i hi here w clear in
         let f : Frame s (λ x. x .part ≡ Part.OutputBuffers) m a = frame-appended frame-none (Queue.Output i) hi here (λ r. refl) w in
         let idle : at s a (busy i) ≡ at s im (busy i) =
-        f .others (busy i) (hi, omega arith) (λ e. absurd (let z : _≡_ {A = ℕ} 7 5 = ap ord e in omega arith)) ∙ same (busy i) (hi, omega arith) refl in
+        f .others (busy i) (hi, omega arith) (λ e. absurd (let z : _≡_ {A = ℕ} 7 5 = ap ord e in omega arith)) ∙ kept header-part (clock-only l b) (busy i) (hi, omega arith) refl in
         rw (done-now s im i Service.Output asks, ← begun p, ← three, ← idle)
         (when (λ n. Frame s (Later i) n out
         → held s m (Queue.Output i) ++ (w ∷ []) ≡ word-if (eqb (at s a (busy i)) 0 || false) (at s out (character i)) ++ held s out (Queue.Output i))
