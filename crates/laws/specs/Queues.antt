@@ -10,7 +10,7 @@ use native.Mathlib.Omega.{arith}
 use lib.Dec.{T, T-not, eqb, eqb-refl}
 use lib.ListN.{length}
 use Rattle.paper.specs.Image.{task, ord, rows, width, total, lead, cell, Valid, place, at, put}
-use Rattle.paper.specs.Queues.{part-of, row-of, Has, header-capacity, queue-word, head, tail, count, capacity, slot, step, appended, first, taken, words-from, held}
+use Rattle.paper.specs.Queues.{part-of, row-of, Has, header-capacity, queue-word, head, tail, count, capacity, slot, step, appended, first, taken, words-from, held, free}
 use Rattle.paper.specs.Rules.{Queued}
 use Rattle.paper.specs.declared.Task.{Task}
 use Rattle.paper.specs.declared.Shape.{Shape}
@@ -19,7 +19,7 @@ use Rattle.paper.specs.declared.Part.{Part}
 use Rattle.paper.specs.declared.Queue.{Queue}
 use Rattle.laws.specs.Places.{row-below, row-same, column-same, one-cell}
 use Rattle.laws.specs.Cells.{at-same, at-other, length-put}
-use Rattle.laws.specs.Steps.{step-below, steps, steps-mod, steps-below, steps-on, steps-apart}
+use Rattle.laws.specs.Steps.{step-below, steps, steps-mod, steps-below, steps-on, steps-add, steps-round, steps-apart}
 
 -- a queue is a row of its part, of four words and its slots
 pub queue-row : (s : Shape) (q : Queue) → Has s q → row-of s q < rows s (part-of q)
@@ -55,15 +55,23 @@ words-length : (s : Shape) (im : List ℕ) (q : Queue) (h n : ℕ) → length (w
 words-length s im q h zero = refl
 words-length s im q h (suc n) = ap suc (words-length s im q (step h (at s im (capacity s q))) n)
 
--- a queue whose words are as they were holds what it held
-pub held-frame : (s : Shape) (im im′ : List ℕ) (q : Queue) → Queued s im q
-    → ((k : ℕ) → k < lead + header-capacity s q → at s im′ (queue-word s q k) ≡ at s im (queue-word s q k)) → held s im′ q ≡ held s im q
-unfolding held
-held-frame s im im′ q r f =
-    let c = at s im (capacity s q) in
-    let h = at s im (head s q) in
-    rw (f 0 (omega arith), f 2 (omega arith))
-    (words-same s im im′ q h (at s im (count s q)) (f 3 (omega arith)) (λ k hk. f (lead + steps h k c) (omega (arith, steps-below h k c (r .headed), r .sized))))
+-- a queue whose words are as they were holds what it held, and its free slots too
+module _ (s : Shape) (im im′ : List ℕ) (q : Queue) (r : Queued s im q)
+    (f : (k : ℕ) → k < lead + header-capacity s q → at s im′ (queue-word s q k) ≡ at s im (queue-word s q k)) where
+  words-frame : (h n : ℕ) → h < at s im (capacity s q) → words-from s im′ q h n ≡ words-from s im q h n
+  words-frame h n l =
+      let c = at s im (capacity s q) in
+      words-same s im im′ q h n (f 3 (omega arith)) (λ k hk. f (lead + steps h k c) (omega (arith, steps-below h k c l, r .sized)))
+
+  pub held-frame : held s im′ q ≡ held s im q
+  unfolding held
+  held-frame = rw (f 0 (omega arith), f 2 (omega arith)) (words-frame (at s im (head s q)) (at s im (count s q)) (r .headed))
+
+  pub free-frame : free s im′ q ≡ free s im q
+  unfolding free
+  free-frame =
+      rw (f 1 (omega arith), f 2 (omega arith), f 3 (omega arith))
+      (words-frame (at s im (tail s q)) (at s im (capacity s q) - at s im (count s q)) (r .tailed))
 
 -- length counts the words held
 pub held-length : (s : Shape) (im : List ℕ) (q : Queue) → length (held s im q) ≡ at s im (count s q)
@@ -224,17 +232,29 @@ module _ (s : Shape) (im : List ℕ) (q : Queue) (has : Has s q) (long : length 
   unfolding taken
   taken-head =
       put-other s _ q has 2 _ (leading 2 (omega arith)) 0 (leading 0 (omega arith)) (omega arith) ∙
-      put-same s im q has 0 _ (leading 0 (omega arith)) long
+      put-same s _ q has 0 _ (leading 0 (omega arith)) (simp length-put long)
 
-  pub taken-rest : (l : ℕ) → l < lead + header-capacity s q → l ≢ 0 → l ≢ 2 → at s (taken s im q) (queue-word s q l) ≡ at s im (queue-word s q l)
+  pub taken-slot : at s (taken s im q) (slot s q (at s im (head s q))) ≡ 0
   unfolding taken
-  taken-rest l hl n0 n2 =
-      put-other s _ q has 2 _ (leading 2 (omega arith)) l hl n2 ∙ put-other s im q has 0 _ (leading 0 (omega arith)) l hl n0
+  taken-slot =
+      let h = slot-in (at s im (head s q)) (r .headed) in
+      put-other s _ q has 2 _ (leading 2 (omega arith)) _ h (omega arith) ∙
+      put-other s _ q has 0 _ (leading 0 (omega arith)) _ h (omega arith) ∙ put-same s im q has _ 0 h long
 
+  -- the queue's other words
+  pub taken-rest : (l : ℕ) → l < lead + header-capacity s q → l ≢ 0 → l ≢ 2 → l ≢ lead + at s im (head s q)
+      → at s (taken s im q) (queue-word s q l) ≡ at s im (queue-word s q l)
+  unfolding taken
+  taken-rest l hl n0 n2 n4 =
+      put-other s _ q has 2 _ (leading 2 (omega arith)) l hl n2 ∙ put-other s _ q has 0 _ (leading 0 (omega arith)) l hl n0 ∙
+      put-other s im q has _ 0 (slot-in (at s im (head s q)) (r .headed)) l hl n4
+
+  -- every cell off its row
   pub taken-off : (c : Cell) → Valid s c → Off s q c → at s (taken s im q) c ≡ at s im c
   unfolding taken
   taken-off c hc off =
-      put-off s _ q has 2 _ (leading 2 (omega arith)) c hc off ∙ put-off s im q has 0 _ (leading 0 (omega arith)) c hc off
+      put-off s _ q has 2 _ (leading 2 (omega arith)) c hc off ∙ put-off s _ q has 0 _ (leading 0 (omega arith)) c hc off ∙
+      put-off s im q has _ 0 (slot-in (at s im (head s q)) (r .headed)) c hc off
 
   -- the word that is taken was the first of those held
   pub taken-held : 0 < at s im (count s q) → held s im q ≡ first s im q ∷ held s (taken s im q) q
@@ -244,11 +264,12 @@ module _ (s : Shape) (im : List ℕ) (q : Queue) (has : Has s q) (long : length 
       let n = at s im (count s q) - 1 in
       let c = at s im (capacity s q) in
       let e : at s im (count s q) ≡ suc n = omega arith in
-      let e3 = taken-rest 3 (leading 3 (omega arith)) (omega arith) (omega arith) in
+      let e3 = taken-rest 3 (leading 3 (omega arith)) (omega arith) (omega arith) (omega arith) in
       rw (taken-count, taken-head)
       (ap (λ (x : ℕ). words-from s im q h x) e ∙ ap {B = List ℕ} (λ (l : List ℕ). at s im (slot s q h) ∷ l)
       (sym (words-same s im (taken s im q) q (step h c) n e3 (λ k hk.
-      taken-rest (lead + steps (step h c) k c) (slot-in (steps (step h c) k c) (steps-below (step h c) k c (step-below h c (r .headed)))) (omega arith) (omega arith)))))
+      taken-rest (lead + steps (step h c) k c) (slot-in (steps (step h c) k c) (steps-below (step h c) k c (step-below h c (r .headed)))) (omega arith) (omega arith)
+      (λ z. steps-apart h 0 (suc k) c (r .headed) (omega arith) (omega (arith, r .counted)) (omega arith))))))
 
   pub taken-queued : 0 < at s im (count s q) → Queued s (taken s im q) q
   taken-queued some =
@@ -256,8 +277,8 @@ module _ (s : Shape) (im : List ℕ) (q : Queue) (has : Has s q) (long : length 
       let n = at s im (count s q) - 1 in
       let c = at s im (capacity s q) in
       let e : at s im (count s q) ≡ suc n = omega arith in
-      let e1 = taken-rest 1 (leading 1 (omega arith)) (omega arith) (omega arith) in
-      let e3 = taken-rest 3 (leading 3 (omega arith)) (omega arith) (omega arith) in
+      let e1 = taken-rest 1 (leading 1 (omega arith)) (omega arith) (omega arith) (omega arith) in
+      let e3 = taken-rest 3 (leading 3 (omega arith)) (omega arith) (omega arith) (omega arith) in
       record {
         sized = e3 ∙ r .sized;
         headed = rw (e3, taken-head) (step-below h c (r .headed));
@@ -267,6 +288,47 @@ module _ (s : Shape) (im : List ℕ) (q : Queue) (has : Has s q) (long : length 
             rw (e1, e3, taken-head, taken-count)
             (sym (steps-mod (step h c) n c (step-below h c (r .headed))) ∙ ap (λ (x : ℕ). steps h x c) (sym e) ∙ round-steps);
       }
+
+  -- capacity less length steps on from the tail is the head
+  pub back-round : steps (at s im (tail s q)) (at s im (capacity s q) - at s im (count s q)) (at s im (capacity s q)) ≡ at s im (head s q)
+  back-round =
+      let h = at s im (head s q) in
+      let n = at s im (count s q) in
+      let c = at s im (capacity s q) in
+      rw (← round-steps, ← steps-add h n (c - n) c)
+      (ap (λ (x : ℕ). steps h x c) (omega (arith, r .counted)) ∙ steps-round h c (r .headed))
+
+  -- the slot that a word is stored in was the first of the free ones
+  pub appended-free : (v : ℕ) → at s im (count s q) < at s im (capacity s q)
+      → free s im q ≡ at s im (slot s q (at s im (tail s q))) ∷ free s (appended s im q v) q
+  unfolding free
+  appended-free v room =
+      let t = at s im (tail s q) in
+      let n = at s im (count s q) in
+      let c = at s im (capacity s q) in
+      let e : c - n ≡ suc (c - (n + 1)) = omega arith in
+      let e3 = appended-rest v 3 (leading 3 (omega arith)) (omega arith) (omega arith) (omega arith) in
+      rw (appended-tail v, e3, appended-count v)
+      (ap (λ (x : ℕ). words-from s im q t x) e ∙ ap {B = List ℕ} (λ (l : List ℕ). at s im (slot s q t) ∷ l)
+      (sym (words-same s im (appended s im q v) q (step t c) (c - (n + 1)) e3 (λ k hk.
+      appended-rest v (lead + steps (step t c) k c) (slot-in (steps (step t c) k c) (steps-below (step t c) k c (step-below t c (r .tailed)))) (omega arith) (omega arith)
+      (λ z. steps-apart t 0 (suc k) c (r .tailed) (omega arith) (omega arith) (omega arith))))))
+
+  -- take then free = free and a 0
+  pub taken-free : 0 < at s im (count s q) → free s (taken s im q) q ≡ free s im q ++ (0 ∷ [])
+  unfolding free
+  taken-free some =
+      let t = at s im (tail s q) in
+      let n = at s im (count s q) in
+      let c = at s im (capacity s q) in
+      let e : c - (n - 1) ≡ suc (c - n) = omega (arith, r .counted) in
+      let e1 = taken-rest 1 (leading 1 (omega arith)) (omega arith) (omega arith) (omega arith) in
+      let e3 = taken-rest 3 (leading 3 (omega arith)) (omega arith) (omega arith) (omega arith) in
+      rw (e1, e3, taken-count, e, words-snoc, e3, back-round, taken-slot)
+      (ap {B = List ℕ} (λ (l : List ℕ). l ++ (0 ∷ []))
+      (words-same s im (taken s im q) q t (c - n) e3 (λ k hk.
+      taken-rest (lead + steps t k c) (slot-in (steps t k c) (steps-below t k c (r .tailed))) (omega arith) (omega arith)
+      (λ z. steps-apart t k (c - n) c (r .tailed) hk (omega arith) (omega (arith, back-round))))))
 
 -- `search queues` reads past a word that was appended or taken, at any cell that is not of that queue
 pub ruleset queues = (appended-off, taken-off, off-part, off-row, appended-length, taken-length, appended-queued, taken-queued)

@@ -55,6 +55,22 @@ pub steps-on : (h n c : ℕ) → steps h (suc n) c ≡ step (steps h n c) c
 steps-on h zero c = refl
 steps-on h (suc n) c = steps-on (step h c) n c
 
+-- so many steps and then so many more
+pub steps-add : (h n m c : ℕ) → steps h (n + m) c ≡ steps (steps h n c) m c
+steps-add h zero m c = refl
+steps-add h (suc n) m c = steps-add (step h c) n m c
+
+-- capacity steps come back
+pub steps-round : (h c : ℕ) → h < c → steps h c c ≡ h
+steps-round h c l = steps-mod h c c l ∙ mod-high {x = h + c} {c = c} (omega arith) (omega arith) ∙ omega arith
+
+-- each slot is some steps on from any other
+pub steps-to : (h k c : ℕ) → h < c → k < c → Σ ℕ (λ j. (j < c) × (steps h j c ≡ k))
+steps-to h k c hc hk =
+    dite (decLt k h)
+    (λ l. (k + c - h, omega arith, steps-mod h (k + c - h) c hc ∙ ap (λ (x : ℕ). x % c) (omega arith) ∙ mod-high {x = k + c} {c = c} (omega arith) (omega arith) ∙ omega arith))
+    (λ n. (k - h, omega arith, steps-mod h (k - h) c hc ∙ ap (λ (x : ℕ). x % c) (omega arith) ∙ mod-low hk))
+
 -- fewer than capacity steps do not come back
 steps-away : (h n c : ℕ) → h < c → suc n < c → h ≢ steps h (suc n) c
 steps-away h n c hc hn e =

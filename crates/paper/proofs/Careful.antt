@@ -2,20 +2,20 @@
 -- Every expected word was worked out by hand from the paper. Assumes nothing.
 use mathlib.Core.Path.{_≡_, refl}
 use mathlib.Core.List.{List, [], _∷_}
-use Prim.Native.Nat.{ℕ, _-_}
-use lib.ListN.{getD, take, drop}
+use Prim.Native.Nat.{ℕ}
+use lib.ListN.{getD}
 use Rattle.paper.specs.Image.{total, shape-of, place, at, put}
-use Rattle.paper.specs.Queues.{step, appended, first, taken, held, empty, full}
+use Rattle.paper.specs.Queues.{step, appended, first, taken, held, free, empty, full}
 use Rattle.paper.specs.Waking.{dispatched, with-status, readied, woken, left, with-woken}
 use Rattle.paper.specs.Services.{service-faulted, waiting, delivered, printing, printing-if-idle, served, waits-for, finished, service}
 use Rattle.paper.specs.Machines.{machine, put-back}
 use Rattle.paper.specs.Orders.{with-register, with-flags, with-word, operand, found, effect-of, checked, decided, changed, faulted}
 use Rattle.paper.specs.Events.{event-of, ordered, stopped, turned, spent, turn-of, tick, input, port-next, output-done, happening}
 use Rattle.paper.specs.Plans.{plan-shape, fresh}
-use Rattle.paper.specs.Tests.{every, queued, buffers-hold, characters, readied-once, readied-tasks, clock-holds, port-holds, flags-hold, status-holds, task-holds, rules-hold}
+use Rattle.paper.specs.Tests.{every, queued, cleared, queue-holds, buffers-hold, characters, readied-once, readied-tasks, clock-holds, port-holds, flags-hold, status-holds, task-holds, rules-hold}
 use Rattle.paper.specs.Numbers.{out-of-range, not-packed, segment-right, wrong-segments, check}
 use Rattle.paper.specs.Calls.{event, run}
-use Rattle.paper.proofs.Worked.{Shown, shows, ticks, event-after, last-tick, nobody-plan}
+use Rattle.paper.proofs.Worked.{shows, ticks, event-after, last-tick, last-tick-of-two, nobody-plan}
 
 -- one task of one word, which is w
 abbrev word-plan : ℕ → List ℕ
@@ -32,12 +32,6 @@ other-sender-plan = 2 ∷ 2 ∷ 1 ∷ 1 ∷ 1 ∷ 1 ∷ 1 ∷ 1 ∷ 1 ∷ 4640 �
 -- two tasks: task 0 receives from task 1, task 1 sends to task 0
 abbrev sender-plan : List ℕ
 sender-plan = 2 ∷ 3 ∷ 1 ∷ 1 ∷ 1 ∷ 3 ∷ 3 ∷ 1 ∷ 1 ∷ 288 ∷ 1 ∷ 4640 ∷ 4624 ∷ []
-
--- what a plan's last of n ticks shows of a plan of two tasks: the line, and the ready queue and the status table
-abbrev last-tick-of-two : List ℕ → ℕ → Shown
-last-tick-of-two plan n =
-    let o = event-after plan (ticks n) (n - 1) in
-    shows (o .line) (take 10 (drop 36 (o .image)))
 
 pub record Careful : Type 0 where
   -- load with an unused field of 1, its second word outside the segment: error 2
@@ -57,7 +51,7 @@ pub record Careful : Type 0 where
   pub woken-last : last-tick-of-two sender-plan 5 ≡ shows (3 ∷ 1 ∷ []) (1 ∷ 1 ∷ 2 ∷ 2 ∷ 0 ∷ 1 ∷ 0 ∷ 0 ∷ 0 ∷ 0 ∷ [])
 
 pub careful : Careful
-unfolding total shape-of place at put step appended first taken held empty full dispatched with-status readied woken left with-woken service-faulted waiting delivered printing printing-if-idle served waits-for finished service machine put-back with-register with-flags with-word operand found effect-of checked decided changed faulted ordered event-of stopped turned spent turn-of tick input port-next output-done happening plan-shape fresh every queued buffers-hold characters readied-once readied-tasks clock-holds port-holds flags-hold status-holds task-holds rules-hold out-of-range not-packed segment-right wrong-segments check event run
+unfolding total shape-of place at put step appended first taken held free empty full dispatched with-status readied woken left with-woken service-faulted waiting delivered printing printing-if-idle served waits-for finished service machine put-back with-register with-flags with-word operand found effect-of checked decided changed faulted ordered event-of stopped turned spent turn-of tick input port-next output-done happening plan-shape fresh every queued cleared queue-holds buffers-hold characters readied-once readied-tasks clock-holds port-holds flags-hold status-holds task-holds rules-hold out-of-range not-packed segment-right wrong-segments check event run
 careful =
     record {
       field-before-second-word = refl;

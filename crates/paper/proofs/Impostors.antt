@@ -7,14 +7,14 @@ use Prim.Native.Nat.{ℕ}
 use native.Mathlib.Omega.{arith}
 use lib.ListN.{getD}
 use Rattle.paper.specs.Image.{task, total, shape-of, place, at, put}
-use Rattle.paper.specs.Queues.{step, appended, first, taken, held, empty, full}
+use Rattle.paper.specs.Queues.{step, appended, first, taken, held, free, empty, full}
 use Rattle.paper.specs.Waking.{dispatched, with-status, readied, woken, left, with-woken}
 use Rattle.paper.specs.Services.{service-faulted, waiting, delivered, printing, printing-if-idle, served, waits-for, finished, service}
 use Rattle.paper.specs.Machines.{machine, put-back}
 use Rattle.paper.specs.Orders.{with-register, with-flags, with-word, operand, found, effect-of, checked, decided, changed, faulted}
 use Rattle.paper.specs.Events.{event-of, ordered, stopped, turned, spent, turn-of, tick, input, port-next, output-done, happening}
 use Rattle.paper.specs.Plans.{plan-shape, fresh}
-use Rattle.paper.specs.Tests.{every, queued, buffers-hold, characters, readied-once, readied-tasks, clock-holds, port-holds, flags-hold, status-holds, task-holds, rules-hold}
+use Rattle.paper.specs.Tests.{every, queued, cleared, queue-holds, buffers-hold, characters, readied-once, readied-tasks, clock-holds, port-holds, flags-hold, status-holds, task-holds, rules-hold}
 use Rattle.paper.specs.Numbers.{reply-number, reply-values, verdict-number, out-of-range, not-packed, segment-right, wrong-segments, check}
 use Rattle.paper.specs.Calls.{event, run}
 use Rattle.paper.specs.Promises.{Happens, Runs}
@@ -49,7 +49,7 @@ record Computed : Type 0 where
   bad-image-before-list : verdict-number (run [] (0 ∷ []) .stop) ≡ 1
 
 computed : Computed
-unfolding total shape-of place at put step appended first taken held empty full dispatched with-status readied woken left with-woken service-faulted waiting delivered printing printing-if-idle served waits-for finished service machine put-back with-register with-flags with-word operand found effect-of checked decided changed faulted ordered event-of stopped turned spent turn-of tick input port-next output-done happening plan-shape fresh every queued buffers-hold characters readied-once readied-tasks clock-holds port-holds flags-hold status-holds task-holds rules-hold out-of-range not-packed segment-right wrong-segments check event run
+unfolding total shape-of place at put step appended first taken held free empty full dispatched with-status readied woken left with-woken service-faulted waiting delivered printing printing-if-idle served waits-for finished service machine put-back with-register with-flags with-word operand found effect-of checked decided changed faulted ordered event-of stopped turned spent turn-of tick input port-next output-done happening plan-shape fresh every queued cleared queue-holds buffers-hold characters readied-once readied-tasks clock-holds port-holds flags-hold status-holds task-holds rules-hold out-of-range not-packed segment-right wrong-segments check event run
 computed =
     record {
       first-reply = refl;

@@ -1,3 +1,4 @@
 pub mod Worked
 pub mod Impostors
 pub mod Careful
+pub mod OldWords

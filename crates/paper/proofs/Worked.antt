@@ -9,7 +9,7 @@ use lib.IntN.{pos, negsuc}
 use lib.ListN.{length, getD, take, drop, replicate}
 use lib.Ieee.{fin, span, climb, size, odd, units, round}
 use Rattle.paper.specs.Image.{task, total, shape-of, place, at, put, clock}
-use Rattle.paper.specs.Queues.{step, appended, first, taken, held, empty, full}
+use Rattle.paper.specs.Queues.{step, appended, first, taken, held, free, empty, full}
 use Rattle.paper.specs.Flags.{pending}
 use Rattle.paper.specs.Waking.{Outcome, dispatched, with-status, readied, woken, left, with-woken}
 use Rattle.paper.specs.Services.{service-faulted, waiting, delivered, printing, printing-if-idle, served, waits-for, finished, service}
@@ -17,7 +17,7 @@ use Rattle.paper.specs.Machines.{machine, put-back}
 use Rattle.paper.specs.Orders.{with-register, with-flags, with-word, operand, found, effect-of, checked, decided, changed, faulted}
 use Rattle.paper.specs.Events.{event-of, ordered, stopped, turned, spent, turn-of, tick, input, port-next, output-done, happening}
 use Rattle.paper.specs.Plans.{plan-shape, fresh}
-use Rattle.paper.specs.Tests.{every, queued, buffers-hold, characters, readied-once, readied-tasks, clock-holds, port-holds, flags-hold, status-holds, task-holds, rules-hold}
+use Rattle.paper.specs.Tests.{every, queued, cleared, queue-holds, buffers-hold, characters, readied-once, readied-tasks, clock-holds, port-holds, flags-hold, status-holds, task-holds, rules-hold}
 use Rattle.paper.specs.Numbers.{number, verdict-number, kind, answer-task, out-of-range, not-packed, segment-right, wrong-segments, check, plan-broken, check-plan, check-build}
 use Rattle.paper.specs.Calls.{built, event, run}
 use Rattle.paper.specs.Counts.{all-counts, grown, most-count, counted-event, Reported, report, sum, share}
@@ -63,6 +63,12 @@ last-tick plan n =
     let o = event-after plan (ticks n) (n - 1) in
     shows (o .line) (take 9 (drop 18 (o .image)))
 
+-- and of a plan of two tasks: the line, and the ready queue and the status table
+abbrev pub last-tick-of-two : List ℕ → ℕ → Shown
+last-tick-of-two plan n =
+    let o = event-after plan (ticks n) (n - 1) in
+    shows (o .line) (take 10 (drop 36 (o .image)))
+
 -- "One run in full": its plan, its events, and its image after an event
 abbrev full-plan : List ℕ
 full-plan = 1 ∷ 2 ∷ 1 ∷ 1 ∷ 1 ∷ 4 ∷ 2 ∷ 4656 ∷ 4672 ∷ []
@@ -76,17 +82,18 @@ full-event k = event-after full-plan full-events (k - 1)
 abbrev full-header : List ℕ
 full-header = 19284 ∷ 1 ∷ 1 ∷ 2 ∷ 1 ∷ 1 ∷ 1 ∷ 18 ∷ 27 ∷ 32 ∷ 34 ∷ 39 ∷ 44 ∷ 49 ∷ 51 ∷ 53 ∷ 57 ∷ []
 
--- clock; task table; ready queue; status table; input, output and message buffer; port
-abbrev full-image : ℕ → List ℕ → List ℕ → List ℕ → List ℕ → List ℕ → List ℕ → List ℕ
-full-image c tasks ready status input output port =
-    full-header ++ (c ∷ tasks) ++ ready ++ status ++ input ++ output ++ (0 ∷ 0 ∷ 0 ∷ 1 ∷ 0 ∷ []) ++ port ++
-    (53 ∷ 4 ∷ 4656 ∷ 4672 ∷ 0 ∷ 0 ∷ [])
-
-abbrev empty-queue : ℕ → List ℕ
-empty-queue w = 0 ∷ 0 ∷ 0 ∷ 1 ∷ w ∷ []
+-- a queue of one slot: its slot is 0 once its word is taken
+abbrev empty-queue : List ℕ
+empty-queue = 0 ∷ 0 ∷ 0 ∷ 1 ∷ 0 ∷ []
 
 abbrev full-queue : ℕ → List ℕ
 full-queue w = 0 ∷ 0 ∷ 1 ∷ 1 ∷ w ∷ []
+
+-- clock; task table; ready queue; status table; input, output and message buffer; port
+abbrev full-image : ℕ → List ℕ → List ℕ → List ℕ → List ℕ → List ℕ → List ℕ → List ℕ
+full-image c tasks ready status input output port =
+    full-header ++ (c ∷ tasks) ++ ready ++ status ++ input ++ output ++ empty-queue ++ port ++
+    (53 ∷ 4 ∷ 4656 ∷ 4672 ∷ 0 ∷ 0 ∷ [])
 
 -- the same as files, and the text of its eleven lines
 abbrev bytes-of : List ℕ → List ℕ
@@ -163,19 +170,19 @@ stopped-by r n im counts = record { taken = n; stop = Verdict.Refused r; image =
 pub record Worked : Type 0 where
   pub event-2 :
       full-event 2 ≡ shows (4 ∷ 0 ∷ [])
-      (full-image 0 (1 ∷ 4 ∷ 0 ∷ 0 ∷ 0 ∷ 0 ∷ 0 ∷ 0 ∷ 96 ∷ []) (empty-queue 0) (3 ∷ 0 ∷ []) (empty-queue 0) (empty-queue 0) (0 ∷ 0 ∷ []))
+      (full-image 0 (1 ∷ 4 ∷ 0 ∷ 0 ∷ 0 ∷ 0 ∷ 0 ∷ 0 ∷ 96 ∷ []) empty-queue (3 ∷ 0 ∷ []) empty-queue empty-queue (0 ∷ 0 ∷ []))
   pub event-4 :
       full-event 4 ≡ shows (8 ∷ 0 ∷ [])
-      (full-image 2 (1 ∷ 4 ∷ 0 ∷ 0 ∷ 0 ∷ 0 ∷ 0 ∷ 0 ∷ 96 ∷ []) (full-queue 0) (0 ∷ 0 ∷ []) (full-queue 65) (empty-queue 0) (0 ∷ 0 ∷ []))
+      (full-image 2 (1 ∷ 4 ∷ 0 ∷ 0 ∷ 0 ∷ 0 ∷ 0 ∷ 0 ∷ 96 ∷ []) (full-queue 0) (0 ∷ 0 ∷ []) (full-queue 65) empty-queue (0 ∷ 0 ∷ []))
   pub event-5 :
       full-event 5 ≡ shows (3 ∷ 0 ∷ [])
-      (full-image 1 (1 ∷ 4 ∷ 0 ∷ 65 ∷ 0 ∷ 0 ∷ 0 ∷ 0 ∷ 0 ∷ []) (full-queue 0) (0 ∷ 0 ∷ []) (empty-queue 65) (empty-queue 0) (0 ∷ 0 ∷ []))
+      (full-image 1 (1 ∷ 4 ∷ 0 ∷ 65 ∷ 0 ∷ 0 ∷ 0 ∷ 0 ∷ 0 ∷ []) (full-queue 0) (0 ∷ 0 ∷ []) empty-queue empty-queue (0 ∷ 0 ∷ []))
   pub event-8 :
       full-event 8 ≡ shows (3 ∷ 0 ∷ [])
-      (full-image 1 (2 ∷ 4 ∷ 0 ∷ 65 ∷ 0 ∷ 0 ∷ 0 ∷ 0 ∷ 0 ∷ []) (full-queue 0) (0 ∷ 0 ∷ []) (empty-queue 65) (empty-queue 65) (1 ∷ 65 ∷ []))
+      (full-image 1 (2 ∷ 4 ∷ 0 ∷ 65 ∷ 0 ∷ 0 ∷ 0 ∷ 0 ∷ 0 ∷ []) (full-queue 0) (0 ∷ 0 ∷ []) empty-queue empty-queue (1 ∷ 65 ∷ []))
   pub event-9 :
       full-event 9 ≡ shows (7 ∷ 0 ∷ [])
-      (full-image 0 (2 ∷ 4 ∷ 0 ∷ 65 ∷ 0 ∷ 0 ∷ 0 ∷ 0 ∷ 8 ∷ []) (full-queue 0) (0 ∷ 0 ∷ []) (empty-queue 65) (empty-queue 65) (1 ∷ 65 ∷ []))
+      (full-image 0 (2 ∷ 4 ∷ 0 ∷ 65 ∷ 0 ∷ 0 ∷ 0 ∷ 0 ∷ 8 ∷ []) (full-queue 0) (0 ∷ 0 ∷ []) empty-queue empty-queue (1 ∷ 65 ∷ []))
   pub full-run : runner (bytes-of full-plan) (bytes-of full-events) ≡ full-text
   pub smallest-length : length (built small-plan (replicate 54 9)) ≡ 54
   pub smallest-built : verdict-number (check-build small-plan (replicate 54 9)) ≡ 0
@@ -187,8 +194,8 @@ pub record Worked : Type 0 where
   pub error-stop :
       event-after (service-plan 0) (ticks 2) 1 ≡ shows (1 ∷ 0 ∷ [])
       ((19284 ∷ 1 ∷ 1 ∷ 1 ∷ 1 ∷ 1 ∷ 1 ∷ 18 ∷ 27 ∷ 32 ∷ 34 ∷ 39 ∷ 44 ∷ 49 ∷ 51 ∷ 53 ∷ 54 ∷ []) ++
-      (0 ∷ 0 ∷ 1 ∷ 0 ∷ 0 ∷ 0 ∷ 0 ∷ 0 ∷ 0 ∷ 12 ∷ []) ++ empty-queue 0 ++ (5 ∷ 0 ∷ []) ++
-      empty-queue 0 ++ empty-queue 0 ++ empty-queue 0 ++ (0 ∷ 0 ∷ 53 ∷ 1 ∷ 4608 ∷ []))
+      (0 ∷ 0 ∷ 1 ∷ 0 ∷ 0 ∷ 0 ∷ 0 ∷ 0 ∷ 0 ∷ 12 ∷ []) ++ empty-queue ++ (5 ∷ 0 ∷ []) ++
+      empty-queue ++ empty-queue ++ empty-queue ++ (0 ∷ 0 ∷ 53 ∷ 1 ∷ 4608 ∷ []))
   pub service-4 : last-tick (service-plan 4) 1 ≡ shows (6 ∷ 0 ∷ []) (1 ∷ 1 ∷ 0 ∷ 0 ∷ 0 ∷ 0 ∷ 0 ∷ 0 ∷ 128 ∷ [])
   pub quotient-by-0 : last-tick quotient-plan 1 ≡ shows (7 ∷ 0 ∷ []) (0 ∷ 1 ∷ 0 ∷ 0 ∷ 0 ∷ 0 ∷ 0 ∷ 0 ∷ 16 ∷ [])
   pub before-zero : last-tick zero-plan 4 ≡ shows (6 ∷ 0 ∷ []) (4 ∷ 4 ∷ 0 ∷ 7 ∷ 0 ∷ 0 ∷ 0 ∷ 0 ∷ 64 ∷ [])
@@ -204,17 +211,17 @@ pub record Worked : Type 0 where
   -- the full run, counted
   pub full-report :
       report (fresh full-plan) full-events no-counts ≡ stopped-by Refusal.PortIdle 10
-      (full-image 0 (2 ∷ 4 ∷ 0 ∷ 65 ∷ 0 ∷ 0 ∷ 0 ∷ 0 ∷ 8 ∷ []) (full-queue 0) (0 ∷ 0 ∷ []) (empty-queue 65) (empty-queue 65) (0 ∷ 0 ∷ []))
+      (full-image 0 (2 ∷ 4 ∷ 0 ∷ 65 ∷ 0 ∷ 0 ∷ 0 ∷ 0 ∷ 8 ∷ []) (full-queue 0) (0 ∷ 0 ∷ []) empty-queue empty-queue (0 ∷ 0 ∷ []))
       full-counts
   -- the idle ticks at their end: 17 at its event 3, the order and the wait before it kept
   pub count-at-its-end :
       report (fresh full-plan) full-events (counts-of (replicate 6 0) most-count) ≡ stopped-by Refusal.CountFull 2
-      (full-image 0 (1 ∷ 4 ∷ 0 ∷ 0 ∷ 0 ∷ 0 ∷ 0 ∷ 0 ∷ 96 ∷ []) (empty-queue 0) (3 ∷ 0 ∷ []) (empty-queue 0) (empty-queue 0) (0 ∷ 0 ∷ []))
+      (full-image 0 (1 ∷ 4 ∷ 0 ∷ 0 ∷ 0 ∷ 0 ∷ 0 ∷ 0 ∷ 96 ∷ []) empty-queue (3 ∷ 0 ∷ []) empty-queue empty-queue (0 ∷ 0 ∷ []))
       (counts-of (1 ∷ 0 ∷ 1 ∷ 0 ∷ 0 ∷ 0 ∷ []) most-count)
   -- every count at its end: an input is taken, and an output done on an idle port is 9 and not 17
   pub count-tested-last :
       report (fresh full-plan) (1 ∷ 0 ∷ 65 ∷ 2 ∷ 0 ∷ 0 ∷ []) (replicate all-counts most-count) ≡ stopped-by Refusal.PortIdle 1
-      (full-image 2 (0 ∷ 4 ∷ 0 ∷ 0 ∷ 0 ∷ 0 ∷ 0 ∷ 0 ∷ 0 ∷ []) (full-queue 0) (0 ∷ 0 ∷ []) (full-queue 65) (empty-queue 0) (0 ∷ 0 ∷ []))
+      (full-image 2 (0 ∷ 4 ∷ 0 ∷ 0 ∷ 0 ∷ 0 ∷ 0 ∷ 0 ∷ 0 ∷ []) (full-queue 0) (0 ∷ 0 ∷ []) (full-queue 65) empty-queue (0 ∷ 0 ∷ []))
       (replicate all-counts most-count)
   -- a send to no task, 6 6 5 1: two orders, a fault, an error stop
   pub fault-counted : report (fresh (nobody-plan 4624)) (ticks 4) no-counts .counts ≡ counts-of (2 ∷ 0 ∷ 0 ∷ 1 ∷ 1 ∷ 0 ∷ []) 0
@@ -227,7 +234,7 @@ pub record Worked : Type 0 where
   pub share-without-ticks : share no-counts 0 ≡ Share.NoTicks
 
 pub worked : Worked
-unfolding total shape-of place at put step appended first taken held empty full dispatched with-status readied woken left with-woken service-faulted waiting delivered printing printing-if-idle served waits-for finished service machine put-back with-register with-flags with-word operand found effect-of checked decided changed faulted ordered event-of stopped turned spent turn-of tick input port-next output-done happening plan-shape fresh every queued buffers-hold characters readied-once readied-tasks clock-holds port-holds flags-hold status-holds task-holds rules-hold out-of-range not-packed segment-right wrong-segments check plan-broken check-plan check-build built event run grown counted-event report sum share span climb size trailingZeros odd units round words-of check-file decimal line printed-from runner
+unfolding total shape-of place at put step appended first taken held free empty full dispatched with-status readied woken left with-woken service-faulted waiting delivered printing printing-if-idle served waits-for finished service machine put-back with-register with-flags with-word operand found effect-of checked decided changed faulted ordered event-of stopped turned spent turn-of tick input port-next output-done happening plan-shape fresh every queued cleared queue-holds buffers-hold characters readied-once readied-tasks clock-holds port-holds flags-hold status-holds task-holds rules-hold out-of-range not-packed segment-right wrong-segments check plan-broken check-plan check-build built event run grown counted-event report sum share span climb size trailingZeros odd units round words-of check-file decimal line printed-from runner
 worked =
     record {
       event-2 = refl;

@@ -72,18 +72,26 @@ appended s im q v =
 unfoldable pub first : Shape → List ℕ → Queue → ℕ
 first s im q = at s im (slot s q (at s im (head s q)))
 
--- and steps head; a taken slot keeps its old word
+-- sets the slot to 0 and steps head
 unfoldable pub taken : Shape → List ℕ → Queue → List ℕ
 taken s im q =
-    put s (put s im (head s q) (step (at s im (head s q)) (at s im (capacity s q)))) (count s q) (at s im (count s q) - 1)
+    put s
+    (put s (put s im (slot s q (at s im (head s q))) 0) (head s q) (step (at s im (head s q)) (at s im (capacity s q))))
+    (count s q)
+    (at s im (count s q) - 1)
 
--- the words held, from the first to the last: n words from slot h on
+-- n words from slot h on
 abbrev pub words-from : Shape → List ℕ → Queue → ℕ → ℕ → List ℕ
 words-from s im q h zero = []
 words-from s im q h (suc n) = at s im (slot s q h) ∷ words-from s im q (step h (at s im (capacity s q))) n
 
+-- the words held, from the first to the last
 unfoldable pub held : Shape → List ℕ → Queue → List ℕ
 held s im q = words-from s im q (at s im (head s q)) (at s im (count s q))
+
+-- the words of the free slots, from the tail on
+unfoldable pub free : Shape → List ℕ → Queue → List ℕ
+free s im q = words-from s im q (at s im (tail s q)) (at s im (capacity s q) - at s im (count s q))
 
 -- head = tail means empty or full; the length tells which
 unfoldable pub empty : Shape → List ℕ → Queue → Bool

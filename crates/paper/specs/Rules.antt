@@ -7,7 +7,7 @@ use Prim.Native.Nat.{ℕ, _+_, _%_, _<_, _≤_}
 use lib.Dec.{eqb}
 use lib.ListN.{length, getD}
 use Rattle.paper.specs.Image.{task, most-tasks, most-slice, most-capacity, most-words, most-character, offsets, total, header, header-word, segment-start, at, clock, reg, status, peer, busy, character, base, len}
-use Rattle.paper.specs.Queues.{Has, header-capacity, head, tail, count, capacity, held}
+use Rattle.paper.specs.Queues.{Has, header-capacity, head, tail, count, capacity, held, free}
 use Rattle.paper.specs.Flags.{cc, error, pending, most-cc, most-error, is-ready, waits, is-stopped}
 use Rattle.paper.specs.Services.{services}
 use Rattle.paper.specs.declared.Task.{Task}
@@ -75,6 +75,11 @@ abbrev pub Characters : List ℕ → Type 0
 Characters [] = Unit {0}
 Characters (w ∷ ws) = (w ≤ most-character) × Characters ws
 
+-- words that are 0
+abbrev pub Zeros : List ℕ → Type 0
+Zeros [] = Unit {0}
+Zeros (w ∷ ws) = (w ≡ 0) × Zeros ws
+
 -- how often a list holds a word
 abbrev pub times : ℕ → List ℕ → ℕ
 times x [] = 0
@@ -121,6 +126,8 @@ pub record Good (s : Shape) (im : List ℕ) : Type 0 where
   pub laid : Laid s im
   pub flags : (i : Task) → i .0 < s .n → Flagged s im i
   pub queues : (q : Queue) → Has s q → Queued s im q
+  -- 0 in every free slot of every queue
+  pub cleared : (q : Queue) → Has s q → Zeros (free s im q)
   -- words held in input and output buffers are at most 255
   pub inputs-held : (i : Task) → i .0 < s .n → Characters (held s im (Queue.Input i))
   pub outputs-held : (i : Task) → i .0 < s .n → Characters (held s im (Queue.Output i))

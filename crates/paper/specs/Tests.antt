@@ -5,7 +5,7 @@ use Prim.Native.Nat.{ℕ, zero, suc, _+_, _%_}
 use lib.Dec.{eqb, leb, ltb}
 use lib.ListN.{length}
 use Rattle.paper.specs.Image.{task, most-character, at, clock, reg, status, peer, busy, character}
-use Rattle.paper.specs.Queues.{header-capacity, head, tail, count, capacity, held, empty, full}
+use Rattle.paper.specs.Queues.{header-capacity, head, tail, count, capacity, held, free, empty, full}
 use Rattle.paper.specs.Flags.{cc, error, pending, most-cc, most-error, is-ready, waits, is-stopped}
 use Rattle.paper.specs.Services.{services}
 use Rattle.paper.specs.Rules.{times, partner}
@@ -32,12 +32,20 @@ all-below m (w ∷ ws) = ltb w m && all-below m ws
 abbrev pub implies : Bool → Bool → Bool
 implies a b = not a || b
 
--- every queue: the header's capacity, head, tail and length within it, (head + length) mod capacity = tail
+-- a queue: the header's capacity, head, tail and length within it, (head + length) mod capacity = tail
 unfoldable pub queued : Shape → List ℕ → Queue → Bool
 queued s im q =
     eqb (at s im (capacity s q)) (header-capacity s q) && ltb (at s im (head s q)) (at s im (capacity s q)) &&
     ltb (at s im (tail s q)) (at s im (capacity s q)) && leb (at s im (count s q)) (at s im (capacity s q)) &&
     eqb ((at s im (head s q) + at s im (count s q)) % at s im (capacity s q)) (at s im (tail s q))
+
+-- 0 in every free slot
+unfoldable pub cleared : Shape → List ℕ → Queue → Bool
+cleared s im q = all-below 1 (free s im q)
+
+-- every queue
+unfoldable pub queue-holds : Shape → List ℕ → Queue → Bool
+queue-holds s im q = queued s im q && cleared s im q
 
 -- the ready queue holds no number but a task's
 unfoldable pub readied-tasks : Shape → List ℕ → Bool
@@ -50,7 +58,7 @@ clock-holds s im = leb (at s im clock) (s .slice) && implies (empty s im Queue.R
 -- the input and output buffer of task i, and its message buffers to every task
 unfoldable pub buffers-hold : Shape → List ℕ → Task → Bool
 buffers-hold s im i =
-    queued s im (Queue.Input i) && queued s im (Queue.Output i) && every-task s (λ j. queued s im (Queue.Message i j))
+    queue-holds s im (Queue.Input i) && queue-holds s im (Queue.Output i) && every-task s (λ j. queue-holds s im (Queue.Message i j))
 
 -- words held in input and output buffers are at most 255
 unfoldable pub characters : Shape → List ℕ → Task → Bool
@@ -106,4 +114,4 @@ task-holds s im i =
 
 -- all rules
 unfoldable pub rules-hold : Shape → List ℕ → Bool
-rules-hold s im = queued s im Queue.Ready && readied-tasks s im && clock-holds s im && every-task s (task-holds s im)
+rules-hold s im = queue-holds s im Queue.Ready && readied-tasks s im && clock-holds s im && every-task s (task-holds s im)

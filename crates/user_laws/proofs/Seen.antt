@@ -4,7 +4,7 @@ use mathlib.Core.List.{List, [], _∷_, _++_}
 use Prim.Native.Nat.{ℕ, _+_, _*_}
 use lib.ListN.{getD, take, replicate}
 use Rattle.paper.specs.Image.{task, total, shape-of, place, at, put}
-use Rattle.paper.specs.Queues.{step, appended, first, taken, held, empty, full}
+use Rattle.paper.specs.Queues.{step, appended, first, taken, held, free, empty, full}
 use Rattle.paper.specs.Waking.{dispatched, with-status, readied, woken, left, with-woken}
 use Rattle.paper.specs.Services.{service-faulted, waiting, delivered, printing, printing-if-idle, served, waits-for, finished, service}
 use Rattle.paper.specs.Machines.{machine, put-back}
@@ -60,7 +60,7 @@ pub record Seen : Type 0 where
   pub zero-got : got-from zero-plan five-ticks (Queue.Message (task 0) (task 0)) 5 ≡ 0 ∷ []
 
 pub seen : Seen
-unfolding total shape-of place at put step appended first taken held empty full dispatched with-status readied woken left with-woken service-faulted waiting delivered printing printing-if-idle served waits-for finished service machine put-back with-register with-flags with-word operand found effect-of checked decided changed faulted ordered event-of stopped turned spent turn-of tick input port-next output-done happening plan-shape fresh done sent got
+unfolding total shape-of place at put step appended first taken held free empty full dispatched with-status readied woken left with-woken service-faulted waiting delivered printing printing-if-idle served waits-for finished service machine put-back with-register with-flags with-word operand found effect-of checked decided changed faulted ordered event-of stopped turned spent turn-of tick input port-next output-done happening plan-shape fresh done sent got
 seen =
     record {
       entered = refl;

@@ -5,7 +5,7 @@ use Prim.Native.Nat.{ℕ}
 use lib.ListN.{take}
 use Rattle.paper.specs.Image.{total, shape-of, place, at}
 use Rattle.paper.specs.Queues.{step, held, empty, full}
-use Rattle.paper.specs.Tests.{every, queued, buffers-hold, characters, readied-once, readied-tasks, clock-holds, port-holds, flags-hold, status-holds, task-holds, rules-hold}
+use Rattle.paper.specs.Tests.{every, queued, cleared, queue-holds, buffers-hold, characters, readied-once, readied-tasks, clock-holds, port-holds, flags-hold, status-holds, task-holds, rules-hold}
 use Rattle.paper.specs.Numbers.{out-of-range, not-packed, segment-right, wrong-segments, check}
 use Rattle.paper.specs.declared.Refusal.{Refusal}
 use Rattle.views.specs.Looks.{named-queue, task-seen, port-seen, register-seen, length-seen, word-seen, task-view, port-view, register-view, length-view, word-view}
@@ -62,7 +62,7 @@ pub record SeenOfTasks : Type 0 where
   pub no-task-to-have-it : register-view image 2 0 ≡ WordView.NotThere
 
 pub seen-of-tasks : SeenOfTasks
-unfolding total shape-of place at step held empty full every queued buffers-hold characters readied-once readied-tasks clock-holds port-holds flags-hold status-holds task-holds rules-hold out-of-range not-packed segment-right wrong-segments check named-queue task-seen port-seen register-seen length-seen word-seen task-view port-view register-view length-view word-view
+unfolding total shape-of place at step held empty full every queued cleared queue-holds buffers-hold characters readied-once readied-tasks clock-holds port-holds flags-hold status-holds task-holds rules-hold out-of-range not-packed segment-right wrong-segments check named-queue task-seen port-seen register-seen length-seen word-seen task-view port-view register-view length-view word-view
 seen-of-tasks =
     record {
       waiting = refl;
@@ -96,7 +96,7 @@ pub record SeenOfQueues : Type 0 where
   pub queue-4 : word-view image 4 0 0 0 ≡ WordView.NotThere
 
 pub seen-of-queues : SeenOfQueues
-unfolding total shape-of place at step held empty full every queued buffers-hold characters readied-once readied-tasks clock-holds port-holds flags-hold status-holds task-holds rules-hold out-of-range not-packed segment-right wrong-segments check named-queue task-seen port-seen register-seen length-seen word-seen task-view port-view register-view length-view word-view
+unfolding total shape-of place at step held empty full every queued cleared queue-holds buffers-hold characters readied-once readied-tasks clock-holds port-holds flags-hold status-holds task-holds rules-hold out-of-range not-packed segment-right wrong-segments check named-queue task-seen port-seen register-seen length-seen word-seen task-view port-view register-view length-view word-view
 seen-of-queues =
     record {
       ready-length = refl;
@@ -122,7 +122,7 @@ pub record NotSeen : Type 0 where
   pub no-words : word-view [] 4 0 0 0 ≡ WordView.Refused Refusal.TooShort
 
 pub not-seen : NotSeen
-unfolding total shape-of place at step held empty full every queued buffers-hold characters readied-once readied-tasks clock-holds port-holds flags-hold status-holds task-holds rules-hold out-of-range not-packed segment-right wrong-segments check named-queue task-seen port-seen register-seen length-seen word-seen task-view port-view register-view length-view word-view
+unfolding total shape-of place at step held empty full every queued cleared queue-holds buffers-hold characters readied-once readied-tasks clock-holds port-holds flags-hold status-holds task-holds rules-hold out-of-range not-packed segment-right wrong-segments check named-queue task-seen port-seen register-seen length-seen word-seen task-view port-view register-view length-view word-view
 not-seen =
     record {
       cut = refl;
