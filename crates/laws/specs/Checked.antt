@@ -11,9 +11,9 @@ use lib.Dec.{eqb, leb, lit<}
 use lib.ListN.{length, getD}
 use lib.Seq.{ext-getD}
 use Rattle.paper.specs.Image.{task, header-words, mark, edition, most-tasks, most-slice, most-capacity, most-words, most-character, offsets, total, header, header-word, shape-of, segment-start, at, clock, base, len}
-use Rattle.paper.specs.Queues.{Has, held, empty, full}
-use Rattle.paper.specs.Rules.{Within, Laid, Flagged, Queued, Empty, Characters, times, Ready, Ported, Stands, Good}
-use Rattle.paper.specs.Tests.{every, all-below, queued, readied-tasks, clock-holds, buffers-hold, characters, readied-once, port-holds, flags-hold, status-holds, task-holds, rules-hold}
+use Rattle.paper.specs.Queues.{Has, held, free, empty, full}
+use Rattle.paper.specs.Rules.{Within, Laid, Flagged, Queued, Empty, Characters, Zeros, times, Ready, Ported, Stands, Good}
+use Rattle.paper.specs.Tests.{every, all-below, queued, cleared, queue-holds, readied-tasks, clock-holds, buffers-hold, characters, readied-once, port-holds, flags-hold, status-holds, task-holds, rules-hold}
 use Rattle.paper.specs.Numbers.{number, verdict-number, refused-if, too-short, not-marked, out-of-range, not-packed, segment-right, wrong-segments, check, and-then}
 use Rattle.paper.specs.declared.Task.{Task}
 use Rattle.paper.specs.declared.Shape.{Shape}
@@ -80,6 +80,11 @@ characters-are : (ws : List ℕ) → So (all-below (most-character + 1) ws) ↔ 
 characters-are [] = (λ _. tt, λ _. refl)
 characters-are (w ∷ ws) = simp (tests, characters-are ws) (λ h. (omega arith, h .1), λ h. (omega arith, h .1))
 
+-- the words of a list are 0
+zeros-are : (ws : List ℕ) → So (all-below 1 ws) ↔ Zeros ws
+zeros-are [] = (λ _. tt, λ _. refl)
+zeros-are (w ∷ ws) = simp (tests, zeros-are ws) (λ h. (omega arith, h .1), λ h. (omega arith, h .1))
+
 -- a list of words below m holds no other word
 below-is : (m : ℕ) (ws : List ℕ) → So (all-below m ws) ↔ ((x : ℕ) → m ≤ x → times x ws ≡ 0)
 below-is m [] = (λ _ x h. refl, λ _. refl)
@@ -106,16 +111,29 @@ module _ (s : Shape) (im : List ℕ) where
   unfolding queued
   queued-is q = simp tests (λ h. search, λ r. search)
 
+  -- its free slots
+  pub cleared-is : (q : Queue) → So (cleared s im q) ↔ Zeros (free s im q)
+  unfolding cleared
+  cleared-is q = zeros-are (free s im q)
+
+  -- both
+  abbrev pub Kept : Queue → Type 0
+  Kept q = Queued s im q × Zeros (free s im q)
+
+  pub kept-is : (q : Queue) → So (queue-holds s im q) ↔ Kept q
+  unfolding queue-holds
+  kept-is q = simp (tests, queued-is, cleared-is) Iff·rfl
+
   -- the clock
   clock-is : So (clock-holds s im) ↔ ((at s im clock ≤ s .slice) × (Empty s im Queue.Ready → at s im clock ≡ 0))
   unfolding clock-holds empty
   clock-is = simp tests Iff·rfl
 
-  -- the buffers of task i are queues
+  -- the buffers of task i
   pub buffers-are : (i : Task) → So (buffers-hold s im i) ↔
-      (Queued s im (Queue.Input i) × Queued s im (Queue.Output i) × ((k : ℕ) → k < s .n → Queued s im (Queue.Message i (task k))))
+      (Kept (Queue.Input i) × Kept (Queue.Output i) × ((k : ℕ) → k < s .n → Kept (Queue.Message i (task k))))
   unfolding buffers-hold
-  buffers-are i = simp (tests, queued-is) Iff·rfl
+  buffers-are i = simp (tests, kept-is) Iff·rfl
 
   -- the input and output buffer of task i hold characters
   held-are : (i : Task) → So (characters s im i) ↔ (Characters (held s im (Queue.Input i)) × Characters (held s im (Queue.Output i)))
@@ -138,13 +156,13 @@ module _ (s : Shape) (im : List ℕ) where
   stands-is i = simp tests (λ h. search, λ r. search)
 
   -- every queue is the ready queue or a buffer of a task
-  queues-are : (Queued s im Queue.Ready × ((i : Task) → i .0 < s .n → So (buffers-hold s im i))) ↔ ((q : Queue) → Has s q → Queued s im q)
+  queues-are : (Kept Queue.Ready × ((i : Task) → i .0 < s .n → So (buffers-hold s im i))) ↔ ((q : Queue) → Has s q → Kept q)
   queues-are = (
     λ h. go (h .0) (h .1),
     λ g. (g Queue.Ready tt, λ i l. buffers-are i .1 (g (Queue.Input i) l, g (Queue.Output i) l, λ k m. g (Queue.Message i (task k)) (l, m))),
   )
     where
-      go : Queued s im Queue.Ready → ((i : Task) → i .0 < s .n → So (buffers-hold s im i)) → (q : Queue) → Has s q → Queued s im q
+      go : Kept Queue.Ready → ((i : Task) → i .0 < s .n → So (buffers-hold s im i)) → (q : Queue) → Has s q → Kept q
       go r f Queue.Ready h = r
       go r f (Queue.Input i) h = buffers-are i .0 (f i h) .0
       go r f (Queue.Output i) h = buffers-are i .0 (f i h) .1
@@ -175,14 +193,16 @@ module _ (s : Shape) (im : List ℕ) where
   rules-are : Laid s im → So (rules-hold s im) ↔ Good s im
   unfolding rules-hold
   rules-are laid =
-      simp (tests, queued-is, clock-is, task-is, held-are, ported-is, flagged-is, stands-is) (
+      simp (tests, kept-is, clock-is, task-is, held-are, ported-is, flagged-is, stands-is) (
         λ h.
             let each : (i : Task) → i .0 < s .n → _ = λ i. h .2 (i .0) in
             let ready = ready-is .0 (h .0 .1, λ k l. h .2 k l .2) in
+            let kept = queues-are .0 (h .0 .0, λ i l. each i l .0) in
             record {
               laid = laid;
               flags = λ i l. each i l .4;
-              queues = queues-are .0 (h .0 .0, λ i l. each i l .0);
+              queues = λ q has. kept q has .0;
+              cleared = λ q has. kept q has .1;
               inputs-held = λ i l. each i l .1 .0;
               outputs-held = λ i l. each i l .1 .1;
               ready = ready .0;
@@ -194,7 +214,7 @@ module _ (s : Shape) (im : List ℕ) where
             },
         λ g.
             let ready = ready-is .1 (g .ready, g .no-other) in
-            let queues = queues-are .1 (g .queues) in (
+            let queues = queues-are .1 (λ q has. (g .queues q has, g .cleared q has)) in (
               (queues .0, ready .0),
               (g .clock-range, g .clock-idle),
               λ k l.

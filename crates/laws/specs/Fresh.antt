@@ -3,17 +3,17 @@ use mathlib.Core.Path.{_≡_, refl, sym, ap, _∙_}
 use mathlib.Core.List.{List, [], _∷_}
 use mathlib.Core.Bool.{Bool, true, false, _||_, and-eq-true-iff, true≢false}
 use mathlib.Core.Logic.{_↔_, dite}
-use Prim.Native.Nat.{ℕ, zero, suc, _+_, _*_, _%_, _<_, _≤_}
-use native.Mathlib.Nat.{le-refl, zero-add, mod-self, zero-mod}
+use Prim.Native.Nat.{ℕ, zero, suc, _+_, _-_, _*_, _%_, _<_, _≤_}
+use native.Mathlib.Nat.{le-refl, zero-add, mod-self, zero-mod, sub-self}
 use native.Mathlib.Decide.{decLt}
 use native.Mathlib.Omega.{arith}
 use borrow.Author.Tests.{ltb-false, le-ltb}
 use lib.Dec.{ltb, lit<}
-use lib.ListN.{length, getD, take, drop, length-append, length-drop, length-replicate, List·getD-append}
+use lib.ListN.{length, getD, take, drop, length-append, length-drop, length-replicate, getD-replicate, List·getD-append, replicate}
 use lib.Seq.{length-take-le, getD-append-add, getD-take}
 use Rattle.paper.specs.Image.{lead, parts, ord, rows, width, size, begin, start, offsets, total, header, segment-start, cell, Valid, place, at, clock, status}
-use Rattle.paper.specs.Queues.{part-of, row-of, Has, header-capacity, queue-word, slot, words-from, held}
-use Rattle.paper.specs.Rules.{Fit, Laid, Flagged, Queued, Characters, Ported, Stands, Good}
+use Rattle.paper.specs.Queues.{part-of, row-of, Has, header-capacity, queue-word, tail, count, capacity, slot, words-from, held, free}
+use Rattle.paper.specs.Rules.{Fit, Laid, Flagged, Queued, Characters, Zeros, Ported, Stands, Good}
 use Rattle.paper.specs.Plans.{plan-tasks, segment-length, program-length, program-start, segment-words, plan-shape, joined, fresh-queue, fresh-segment, fresh-row, fresh-part, fresh}
 use Rattle.paper.specs.Numbers.{plan-broken, check-plan, check}
 use Rattle.paper.specs.declared.Task.{Task}
@@ -24,8 +24,8 @@ use Rattle.paper.specs.declared.Verdict.{Verdict}
 use Rattle.laws.specs.Places.{part-at, ord-below, row-below}
 use Rattle.laws.specs.Cells.{at-header}
 use Rattle.laws.specs.Layout.{total-is}
-use Rattle.laws.specs.Steps.{steps, steps-mod, mod-low}
-use Rattle.laws.specs.Queues.{word-valid, words-snoc}
+use Rattle.laws.specs.Steps.{steps, steps-mod, steps-below, mod-low}
+use Rattle.laws.specs.Queues.{word-valid, words-snoc, zero-words}
 use Rattle.laws.specs.Checked.{equal, at-most, every-is, no-fault, ranged-is, passed, good-checked}
 use Rattle.laws.specs.Consecutive.{rising, joined-ends, joined-at, joined-length, joined-row, numbers, numbers-length, numbers-at, numbers-once}
 
@@ -204,6 +204,38 @@ module _ (plan : List ℕ) (fine : check-plan plan ≡ Verdict.Fine) where
         round = rw (at-head, at-tail, at-count, at-capacity, zero-add) (counts .2);
       }
 
+  -- each slot of a buffer is 0
+  fresh-slot : (q : Queue) (k : ℕ) → Has (plan-shape plan) q → k < header-capacity (plan-shape plan) q
+      → fresh-row (plan-shape plan) plan (part-of q) (row-of (plan-shape plan) q) ≡ fresh-queue (header-capacity (plan-shape plan) q)
+      → at (plan-shape plan) (fresh plan) (slot (plan-shape plan) q k) ≡ 0
+  fresh-slot q k has l e =
+      let s = plan-shape plan in
+      let c = header-capacity s q in
+      fresh-at (part-of q) (row-of s q) (lead + k) (word-valid s q (lead + k) has (omega arith)) ∙
+      rw e (getD-append-add (0 ∷ 0 ∷ 0 ∷ c ∷ []) (replicate c 0) k 0 ∙ getD-replicate c k 0 0 l)
+
+  -- so its free slots are
+  buffer-cleared : (q : Queue) → Has (plan-shape plan) q
+      → fresh-row (plan-shape plan) plan (part-of q) (row-of (plan-shape plan) q) ≡ fresh-queue (header-capacity (plan-shape plan) q)
+      → Zeros (free (plan-shape plan) (fresh plan) q)
+  unfolding free
+  buffer-cleared q has e =
+      let s = plan-shape plan in
+      let r = fresh-queued q has in
+      let t = at s (fresh plan) (tail s q) in
+      let c = at s (fresh plan) (capacity s q) in
+      zero-words s (fresh plan) q t (c - at s (fresh plan) (count s q))
+      (λ k l. fresh-slot q (steps t k c) has (omega (arith, steps-below t k c (r .tailed), r .sized)) e)
+
+  -- and the ready queue, which is full, has none
+  fresh-cleared : (q : Queue) → Has (plan-shape plan) q → Zeros (free (plan-shape plan) (fresh plan) q)
+  unfolding free
+  fresh-cleared Queue.Ready has =
+      rw (fresh-lead Queue.Ready 3 has (lit< tt), fresh-lead Queue.Ready 2 has (lit< tt), sub-self (plan-shape plan .n)) tt
+  fresh-cleared (Queue.Input i) has = buffer-cleared (Queue.Input i) has refl
+  fresh-cleared (Queue.Output i) has = buffer-cleared (Queue.Output i) has refl
+  fresh-cleared (Queue.Message i j) has = buffer-cleared (Queue.Message i j) has refl
+
   -- an empty queue holds no word over 255
   fresh-characters : (q : Queue) → Has (plan-shape plan) q → fresh-count (plan-shape plan) q ≡ 0
       → Characters (held (plan-shape plan) (fresh plan) q)
@@ -255,6 +287,7 @@ module _ (plan : List ℕ) (fine : check-plan plan ≡ Verdict.Fine) where
         laid = fresh-laid;
         flags = fresh-flags;
         queues = fresh-queued;
+        cleared = fresh-cleared;
         inputs-held = λ i h. fresh-characters (Queue.Input i) h refl;
         outputs-held = λ i h. fresh-characters (Queue.Output i) h refl;
         ready = λ i h. rw fresh-ready (numbers-once (i .0) n .0 (h .0));

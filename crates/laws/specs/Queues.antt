@@ -11,7 +11,7 @@ use lib.Dec.{T, T-not, eqb, eqb-refl}
 use lib.ListN.{length}
 use Rattle.paper.specs.Image.{task, ord, rows, width, total, lead, cell, Valid, place, at, put}
 use Rattle.paper.specs.Queues.{part-of, row-of, Has, header-capacity, queue-word, head, tail, count, capacity, slot, step, appended, first, taken, words-from, held, free}
-use Rattle.paper.specs.Rules.{Queued}
+use Rattle.paper.specs.Rules.{Queued, Zeros}
 use Rattle.paper.specs.declared.Task.{Task}
 use Rattle.paper.specs.declared.Shape.{Shape}
 use Rattle.paper.specs.declared.Cell.{Cell}
@@ -50,6 +50,13 @@ words-same : (s : Shape) (im im′ : List ℕ) (q : Queue) (h n : ℕ) → at s 
 words-same s im im′ q h zero e f = refl
 words-same s im im′ q h (suc n) e f =
     rw (e, f 0 (omega arith), words-same s im im′ q (step h (at s im (capacity s q))) n e (λ k l. f (suc k) (omega arith)))
+
+-- words of slots that are 0
+pub zero-words : (s : Shape) (im : List ℕ) (q : Queue) (h n : ℕ)
+    → ((k : ℕ) → k < n → at s im (slot s q (steps h k (at s im (capacity s q)))) ≡ 0) → Zeros (words-from s im q h n)
+zero-words s im q h zero f = tt
+zero-words s im q h (suc n) f =
+    (f 0 (omega arith), zero-words s im q (step h (at s im (capacity s q))) n (λ k l. f (suc k) (omega arith)))
 
 words-length : (s : Shape) (im : List ℕ) (q : Queue) (h n : ℕ) → length (words-from s im q h n) ≡ n
 words-length s im q h zero = refl
@@ -138,6 +145,11 @@ module _ (s : Shape) (m : List ℕ) (q : Queue) (has : Has s q) (k v : ℕ) (hk 
   put-off c hc off =
       at-other s m (queue-word s q k) c v (word-valid s q k has hk) hc
       (λ e. off (ap (λ (d : Cell). d .part) e) (ap (λ (d : Cell). d .row) e))
+
+-- zeros, one more at the end
+zeros-and-one : (ws : List ℕ) → Zeros ws → Zeros (ws ++ (0 ∷ []))
+zeros-and-one [] z = (refl, tt)
+zeros-and-one (w ∷ ws) z = (z .0, zeros-and-one ws (z .1))
 
 module _ (s : Shape) (im : List ℕ) (q : Queue) (has : Has s q) (long : length im ≡ total s) (r : Queued s im q) where
   -- the paper's (head + length) mod capacity = tail, as steps
@@ -295,8 +307,8 @@ module _ (s : Shape) (im : List ℕ) (q : Queue) (has : Has s q) (long : length 
       let h = at s im (head s q) in
       let n = at s im (count s q) in
       let c = at s im (capacity s q) in
-      rw (← round-steps, ← steps-add h n (c - n) c)
-      (ap (λ (x : ℕ). steps h x c) (omega (arith, r .counted)) ∙ steps-round h c (r .headed))
+      let whole : n + (c - n) ≡ c = omega (arith, r .counted) in
+      rw (← round-steps, ← steps-add h n (c - n) c) (ap (λ (x : ℕ). steps h x c) whole ∙ steps-round h c (r .headed))
 
   -- the slot that a word is stored in was the first of the free ones
   pub appended-free : (v : ℕ) → at s im (count s q) < at s im (capacity s q)
@@ -314,6 +326,10 @@ module _ (s : Shape) (im : List ℕ) (q : Queue) (has : Has s q) (long : length 
       appended-rest v (lead + steps (step t c) k c) (slot-in (steps (step t c) k c) (steps-below (step t c) k c (step-below t c (r .tailed)))) (omega arith) (omega arith)
       (λ z. steps-apart t 0 (suc k) c (r .tailed) (omega arith) (omega arith) (omega arith))))))
 
+  -- free slots that are 0 are so still
+  pub appended-cleared : (v : ℕ) → at s im (count s q) < at s im (capacity s q) → Zeros (free s im q) → Zeros (free s (appended s im q v) q)
+  appended-cleared v room z = (rw (appended-free v room) at z) .1
+
   -- take then free = free and a 0
   pub taken-free : 0 < at s im (count s q) → free s (taken s im q) q ≡ free s im q ++ (0 ∷ [])
   unfolding free
@@ -329,6 +345,9 @@ module _ (s : Shape) (im : List ℕ) (q : Queue) (has : Has s q) (long : length 
       (words-same s im (taken s im q) q t (c - n) e3 (λ k hk.
       taken-rest (lead + steps t k c) (slot-in (steps t k c) (steps-below t k c (r .tailed))) (omega arith) (omega arith)
       (λ z. steps-apart t k (c - n) c (r .tailed) hk (omega arith) (omega (arith, back-round))))))
+
+  pub taken-cleared : 0 < at s im (count s q) → Zeros (free s im q) → Zeros (free s (taken s im q) q)
+  taken-cleared some z = rw (taken-free some) (zeros-and-one (free s im q) z)
 
 -- `search queues` reads past a word that was appended or taken, at any cell that is not of that queue
 pub ruleset queues = (appended-off, taken-off, off-part, off-row, appended-length, taken-length, appended-queued, taken-queued)

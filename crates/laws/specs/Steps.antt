@@ -2,7 +2,7 @@
 use mathlib.Core.Path.{_≡_, refl, sym, ap, _∙_}
 use mathlib.Core.Logic.{_≢_, _⊎_, inl, inr, ⊎-elim, dite}
 use Prim.Native.Nat.{ℕ, zero, suc, _+_, _-_, _%_, _<_, _≤_}
-use native.Mathlib.Nat.{mod-eq-of-lt, mod-eq-sub-mod, mod-add-mod, add-zero}
+use native.Mathlib.Nat.{mod-eq-of-lt, mod-eq-sub-mod, mod-add-mod, add-zero, zero-add, suc-add}
 use native.Mathlib.Decide.{decLt}
 use native.Mathlib.Omega.{arith}
 use borrow.Author.Tests.{ltb-true, ltb-false}
@@ -57,15 +57,15 @@ steps-on h (suc n) c = steps-on (step h c) n c
 
 -- so many steps and then so many more
 pub steps-add : (h n m c : ℕ) → steps h (n + m) c ≡ steps (steps h n c) m c
-steps-add h zero m c = refl
-steps-add h (suc n) m c = steps-add (step h c) n m c
+steps-add h zero m c = ap (λ (x : ℕ). steps h x c) (zero-add m)
+steps-add h (suc n) m c = ap (λ (x : ℕ). steps h x c) (suc-add n m) ∙ steps-add (step h c) n m c
 
 -- capacity steps come back
 pub steps-round : (h c : ℕ) → h < c → steps h c c ≡ h
 steps-round h c l = steps-mod h c c l ∙ mod-high {x = h + c} {c = c} (omega arith) (omega arith) ∙ omega arith
 
 -- each slot is some steps on from any other
-pub steps-to : (h k c : ℕ) → h < c → k < c → Σ ℕ (λ j. (j < c) × (steps h j c ≡ k))
+pub steps-to : (h k c : ℕ) → h < c → k < c → (j : ℕ) × (j < c) × (steps h j c ≡ k)
 steps-to h k c hc hk =
     dite (decLt k h)
     (λ l. (k + c - h, omega arith, steps-mod h (k + c - h) c hc ∙ ap (λ (x : ℕ). x % c) (omega arith) ∙ mod-high {x = k + c} {c = c} (omega arith) (omega arith) ∙ omega arith))
