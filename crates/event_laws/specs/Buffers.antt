@@ -6,9 +6,9 @@ use mathlib.Core.Logic.{_≢_, _⊎_, inl, inr, ⊎-elim}
 use Prim.Native.Nat.{ℕ, _+_, _<_}
 use native.Mathlib.Omega.{arith}
 use Rattle.paper.specs.Image.{lead, ord, at, status}
-use Rattle.paper.specs.Queues.{part-of, row-of, Has, header-capacity, queue-word, held}
+use Rattle.paper.specs.Queues.{part-of, row-of, Has, header-capacity, queue-word, held, free}
 use Rattle.paper.specs.Flags.{waits}
-use Rattle.paper.specs.Rules.{Ported}
+use Rattle.paper.specs.Rules.{Zeros, Ported}
 use Rattle.paper.specs.declared.Task.{Task}
 use Rattle.paper.specs.declared.Shape.{Shape}
 use Rattle.paper.specs.declared.Cell.{Cell}
@@ -16,7 +16,7 @@ use Rattle.paper.specs.declared.Part.{Part}
 use Rattle.paper.specs.declared.Queue.{Queue}
 use Rattle.paper.specs.declared.Service.{Service}
 use Rattle.paper.specs.declared.Woken.{Woken}
-use Rattle.laws.specs.Queues.{Off, word-valid, held-frame, same-queue}
+use Rattle.laws.specs.Queues.{Off, word-valid, held-frame, free-frame, same-queue}
 use Rattle.laws.specs.Sound.{Sound, sound}
 use Rattle.laws.specs.Frame.{Frame, Apart, SameCount, frame-more, kept-flags, kept-same}
 use Rattle.laws.specs.Changes.{device-parts}
@@ -46,7 +46,7 @@ chars-same s im m (Queue.Message i j) e c = tt
 
 -- a buffer's row, and ports, written anew
 module _ {s : Shape} {im m : List ℕ} (h : Nearly s im Woken.Nobody) (q : Queue) (hq : Has s q) (device : device-parts (part-of q) ≡ true)
-    (k : Frame s (BufferCell s q) im m) (chars : Chars s m q) where
+    (k : Frame s (BufferCell s q) im m) (chars : Chars s m q) (cleared : Zeros (free s m q)) where
   buffer-apart : Apart s device-parts im m
   buffer-apart = frame-more k go
     where
@@ -64,12 +64,14 @@ module _ {s : Shape} {im m : List ℕ} (h : Nearly s im Woken.Nobody) (q : Queue
 
   -- the image is good, but for tasks that wait on the buffer
   pub buffer-nearly : (w : Woken) → Sound s m → ((i : Task) → i .0 < s .n → Ported s m i) → Free s im q w → Nearly s m w
-  buffer-nearly w lies ports free =
+  buffer-nearly w lies ports none-waits =
       record {
         lies = lies;
         flags = λ i hi. kept-flags device-parts buffer-apart refl i hi (h .flags i hi);
         chars = λ p hp.
             ⊎-elim (λ e. rw e chars) (λ o. chars-same s im m p (held-frame s im m p (sound (h .lies) .queues p hp) (queue-kept p hp o)) (h .chars p hp)) (same-queue s p q hp hq);
+        cleared = λ p hp.
+            ⊎-elim (λ e. rw e cleared) (λ o. rw (free-frame s im m p (sound (h .lies) .queues p hp) (queue-kept p hp o)) (h .cleared p hp)) (same-queue s p q hp hq);
         listed = kept-listed device-parts buffer-apart h refl refl;
         clocked = kept-clocked device-parts buffer-apart h refl refl;
         ports = ports;
@@ -77,5 +79,5 @@ module _ {s : Shape} {im m : List ℕ} (h : Nearly s im Woken.Nobody) (q : Queue
             let st = h .statuses i hi (λ z. z) in
             stands-frame s im m i (kept-same device-parts buffer-apart refl refl i hi) (λ v e.
             let has = awaits-has s im i hi st v e in
-            ⊎-elim (λ f. absurd (free i v hi sp e f)) (counts-kept (awaits s im i v) has) (same-queue s (awaits s im i v) q has hq)) st;
+            ⊎-elim (λ f. absurd (none-waits i v hi sp e f)) (counts-kept (awaits s im i v) has) (same-queue s (awaits s im i v) q has hq)) st;
       }

@@ -4,9 +4,9 @@ use mathlib.Core.List.{List}
 use mathlib.Core.Bool.{Bool, false}
 use Prim.Native.Nat.{ℕ, _<_, _≤_}
 use Rattle.paper.specs.Image.{at, clock, flags, status}
-use Rattle.paper.specs.Queues.{part-of, Has, held}
+use Rattle.paper.specs.Queues.{part-of, Has, held, free}
 use Rattle.paper.specs.Flags.{waits}
-use Rattle.paper.specs.Rules.{Flagged, Empty, Characters, Ported, Stands, Good}
+use Rattle.paper.specs.Rules.{Flagged, Empty, Characters, Zeros, Ported, Stands, Good}
 use Rattle.paper.specs.declared.Task.{Task}
 use Rattle.paper.specs.declared.Shape.{Shape}
 use Rattle.paper.specs.declared.Part.{Part}
@@ -14,7 +14,7 @@ use Rattle.paper.specs.declared.Queue.{Queue}
 use Rattle.paper.specs.declared.Service.{Service}
 use Rattle.paper.specs.declared.Woken.{Woken}
 use Rattle.laws.specs.Sound.{Sound, shut, sound}
-use Rattle.laws.specs.Frame.{Apart, Same, kept-clock, kept-status, kept-count, kept-held, kept-port}
+use Rattle.laws.specs.Frame.{Apart, Same, kept-clock, kept-status, kept-count, kept-held, kept-free, kept-port}
 use Rattle.laws.specs.Room.{Listed, good-listed}
 use Rattle.event_laws.specs.Standing.{awaits, stands-frame}
 
@@ -39,6 +39,7 @@ pub record Nearly (s : Shape) (im : List ℕ) (w : Woken) : Type 0 where
   pub lies : Sound s im
   pub flags : (i : Task) → i .0 < s .n → Flagged s im i
   pub chars : (q : Queue) → Has s q → Chars s im q
+  pub cleared : (q : Queue) → Has s q → Zeros (free s im q)
   pub listed : Listed s im
   pub clocked : Clocked s im
   pub ports : (i : Task) → i .0 < s .n → Ported s im i
@@ -50,6 +51,7 @@ good-nearly {s} {im} g =
       lies = shut record { laid = g .laid; queues = g .queues };
       flags = g .flags;
       chars = chars;
+      cleared = g .cleared;
       listed = good-listed g;
       clocked = (g .clock-range, g .clock-idle);
       ports = g .ports;
@@ -68,6 +70,7 @@ nearly-good h =
       laid = sound (h .lies) .laid;
       flags = h .flags;
       queues = sound (h .lies) .queues;
+      cleared = h .cleared;
       inputs-held = λ i hi. h .chars (Queue.Input i) hi;
       outputs-held = λ i hi. h .chars (Queue.Output i) hi;
       ready = λ i. h .listed i .0;
@@ -106,13 +109,20 @@ module _ {s : Shape} (P : Part → Bool) {im m : List ℕ} (a : Apart s P im m) 
     kept-chars (Queue.Output i) hq = rw (kept-held P a (Queue.Output i) hq outputs (h .lies)) (h .chars (Queue.Output i) hq)
     kept-chars (Queue.Message i j) hq = tt
 
-    pub kept-nearly : {w′ : Woken} → Sound s m → ((i : Task) → i .0 < s .n → Flagged s m i) → Listed s m → Clocked s m
-        → ((i : Task) → i .0 < s .n → ¬ Spared w′ i → Stands s m i) → Nearly s m w′
-    kept-nearly lies flags listed clocked statuses =
+    kept-cleared : Zeros (free s m Queue.Ready) → (q : Queue) → Has s q → Zeros (free s m q)
+    kept-cleared ready Queue.Ready hq = ready
+    kept-cleared ready (Queue.Input i) hq = rw (kept-free P a (Queue.Input i) hq inputs (h .lies)) (h .cleared (Queue.Input i) hq)
+    kept-cleared ready (Queue.Output i) hq = rw (kept-free P a (Queue.Output i) hq outputs (h .lies)) (h .cleared (Queue.Output i) hq)
+    kept-cleared ready (Queue.Message i j) hq = rw (kept-free P a (Queue.Message i j) hq messages (h .lies)) (h .cleared (Queue.Message i j) hq)
+
+    pub kept-nearly : {w′ : Woken} → Sound s m → ((i : Task) → i .0 < s .n → Flagged s m i) → Zeros (free s m Queue.Ready) → Listed s m
+        → Clocked s m → ((i : Task) → i .0 < s .n → ¬ Spared w′ i → Stands s m i) → Nearly s m w′
+    kept-nearly lies flags ready listed clocked statuses =
         record {
           lies = lies;
           flags = flags;
           chars = kept-chars;
+          cleared = kept-cleared ready;
           listed = listed;
           clocked = clocked;
           ports = λ i hi. kept-port P a ports outputs i hi (h .ports i hi);
@@ -125,6 +135,9 @@ module _ {s : Shape} (P : Part → Bool) {im m : List ℕ} {w : Woken} (a : Apar
   kept-listed g i =
       let l = kept-held P a Queue.Ready tt f (h .lies) in
       (λ r. rw l (h .listed i .0 (r .0, sym (kept-status P a g i (r .0)) ∙ r .1)), λ n. rw l (h .listed i .1 (λ r. n (r .0, kept-status P a g i (r .0) ∙ r .1))))
+
+  pub kept-slots : Zeros (free s m Queue.Ready)
+  kept-slots = rw (kept-free P a Queue.Ready tt f (h .lies)) (h .cleared Queue.Ready tt)
 
   pub kept-none : Empty s m Queue.Ready → Empty s im Queue.Ready
   kept-none e = sym (kept-count P a Queue.Ready tt f .0) ∙ e

@@ -10,12 +10,12 @@ use borrow.Author.Tests.{eq-eqb, eqb-true, eqb-false}
 use lib.Dec.{eqb}
 use lib.ListN.{length}
 use Rattle.paper.specs.Image.{most-character, ord, total, cell, Valid, at, put, status, peer, busy, character}
-use Rattle.paper.specs.Queues.{part-of, Has, queue-word, count, appended, first, taken, held, empty, full}
+use Rattle.paper.specs.Queues.{part-of, Has, queue-word, count, appended, first, taken, held, free, empty, full}
 use Rattle.paper.specs.Flags.{is-ready, waits}
 use Rattle.paper.specs.Waking.{one-if}
 use Rattle.paper.specs.Services.{printing, printing-if-idle, waits-for}
 use Rattle.paper.specs.Events.{port-next}
-use Rattle.paper.specs.Rules.{Characters, Ported, Empty}
+use Rattle.paper.specs.Rules.{Characters, Zeros, Ported, Empty}
 use Rattle.paper.specs.declared.Task.{Task}
 use Rattle.paper.specs.declared.Shape.{Shape}
 use Rattle.paper.specs.declared.Cell.{Cell}
@@ -25,9 +25,9 @@ use Rattle.paper.specs.declared.Service.{Service}
 use Rattle.paper.specs.declared.Woken.{Woken}
 use Rattle.laws.specs.Cases.{when}
 use Rattle.laws.specs.Cells.{cells}
-use Rattle.laws.specs.Queues.{same-task, appended-held, taken-held}
+use Rattle.laws.specs.Queues.{same-task, appended-held, appended-cleared, taken-held, taken-cleared}
 use Rattle.laws.specs.Sound.{Sound, sound, has-space, has-word, put-sound, appended-sound, appended-some, taken-sound}
-use Rattle.laws.specs.Frame.{Frame, Apart, frame-none, frame-more, frame-put, frame-appended, frame-taken, ported-frame, kept, kept-port, kept-held, kept-count}
+use Rattle.laws.specs.Frame.{Frame, Apart, frame-none, frame-more, frame-put, frame-appended, frame-taken, ported-frame, kept, kept-port, kept-held, kept-free, kept-count}
 use Rattle.laws.specs.Changes.{message-parts, out-sound, frame-printing}
 use Rattle.laws.specs.Room.{waits-not}
 use Rattle.event_laws.specs.Kept.{Spared, Chars, Nearly}
@@ -114,27 +114,37 @@ module _ (s : Shape) (im : List ℕ) (h : Sound s im) (q : Queue) (hq : Has s q)
   taken-chars f c =
       rw (taken-held s im q hq (sound h .laid .words) (sound h .queues q hq) (has-word s im h q hq f)) at c
 
+  -- free slots are 0 still
+  pub append-clears : (v : ℕ) → full s im q ≡ false → Zeros (free s im q) → Zeros (free s (appended s im q v) q)
+  append-clears v f = appended-cleared s im q hq (sound h .laid .words) (sound h .queues q hq) v (has-space s im h q hq f)
+
+  pub take-clears : empty s im q ≡ false → Zeros (free s im q) → Zeros (free s (taken s im q) q)
+  take-clears f = taken-cleared s im q hq (sound h .laid .words) (sound h .queues q hq) (has-word s im h q hq f)
+
 -- a word appended to or taken from a buffer that is no output buffer
-module _ {s : Shape} {im : List ℕ} (h : Nearly s im Woken.Nobody) (q : Queue) (hq : Has s q) (device : message-parts (part-of q) ≡ true) (w : Woken) (free : Free s im q w) where
-  moves-nearly : (m : List ℕ) → ((E : Cell → Type 0) → ((r : ℕ) → E (queue-word s q r)) → Frame s E im m) → Chars s m q → Sound s m → Nearly s m w
-  moves-nearly m k chars lies =
+module _ {s : Shape} {im : List ℕ} (h : Nearly s im Woken.Nobody) (q : Queue) (hq : Has s q) (device : message-parts (part-of q) ≡ true) (w : Woken) (none-waits : Free s im q w) where
+  moves-nearly : (m : List ℕ) → ((E : Cell → Type 0) → ((r : ℕ) → E (queue-word s q r)) → Frame s E im m) → Chars s m q → Zeros (free s m q) → Sound s m → Nearly s m w
+  moves-nearly m k chars cleared lies =
       let a : Apart s message-parts im m = k (λ c. message-parts (c .part) ≡ true) (λ r. device) in
-      buffer-nearly h q hq (rw device) (k (BufferCell s q) (λ r. inl (refl, refl))) chars w lies (λ i hi. kept-port message-parts a refl refl i hi (h .ports i hi)) free
+      buffer-nearly h q hq (rw device) (k (BufferCell s q) (λ r. inl (refl, refl))) chars cleared w lies (λ i hi. kept-port message-parts a refl refl i hi (h .ports i hi))
+      none-waits
 
   pub append-nearly : (v : ℕ) → full s im q ≡ false → Chars s (appended s im q v) q → Nearly s (appended s im q v) w
   append-nearly v f chars =
-      moves-nearly _ (λ E e. frame-appended frame-none q hq (h .lies) e v) chars (appended-sound s im q hq (h .lies) v (has-space s im (h .lies) q hq f))
+      moves-nearly _ (λ E e. frame-appended frame-none q hq (h .lies) e v) chars (append-clears s im (h .lies) q hq v f (h .cleared q hq))
+      (appended-sound s im q hq (h .lies) v (has-space s im (h .lies) q hq f))
 
   pub take-nearly : empty s im q ≡ false → Chars s (taken s im q) q → Nearly s (taken s im q) w
   take-nearly f chars =
-      moves-nearly _ (λ E e. frame-taken frame-none q hq (h .lies) e) chars (taken-sound s im q hq (h .lies) (has-word s im (h .lies) q hq f))
+      moves-nearly _ (λ E e. frame-taken frame-none q hq (h .lies) e) chars (take-clears s im (h .lies) q hq f (h .cleared q hq))
+      (taken-sound s im q hq (h .lies) (has-word s im (h .lies) q hq f))
 
 -- a cell of the output buffer or the port of task i
 abbrev OutCell : Task → Cell → Type 0
 OutCell i c = (c .row ≡ i .0) × ((c .part ≡ Part.OutputBuffers) ⊎ (c .part ≡ Part.Ports))
 
 -- those of one task written anew
-module _ {s : Shape} {im : List ℕ} (h : Nearly s im Woken.Nobody) (i : Task) (hi : i .0 < s .n) (w : Woken) (free : Free s im (Queue.Output i) w) where
+module _ {s : Shape} {im : List ℕ} (h : Nearly s im Woken.Nobody) (i : Task) (hi : i .0 < s .n) (w : Woken) (none-waits : Free s im (Queue.Output i) w) where
   out-ports : {m : List ℕ} → Frame s (OutCell i) im m → Ported s m i → (j : Task) → j .0 < s .n → Ported s m j
   out-ports k p j hj =
       dite (ℕ-discrete (j .0) (i .0)) (λ e. rw (same-task j i e) p)
@@ -142,16 +152,17 @@ module _ {s : Shape} {im : List ℕ} (h : Nearly s im Woken.Nobody) (i : Task) (
       let off : (c : Cell) → Valid s c → c .row ≡ j .0 → at s _ c ≡ at s im c = λ c hc r. k .others c hc (λ e. ne (sym r ∙ e .0)) in
       ported-frame s im _ j (off (busy j) (hj, omega arith) refl) (off (character j) (hj, omega arith) refl) (off (count s (Queue.Output j)) (hj, omega arith) refl) (h .ports j hj))
 
-  out-nearly : {m : List ℕ} → Frame s (OutCell i) im m → Characters (held s m (Queue.Output i)) → Sound s m → Ported s m i → Nearly s m w
-  out-nearly k chars lies p =
-      buffer-nearly h (Queue.Output i) hi refl (frame-more k go) chars w lies (out-ports k p) free
+  out-nearly : {m : List ℕ} → Frame s (OutCell i) im m → Characters (held s m (Queue.Output i)) → Zeros (free s m (Queue.Output i)) → Sound s m → Ported s m i → Nearly s m w
+  out-nearly k chars cleared lies p =
+      buffer-nearly h (Queue.Output i) hi refl (frame-more k go) chars cleared w lies (out-ports k p) none-waits
     where
       go : (c : Cell) → OutCell i c → BufferCell s (Queue.Output i) c
       go c (r, inl e) = inl (e, r)
       go c (r, inr e) = inr e
 
   -- the first word of the output buffer goes to the port: m is im, or im with an output appended
-  module _ {m : List ℕ} (k : Frame s (OutCell i) im m) (lies : Sound s m) (some : empty s m (Queue.Output i) ≡ false) (chars : Characters (held s m (Queue.Output i))) where
+  module _ {m : List ℕ} (k : Frame s (OutCell i) im m) (lies : Sound s m) (some : empty s m (Queue.Output i) ≡ false) (chars : Characters (held s m (Queue.Output i)))
+      (cleared : Zeros (free s m (Queue.Output i))) where
     took : Sound s (taken s m (Queue.Output i))
     took = taken-sound s m (Queue.Output i) hi lies (has-word s m lies (Queue.Output i) hi some)
 
@@ -160,12 +171,17 @@ module _ {s : Shape} {im : List ℕ} (h : Nearly s im Woken.Nobody) (i : Task) (
     printed-sound =
         put-sound s _ (character i) _ (hi, omega arith) (omega arith) (put-sound s _ (busy i) 1 (hi, omega arith) (omega arith) took)
 
-    printed-chars : Characters (held s (printing s m i) (Queue.Output i))
+    printed-apart : Apart s ports-part (taken s m (Queue.Output i)) (printing s m i)
     unfolding printing
+    printed-apart = frame-put (frame-put frame-none (busy i) 1 (hi, omega arith) refl) (character i) _ (hi, omega arith) refl
+
+    printed-chars : Characters (held s (printing s m i) (Queue.Output i))
     printed-chars =
-        let a : Apart s ports-part (taken s m (Queue.Output i)) (printing s m i) =
-        frame-put (frame-put frame-none (busy i) 1 (hi, omega arith) refl) (character i) _ (hi, omega arith) refl in
-        rw (kept-held ports-part a (Queue.Output i) hi refl took) (taken-chars s m lies (Queue.Output i) hi some chars .1)
+        rw (kept-held ports-part printed-apart (Queue.Output i) hi refl took) (taken-chars s m lies (Queue.Output i) hi some chars .1)
+
+    printed-cleared : Zeros (free s (printing s m i) (Queue.Output i))
+    printed-cleared =
+        rw (kept-free ports-part printed-apart (Queue.Output i) hi refl took) (take-clears s m lies (Queue.Output i) hi some cleared)
 
     printed-port : Ported s (printing s m i) i
     unfolding printing
@@ -181,7 +197,7 @@ module _ {s : Shape} {im : List ℕ} (h : Nearly s im Woken.Nobody) (i : Task) (
         }
 
     pub printing-nearly : Nearly s (printing s m i) w
-    printing-nearly = out-nearly (frame-printing k lies i hi (λ r. (refl, inl refl)) (λ r. (refl, inr refl))) printed-chars printed-sound printed-port
+    printing-nearly = out-nearly (frame-printing k lies i hi (λ r. (refl, inl refl)) (λ r. (refl, inr refl))) printed-chars printed-cleared printed-sound printed-port
 
   -- a port that goes idle
   idle-nearly : Empty s im (Queue.Output i) → Nearly s (put s (put s im (busy i) 0) (character i) 0) w
@@ -193,6 +209,7 @@ module _ {s : Shape} {im : List ℕ} (h : Nearly s im Woken.Nobody) (i : Task) (
       let a : Apart s ports-part im (put s (put s im (busy i) 0) (character i) 0) = frame-put (frame-put frame-none (busy i) 0 (hi, omega arith) refl) (character i) 0 (hi, omega arith) refl in
       out-nearly (frame-put (frame-put frame-none (busy i) 0 (hi, omega arith) (refl, inr refl)) (character i) 0 (hi, omega arith) (refl, inr refl))
       (rw (kept-held ports-part a (Queue.Output i) hi refl (h .lies)) (h .chars (Queue.Output i) hi))
+      (rw (kept-free ports-part a (Queue.Output i) hi refl (h .lies)) (h .cleared (Queue.Output i) hi))
       (put-sound s _ (character i) 0 (hi, omega arith) (omega arith) (put-sound s im (busy i) 0 (hi, omega arith) (omega arith) (h .lies)))
       record { busy-range = rw b (omega arith); character-range = rw c (omega arith); idle = λ _. (c, kept-count ports-part a (Queue.Output i) hi refl .0 ∙ none) }
 
@@ -201,7 +218,7 @@ module _ {s : Shape} {im : List ℕ} (h : Nearly s im Woken.Nobody) (i : Task) (
   unfolding port-next
   next-nearly =
       when (λ m. Nearly s m w) (empty s im (Queue.Output i)) (λ e. idle-nearly (is-empty s im (Queue.Output i) e))
-      (λ e. printing-nearly frame-none (h .lies) e (h .chars (Queue.Output i) hi))
+      (λ e. printing-nearly frame-none (h .lies) e (h .chars (Queue.Output i) hi) (h .cleared (Queue.Output i) hi))
 
   -- an output appended, and printed where the port is idle
   module _ (v : ℕ) (low : v ≤ most-character) (clear : full s im (Queue.Output i) ≡ false) where
@@ -211,17 +228,21 @@ module _ {s : Shape} {im : List ℕ} (h : Nearly s im Woken.Nobody) (i : Task) (
     out-chars : Characters (held s (appended s im (Queue.Output i) v) (Queue.Output i))
     out-chars = appended-chars s im (h .lies) (Queue.Output i) hi v clear (h .chars (Queue.Output i) hi) low
 
+    out-cleared : Zeros (free s (appended s im (Queue.Output i) v) (Queue.Output i))
+    out-cleared = append-clears s im (h .lies) (Queue.Output i) hi v clear (h .cleared (Queue.Output i) hi)
+
     out-port : (r : ℕ) → r < 2 → at s (appended s im (Queue.Output i) v) (cell Part.Ports (i .0) r) ≡ at s im (cell Part.Ports (i .0) r)
     out-port r hr = kept out-part (frame-appended frame-none (Queue.Output i) hi (h .lies) (λ r. refl) v) _ (hi, hr) refl
 
     kept-going : at s (appended s im (Queue.Output i) v) (busy i) ≢ 0 → Nearly s (appended s im (Queue.Output i) v) w
     kept-going ne =
         let p = h .ports i hi in
-        out-nearly out-frame out-chars (out-sound s im i hi (h .lies) v clear)
+        out-nearly out-frame out-chars out-cleared (out-sound s im i hi (h .lies) v clear)
         record { busy-range = rw (out-port 0 (omega arith)) (p .busy-range); character-range = rw (out-port 1 (omega arith)) (p .character-range); idle = λ z. absurd (ne z) }
 
     pub output-nearly : Nearly s (printing-if-idle s (appended s im (Queue.Output i) v) i) w
     unfolding printing-if-idle
     output-nearly =
         when (λ m. Nearly s m w) (eqb (at s (appended s im (Queue.Output i) v) (busy i)) 0)
-        (λ _. printing-nearly out-frame (out-sound s im i hi (h .lies) v clear) (appended-some s im (h .lies) (Queue.Output i) hi v) out-chars) (λ e. kept-going (eqb-false _ 0 e))
+        (λ _. printing-nearly out-frame (out-sound s im i hi (h .lies) v clear) (appended-some s im (h .lies) (Queue.Output i) hi v) out-chars out-cleared)
+        (λ e. kept-going (eqb-false _ 0 e))

@@ -22,7 +22,7 @@ use Rattle.laws.specs.Frame.{Frame, Apart, frame-more, frame-sound, flagged-fra
 use Rattle.laws.specs.Changes.{header-part}
 use Rattle.laws.specs.Orders.{OwnCell, Keeps, keeps-sound}
 use Rattle.event_laws.specs.Standing.{ready-stands}
-use Rattle.event_laws.specs.Kept.{Spared, Nearly, kept-stands, kept-nearly, kept-listed, kept-clocked, kept-none}
+use Rattle.event_laws.specs.Kept.{Spared, Nearly, kept-stands, kept-nearly, kept-listed, kept-slots, kept-clocked, kept-none}
 
 -- the parts of own words: the task table and the segments
 abbrev pub own-parts : Part → Bool
@@ -66,7 +66,8 @@ module _ {s : Shape} {im : List ℕ} {w : Woken} (h : Nearly s im w) (i : Task) 
 
   pub own-nearly : Nearly s m w
   own-nearly =
-      kept-nearly own-parts keeps-apart refl refl refl refl h (keeps-sound s im i m (h .lies) k) own-flags (kept-listed own-parts keeps-apart h refl refl)
+      kept-nearly own-parts keeps-apart refl refl refl refl h (keeps-sound s im i m (h .lies) k) own-flags
+      (kept-slots own-parts keeps-apart h refl) (kept-listed own-parts keeps-apart h refl refl)
       (kept-clocked own-parts keeps-apart h refl refl) own-statuses
 
 -- the clock alone changes
@@ -84,5 +85,5 @@ module _ {s : Shape} {im m : List ℕ} (k : Frame s (λ c. c ≡ clock) im m) wh
   pub clock-nearly : {w : Woken} → Nearly s im w → at s m clock ≤ s .slice → (Empty s im Queue.Ready → at s m clock ≡ 0) → Nearly s m w
   clock-nearly h low idle =
       kept-nearly header-part clock-apart refl refl refl refl h (clock-sound (h .lies)) (λ j hj. kept-flags header-part clock-apart refl j hj (h .flags j hj))
-      (kept-listed header-part clock-apart h refl refl) (low, λ e. idle (kept-none header-part clock-apart h refl e))
+      (kept-slots header-part clock-apart h refl) (kept-listed header-part clock-apart h refl refl) (low, λ e. idle (kept-none header-part clock-apart h refl e))
       (λ j hj sp. kept-stands header-part clock-apart refl refl refl j hj (kept-same header-part clock-apart refl refl j hj) (h .statuses j hj sp))

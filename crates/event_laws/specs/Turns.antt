@@ -10,11 +10,11 @@ use borrow.Author.Tests.{eq-eqb, ne-eqb}
 use lib.Dec.{eqb}
 use lib.ListN.{getD}
 use Rattle.paper.specs.Image.{ord, width, cell, at, put, clock, flags, reg, status, peer}
-use Rattle.paper.specs.Queues.{count, capacity, queue-word, appended, first, taken, held, empty, full}
+use Rattle.paper.specs.Queues.{count, capacity, queue-word, appended, first, taken, held, free, empty, full}
 use Rattle.paper.specs.Flags.{is-ready}
 use Rattle.paper.specs.Waking.{dispatched, with-status, readied, woken, left}
 use Rattle.paper.specs.Events.{turned}
-use Rattle.paper.specs.Rules.{times, Ready, Stands, Good}
+use Rattle.paper.specs.Rules.{Zeros, times, Ready, Stands, Good}
 use Rattle.paper.specs.declared.Task.{Task}
 use Rattle.paper.specs.declared.Shape.{Shape}
 use Rattle.paper.specs.declared.Cell.{Cell}
@@ -24,10 +24,10 @@ use Rattle.paper.specs.declared.Woken.{Woken}
 use Rattle.laws.specs.Cases.{when}
 use Rattle.laws.specs.Cells.{at-same}
 use Rattle.laws.specs.Consecutive.{times-append}
-use Rattle.laws.specs.Queues.{same-task, appended-held, appended-count, taken-held, taken-count}
+use Rattle.laws.specs.Queues.{same-task, appended-held, appended-count, appended-cleared, taken-held, taken-count, taken-cleared}
 use Rattle.laws.specs.Checked.{good-sound}
 use Rattle.laws.specs.Sound.{Sound, sound, has-space, has-word, put-sound, appended-sound, taken-sound}
-use Rattle.laws.specs.Frame.{Frame, Apart, frame-none, frame-more, frame-put, frame-appended, frame-taken, kept, kept-flags, kept-clock, kept-status, kept-peer, kept-count, kept-empty, kept-full, kept-held, kept-same}
+use Rattle.laws.specs.Frame.{Frame, Apart, frame-none, frame-more, frame-put, frame-appended, frame-taken, kept, kept-flags, kept-clock, kept-status, kept-peer, kept-count, kept-empty, kept-full, kept-held, kept-free, kept-same}
 use Rattle.laws.specs.Room.{Listed, listed-room}
 use Rattle.laws.specs.Changes.{header-part, dispatch-parts, turn-parts, status-sound, status-is, peer-is, frame-status, frame-left}
 use Rattle.event_laws.specs.Standing.{ready-stands}
@@ -54,7 +54,7 @@ module _ {s : Shape} {im m : List ℕ} (i : Task) (k : Frame s (TurnCell i) im m
       go (inl t) = true≢false (sym t)
       go (inr (_, e)) = ne e
 
-  module _ (w w′ : Woken) (h : Nearly s im w) (hi : i .0 < s .n) (lies : Sound s m)
+  module _ (w w′ : Woken) (h : Nearly s im w) (hi : i .0 < s .n) (lies : Sound s m) (cleared : Zeros (free s m Queue.Ready))
       (others : (x : ℕ) → x ≢ i .0 → times x (held s m Queue.Ready) ≡ times x (held s im Queue.Ready))
       (itself : (at s m (status i) ≡ is-ready → times (i .0) (held s m Queue.Ready) ≡ 1) × (at s m (status i) ≢ is-ready → times (i .0) (held s m Queue.Ready) ≡ 0))
       (clocked : Clocked s m) (stands : Stands s m i) (more : (j : Task) → ¬ Spared w′ j → j .0 ≢ i .0 → ¬ Spared w j) where
@@ -82,7 +82,7 @@ module _ {s : Shape} {im m : List ℕ} (i : Task) (k : Frame s (TurnCell i) im m
 
     turn-nearly : Nearly s m w′
     turn-nearly =
-        kept-nearly turn-parts turn-apart refl refl refl refl h lies (λ j hj. kept-flags turn-parts turn-apart refl j hj (h .flags j hj)) turn-listed clocked turn-stands
+        kept-nearly turn-parts turn-apart refl refl refl refl h lies (λ j hj. kept-flags turn-parts turn-apart refl j hj (h .flags j hj)) cleared turn-listed clocked turn-stands
 
 -- dispatch
 slice-range : (b : Bool) (v : ℕ) → cond b 0 v ≤ v
@@ -118,6 +118,10 @@ dispatched-held : (s : Shape) (im : List ℕ) → Sound s im → held s (dispatc
 unfolding dispatched
 dispatched-held s im h = kept-held header-part (clock-apart (clock-put s im _)) Queue.Ready tt refl h
 
+dispatched-free : (s : Shape) (im : List ℕ) → Sound s im → free s (dispatched s im) Queue.Ready ≡ free s im Queue.Ready
+unfolding dispatched
+dispatched-free s im h = kept-free header-part (clock-apart (clock-put s im _)) Queue.Ready tt refl h
+
 -- a task's entry of the status table written: the ready queue is as it was
 module _ (s : Shape) (im : List ℕ) (j : Task) (hj : j .0 < s .n) (h : Sound s im) (k p : ℕ) where
   pub entry-frame : Frame s (TurnCell j) im (with-status s im j k p)
@@ -128,6 +132,9 @@ module _ (s : Shape) (im : List ℕ) (j : Task) (hj : j .0 < s .n) (h : Sound s 
 
   entry-held : held s (with-status s im j k p) Queue.Ready ≡ held s im Queue.Ready
   entry-held = kept-held status-part entry-apart Queue.Ready tt refl h
+
+  entry-free : free s (with-status s im j k p) Queue.Ready ≡ free s im Queue.Ready
+  entry-free = kept-free status-part entry-apart Queue.Ready tt refl h
 
 -- a task that joins the ready queue
 module _ (s : Shape) (im : List ℕ) (j : Task) (hj : j .0 < s .n) (h : Sound s im) where
@@ -177,6 +184,12 @@ module _ (s : Shape) (im : List ℕ) (j : Task) (hj : j .0 < s .n) (h : Sound s 
       appended-held s _ Queue.Ready tt (sound entry .laid .words) (sound entry .queues Queue.Ready tt) (j .0) entry-room ∙
       rw (entry-held s im j hj h is-ready 0)
 
+  joined-cleared : Zeros (free s im Queue.Ready) → Zeros (free s (readied s im j) Queue.Ready)
+  unfolding readied
+  joined-cleared z =
+      appended-cleared s _ Queue.Ready tt (sound entry .laid .words) (sound entry .queues Queue.Ready tt) (j .0) entry-room
+      (rw (entry-free s im j hj h is-ready 0) z)
+
   joined-some : at s (readied s im j) (count s Queue.Ready) ≢ 0
   unfolding readied
   joined-some e =
@@ -206,6 +219,7 @@ module _ {s : Shape} {im : List ℕ} (j : Task) (hj : j .0 < s .n) (h : Nearly s
       let c = joined-clock s im j hj (h .lies) in
       let now = joined-status s im j hj (h .lies) in
       turn-nearly j f (Woken.One j) Woken.Nobody h hj (joined-sound s im j hj (h .lies) room)
+      (joined-cleared s im j hj (h .lies) room (h .cleared Queue.Ready tt))
       (λ x ne. joined-times x ∙ rw (ne-eqb x (j .0) ne) (omega arith))
       (λ _. joined-times (j .0) ∙ rw (eq-eqb (j .0) (j .0) refl, h .listed j .1 (λ r. waited (r .1))), λ n. absurd (n now))
       (rw c (h .clocked .0), λ e. absurd (joined-some s im j hj (h .lies) room e))
@@ -276,6 +290,13 @@ module _ {s : Shape} {im : List ℕ} {i : Task} (l : Leads s im i) (k p : ℕ) w
       let f : first s m Queue.Ready ≡ i .0 = ap (λ (x : List ℕ). getD x 0 0) (sym e ∙ leads-list l) in
       e ∙ rw (f, dispatched-held s (taken s m Queue.Ready) went)
 
+  left-cleared : Zeros (free s (left s (with-status s im i k p)) Queue.Ready)
+  unfolding left
+  left-cleared =
+      rw (dispatched-free s (taken s (with-status s im i k p) Queue.Ready) went)
+      (taken-cleared s _ Queue.Ready tt (sound entered .laid .words) (sound entered .queues Queue.Ready tt) entered-word
+      (rw (entry-free s im i (leads-in l) (leads-sound l) k p) (l .rules .cleared Queue.Ready tt)))
+
   pub left-late : Apart s dispatch-parts (with-status s im i k p) (left s (with-status s im i k p))
   left-late = frame-left frame-none entered (λ r. refl) refl
 
@@ -290,7 +311,7 @@ module _ {s : Shape} {im : List ℕ} {i : Task} (l : Leads s im i) (k p : ℕ) w
       let hi = leads-in l in
       let st′ = kept-status dispatch-parts left-late refl i hi ∙ status-is s im i hi (leads-sound l) k p in
       nearly-good
-      (turn-nearly i (frame-left (entry-frame s im i hi (leads-sound l) k p) entered (λ r. inl refl) (inl refl)) Woken.Nobody Woken.Nobody h hi left-sound
+      (turn-nearly i (frame-left (entry-frame s im i hi (leads-sound l) k p) entered (λ r. inl refl) (inl refl)) Woken.Nobody Woken.Nobody h hi left-sound left-cleared
       (λ x ne. omega (arith, rw (ne-eqb x (i .0) ne) at (ap (times x) left-list)))
       (λ r. absurd (gone (sym st′ ∙ r)), λ _. omega (arith, rw (eq-eqb (i .0) (i .0) refl) at (ap (times (i .0)) left-list), h .listed i .0 (hi, leads-ready l)))
       left-clocked (kept-stands dispatch-parts left-late refl refl refl i hi (kept-same dispatch-parts left-late refl refl i hi) st) (λ j sp ne. sp))
@@ -326,6 +347,15 @@ module _ {s : Shape} {im : List ℕ} {i : Task} (l : Leads s im i) where
       kept-held header-part (clock-apart (clock-put s _ (s .slice))) Queue.Ready tt refl joined-again ∙
       appended-held s _ Queue.Ready tt (sound passed .laid .words) (sound passed .queues Queue.Ready tt) (i .0) passed-room
 
+  turned-cleared : Zeros (free s (turned s im i) Queue.Ready)
+  unfolding turned
+  turned-cleared =
+      let r = sound (leads-sound l) in
+      rw (kept-free header-part (clock-apart (clock-put s _ (s .slice))) Queue.Ready tt refl joined-again)
+      (appended-cleared s _ Queue.Ready tt (sound passed .laid .words) (sound passed .queues Queue.Ready tt) (i .0) passed-room
+      (taken-cleared s im Queue.Ready tt (r .laid .words) (r .queues Queue.Ready tt) (has-word s im (leads-sound l) Queue.Ready tt (l .some))
+      (l .rules .cleared Queue.Ready tt)))
+
   turned-times : (x : ℕ) → times x (held s (turned s im i) Queue.Ready) ≡ times x (held s im Queue.Ready)
   turned-times x =
       let t = times-append x (held s (taken s im Queue.Ready) Queue.Ready) (i .0 ∷ []) in
@@ -350,6 +380,6 @@ module _ {s : Shape} {im : List ℕ} {i : Task} (l : Leads s im i) where
       let hi = leads-in l in
       let a : Apart s dispatch-parts im (turned s im i) = turned-frame (λ r. refl) refl in
       nearly-good
-      (turn-nearly i (turned-frame (λ r. inl refl) (inl refl)) Woken.Nobody Woken.Nobody h hi turned-sound (λ x ne. turned-times x)
+      (turn-nearly i (turned-frame (λ r. inl refl) (inl refl)) Woken.Nobody Woken.Nobody h hi turned-sound turned-cleared (λ x ne. turned-times x)
       (λ _. turned-times (i .0) ∙ h .listed i .0 (hi, leads-ready l), λ n. absurd (n (kept-status dispatch-parts a refl i hi ∙ leads-ready l)))
       turned-clocked (kept-stands dispatch-parts a refl refl refl i hi (kept-same dispatch-parts a refl refl i hi) (h .statuses i hi (λ z. z))) (λ j sp ne. sp))

@@ -6,7 +6,7 @@ use Prim.Native.Nat.{ℕ, _+_, _<_}
 use native.Mathlib.Omega.{arith}
 use lib.ListN.{length}
 use Rattle.paper.specs.Image.{lead, cell, Valid, at, put, clock, reg, flags, status, peer, busy, character}
-use Rattle.paper.specs.Queues.{part-of, Has, header-capacity, queue-word, head, count, capacity, appended, first, taken, held, empty, full}
+use Rattle.paper.specs.Queues.{part-of, Has, header-capacity, queue-word, head, count, capacity, appended, first, taken, held, free, empty, full}
 use Rattle.paper.specs.Rules.{Flagged, Ported}
 use Rattle.paper.specs.declared.Task.{Task}
 use Rattle.paper.specs.declared.Shape.{Shape}
@@ -14,7 +14,7 @@ use Rattle.paper.specs.declared.Cell.{Cell}
 use Rattle.paper.specs.declared.Part.{Part}
 use Rattle.paper.specs.declared.Queue.{Queue}
 use Rattle.laws.specs.Cells.{at-other, length-put}
-use Rattle.laws.specs.Queues.{Off, word-valid, held-frame, appended-off, appended-length, taken-off, taken-length}
+use Rattle.laws.specs.Queues.{Off, word-valid, held-frame, free-frame, appended-off, appended-length, taken-off, taken-length}
 use Rattle.laws.specs.Sound.{Sound, shut, sound, fixed, fixed-queue, laid-frame, queued-frame}
 
 -- m is im but for cells that E picks
@@ -149,6 +149,9 @@ module _ {s : Shape} (P : Part → Bool) {im m : List ℕ} (a : Apart s P im m) 
 
     pub kept-held : Sound s im → held s m q ≡ held s im q
     kept-held h = held-frame s im m q (sound h .queues q hq) kept-word
+
+    pub kept-free : Sound s im → free s m q ≡ free s im q
+    kept-free h = free-frame s im m q (sound h .queues q hq) kept-word
 
     pub kept-first : Sound s im → first s m q ≡ first s im q
     unfolding first
