@@ -84,7 +84,7 @@ module _ (s : Shape) (im m : List ℕ) (h : Sound s im) where
       let r = sound h .queues Queue.Ready tt in
       let a : at s m (count s Queue.Ready) ≡ at s im (count s Queue.Ready) - 1 = rw em (taken-count s im Queue.Ready tt (sound h .laid .words) r) in
       let b : at s m (capacity s Queue.Ready) ≡ at s im (capacity s Queue.Ready) =
-      rw em (taken-rest s im Queue.Ready tt (sound h .laid .words) r 3 (omega arith) (omega arith) (omega arith)) in
+      rw em (taken-rest s im Queue.Ready tt (sound h .laid .words) r 3 (omega arith) (omega arith) (omega arith) (omega arith)) in
       ne-eqb (at s m (count s Queue.Ready)) (at s m (capacity s Queue.Ready))
       (λ e. eqb-false (at s im (count s Queue.Ready)) 0 some (omega (arith, r .counted)))
 

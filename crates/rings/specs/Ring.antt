@@ -19,4 +19,5 @@ unfoldable pub first-at : List ℕ → ℕ → ℕ
 first-at im p = getD im (p + 4 + getD im p 0) 0
 
 unfoldable pub take-at : List ℕ → ℕ → List ℕ
-take-at im p = set (set im p (step (getD im p 0) (getD im (p + 3) 0))) (p + 2) (getD im (p + 2) 0 - 1)
+take-at im p =
+    set (set (set im (p + 4 + getD im p 0) 0) p (step (getD im p 0) (getD im (p + 3) 0))) (p + 2) (getD im (p + 2) 0 - 1)

@@ -11,6 +11,9 @@ use paper::LEAD_WORDS;
 use paper::Place;
 use paper::TAIL;
 
+// What a free slot holds.
+const FREE: u16 = 0;
+
 // The slot after slot k of a queue of capacity c.
 pub fn step(k: u16, c: u16) -> u16
     requires { ⌜ k < c ⌝ }
@@ -34,7 +37,7 @@ pub fn append_at(im: &mut [u16], q: Place, v: u16)
     im[at + COUNT] = count + 1;
 }
 
-// Takes the first word of the queue at q, which holds one.
+// Takes the first word of the queue at q, which holds one, out of its slot.
 pub fn take_at(im: &mut [u16], q: Place) -> u16
     requires { ⌜ Ring (now im) (q .0) ⌝ }
     requires { ⌜ 0 < getD (now im) (q .0 + 2) 0 ⌝ }
@@ -44,7 +47,9 @@ pub fn take_at(im: &mut [u16], q: Place) -> u16
     let head = im[at];
     let count = im[at + COUNT];
     let capacity = im[at + CAPACITY];
-    let v = im[at + LEAD_WORDS + head as usize];
+    let slot = at + LEAD_WORDS + head as usize;
+    let v = im[slot];
+    im[slot] = FREE;
     im[at] = step(head, capacity);
     im[at + COUNT] = count - 1;
     v

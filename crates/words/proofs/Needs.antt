@@ -123,7 +123,7 @@ module _ (s : Shape) (im : List ℕ) (q : Queue) (p : Place) (e : p ≡ place s 
 
   take-is : take-at im (p .0) ≡ taken s im q
   unfolding take-at taken put at
-  take-is = rw e (simp (along s q 2, along s q 3))
+  take-is = rw e (simp (slot-along, along s q 2, along s q 3))
 
   module _ (h : Sound s im) (hq : Has s q) where
     pub ring-is : Ring im (p .0)
