@@ -1,4 +1,4 @@
--- The three demands hold, and requests 2 and 5. Assumes nothing.
+-- The three demands hold, and requests 2, 5 and 6. Assumes nothing.
 use mathlib.Core.Path.{_≡_, refl, sym, ap, _∙_}
 use mathlib.Core.List.{List}
 use mathlib.Core.Logic.{_≢_}
@@ -10,8 +10,9 @@ use Rattle.paper.specs.Plans.{plan-shape, fresh}
 use Rattle.paper.specs.Rules.{Good}
 use Rattle.paper.specs.Numbers.{kind, verdict-number, reply-number, check, check-plan, check-build}
 use Rattle.paper.specs.Calls.{Ran, size-as, plan-size, size-number, built-as, built, event-if, event, stopped-at, check-run, run}
-use Rattle.paper.specs.Promises.{Checks}
+use Rattle.paper.specs.Promises.{Checks, Happens}
 use Rattle.paper.specs.declared.Shape.{Shape}
+use Rattle.paper.specs.declared.Queue.{Queue}
 use Rattle.paper.specs.declared.Service.{Service}
 use Rattle.paper.specs.declared.Reply.{Reply}
 use Rattle.paper.specs.declared.Size.{Size}
@@ -24,9 +25,10 @@ use Rattle.event_laws.specs.Stays.{words-good}
 use Rattle.event_laws.specs.Wakes.{wake-finds-room, wakes-exactly}
 use Rattle.user_laws.specs.Folded.{event-is, event-unchanged, run-refused}
 use Rattle.user_laws.specs.Balance.{calls-good, calls-words}
+use Rattle.user_laws.specs.Slots.{slots-held}
 use Rattle.user_laws.specs.Asked.{asked-waits, asked-done}
 use Rattle.user_laws.specs.Waiting.{calls-stay}
-use Rattle.demands.specs.Demands.{due, run-tests, word-of, Demand1, Asks, Demand2, Demand3, Request5, Demands}
+use Rattle.demands.specs.Demands.{due, run-tests, word-of, Demand1, Asks, Demand2, Demand3, Request5, Request6, Demands}
 use Rattle.demands.proofs.Numbers.{image-due, plan-due, build-due, run-due, exactly, call-due}
 use Rattle.demands.proofs.AsCalls.{is-calls, took-whole, stopped-at as stops}
 use Rattle.demands.proofs.Turns.{turn}
@@ -181,5 +183,20 @@ request5 =
       finds-room = λ im k d c w. wake-finds-room (shape-of im) im (passed im w) (event-of (shape-of im) k d c) (event-formed (shape-of im) k d c);
     }
 
+-- what an event leaves of a good image is good
+stays-good : (im : List ℕ) (k d c : ℕ) (answer : Reply) (after : List ℕ) → Checks im 0 → Happens im k d c answer after → Good (shape-of im) after
+stays-good im k d c answer after w p =
+    let g = passed im w in
+    rw (p .left, event-is (shape-of im) im g k d c) (words-good (shape-of im) im g k d c)
+
+request6 : Request6
+request6 =
+    record {
+      slots = λ im w. slots-held (shape-of im) im (passed im w);
+      gone = λ im k d c answer after w p q has x _. slots-held (shape-of im) after (stays-good im k d c answer after w p) q has x;
+      left = λ im k d c answer after w p x _. slots-held (shape-of im) after (stays-good im k d c answer after w p) Queue.Ready tt x;
+    }
+
 pub demands : Demands
-demands = record { first = demand1; second = demand2; third = demand3; request-2 = request2; request-5 = request5 }
+demands =
+    record { first = demand1; second = demand2; third = demand3; request-2 = request2; request-5 = request5; request-6 = request6 }

@@ -1,4 +1,4 @@
--- The three demands, with requests 2 and 5, in the user's order and words, of whatever any program may do that keeps the promises of the public calls:
+-- The three demands, with requests 2, 5 and 6, in the user's order and words, of whatever any program may do that keeps the promises of the public calls:
 -- the records Checks, Measures, Builds, Happens and Runs (crates/paper/specs/Promises.antt), which the contracts of crates/kernel name.
 -- What stands in quotes is the user's or the paper's. All of it is proved, in proofs/Proved.antt, and nothing is assumed.
 use mathlib.Core.Path.{_≡_}
@@ -32,7 +32,8 @@ use Rattle.paper.specs.declared.Ended.{Ended}
 use Rattle.event_laws.specs.Standing.{awaits}
 use Rattle.event_laws.specs.Whom.{whom, Unmoved}
 use Rattle.user_laws.specs.Taken.{first-events}
-use Rattle.user_laws.specs.Words.{all-sent, all-got, for-it}
+use Rattle.user_laws.specs.Words.{got, leaver, all-sent, all-got, for-it}
+use Rattle.user_laws.specs.Slots.{OnlyHeld}
 use Rattle.user_laws.specs.Asked.{BeginsToWait}
 use Rattle.bound.specs.Bound.{Behind, bound, IsFirst, Untouched, tick-count, if-accepted}
 
@@ -293,6 +294,19 @@ pub record Request5 : Type 0 where
   pub finds-room : (im : List ℕ) (k d c : ℕ) → Checks im 0 → (i : Task) → whom (shape-of im) im (event-of (shape-of im) k d c) ≡ Woken.One i
       → (i .0 < shape-of im .n) × (times (i .0) (held (shape-of im) im Queue.Ready) ≡ 0) × (length (held (shape-of im) im Queue.Ready) < shape-of im .n)
 
+-- REQUEST 6
+-- "Old words lie about in the buffers. A support dump showed a database password that a script had received hours before."
+
+pub record Request6 : Type 0 where
+  -- in an image that passes the check each word of a queue's slots that is not 0 is a word that the queue holds, of the ready queue too
+  pub slots : (im : List ℕ) → Checks im 0 → (q : Queue) → Has (shape-of im) q → (w : ℕ) → w ≢ 0 → OnlyHeld (shape-of im) im q w
+  -- so where an accepted event takes such a word out of a buffer, no slot of that buffer holds the word afterwards unless the buffer still does
+  pub gone : (im : List ℕ) (k d c : ℕ) (answer : Reply) (after : List ℕ) → Checks im 0 → Happens im k d c answer after → (q : Queue) → Has (shape-of im) q
+      → (w : ℕ) → got (shape-of im) im answer after q ≡ w ∷ [] → w ≢ 0 → OnlyHeld (shape-of im) after q w
+  -- nor does one of the ready queue, of the task that leaves its head
+  pub left : (im : List ℕ) (k d c : ℕ) (answer : Reply) (after : List ℕ) → Checks im 0 → Happens im k d c answer after
+      → (w : ℕ) → leaver answer ≡ w ∷ [] → w ≢ 0 → OnlyHeld (shape-of im) after Queue.Ready w
+
 -- what the user signs
 pub record Demands : Type 0 where
   pub first : Demand1
@@ -300,3 +314,4 @@ pub record Demands : Type 0 where
   pub third : Demand3
   pub request-2 : Request2
   pub request-5 : Request5
+  pub request-6 : Request6

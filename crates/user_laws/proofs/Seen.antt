@@ -14,7 +14,7 @@ use Rattle.paper.specs.Plans.{plan-shape, fresh}
 use Rattle.paper.specs.Calls.{run-from}
 use Rattle.paper.specs.declared.Queue.{Queue}
 use Rattle.paper.specs.declared.Reply.{Reply}
-use Rattle.user_laws.specs.Words.{done, sent, got, all-sent, all-got}
+use Rattle.user_laws.specs.Words.{done, sent, got, leaver, all-sent, all-got}
 
 -- calls on the events of a list, from a plan's fresh image on
 module _ (plan events : List ℕ) where
@@ -54,6 +54,10 @@ pub record Seen : Type 0 where
   pub arrived : got-from full-plan full-events (Queue.Input (task 0)) 10 ≡ 65 ∷ []
   pub printed : sent-to full-plan full-events (Queue.Output (task 0)) 10 ≡ 65 ∷ []
   pub at-port : got-from full-plan full-events (Queue.Output (task 0)) 10 ≡ 65 ∷ []
+  -- the task leaves the ready queue with event 2, waiting, and passes its turn with event 7; with event 3 it is not there
+  pub waits : leaver (reply full-plan full-events 1) ≡ 0 ∷ []
+  pub idle : leaver (reply full-plan full-events 2) ≡ []
+  pub passes : leaver (reply full-plan full-events 6) ≡ 0 ∷ []
   -- the zero is sent with tick 2 and got with tick 5, where R3 held 7
   pub zero-sent : sent-to zero-plan five-ticks (Queue.Message (task 0) (task 0)) 5 ≡ 0 ∷ []
   pub zero-kept : got-from zero-plan five-ticks (Queue.Message (task 0) (task 0)) 4 ≡ []
@@ -68,6 +72,9 @@ seen =
       arrived = refl;
       printed = refl;
       at-port = refl;
+      waits = refl;
+      idle = refl;
+      passes = refl;
       zero-sent = refl;
       zero-kept = refl;
       zero-got = refl;

@@ -46,6 +46,11 @@ got s im r after (Queue.Input i) = word-if (done s im r i Service.Input) (at s a
 got s im r after (Queue.Output i) = word-if (prints s im r i) (at s after (character i))
 got s im r after (Queue.Message i j) = word-if (done s im r j Service.Receive && eqb (at s im (reg j 2)) (i .0)) (at s after (reg j 3))
 
+-- the task that leaves the head of the ready queue: it stops, passes its turn or waits, answered 1, 2 or 4
+abbrev pub leaver : Reply → List ℕ
+leaver (Reply.Accepted a) = word-if (eqb (kind a) 1 || eqb (kind a) 2 || eqb (kind a) 4) (answer-task a)
+leaver (Reply.Refused r) = []
+
 -- what a queue held and then what was sent is what was got and then what it holds
 abbrev pub Balanced : Shape → List ℕ → ℕ → Reply → List ℕ → Queue → Type 0
 Balanced s im c r after q = held s im q ++ sent s im c r q ≡ got s im r after q ++ held s after q
