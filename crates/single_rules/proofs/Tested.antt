@@ -12,13 +12,13 @@ use Rattle.paper.specs.Image.{most-tasks, most-character, at, task, clock, flag
 use Rattle.paper.specs.Queues.{Has, header-capacity, head, tail, count, capacity, held, empty}
 use Rattle.paper.specs.Flags.{error}
 use Rattle.paper.specs.Rules.{Fit}
-use Rattle.paper.specs.Tests.{implies, all-below, queued, readied-tasks, readied-once, standing}
+use Rattle.paper.specs.Tests.{implies, all-below, queued, cleared, readied-tasks, readied-once, standing}
 use Rattle.paper.specs.declared.Task.{Task}
 use Rattle.paper.specs.declared.Shape.{Shape}
 use Rattle.paper.specs.declared.Queue.{Queue}
 use Rattle.paper.specs.declared.Service.{Service}
 use Rattle.laws.specs.Sound.{Sized, sized-fit}
-use Rattle.single_rules.specs.Each.{fields-within, one-at-most, known, headers-own, ends-below, length-within, round, below, only-characters, only-tasks, once-if-ready, clock-within, clock-idle, port-within, port-idle, stands, stopped, no-peer, Asks, asks, kind, queues, subjects, queue, holds}
+use Rattle.single_rules.specs.Each.{fields-within, one-at-most, known, headers-own, ends-below, length-within, round, below, only-characters, only-tasks, once-if-ready, clock-within, clock-idle, port-within, port-idle, stands, stopped, no-peer, free-zeros, Asks, asks, kind, queues, subjects, queue, holds}
 use Rattle.single_rules.specs.declared.Rule.{Rule}
 use Rattle.single_rules.specs.declared.Kind.{Kind}
 
@@ -136,14 +136,24 @@ module _ (s : Shape) (im : List ℕ) (q : Queue) where
       unfolding round
       round-tested n m en em = rw (ev, ew, em, eh, et, en, eg)
 
-  module _ (m : ℕ) (b : Bool) (eb : b ≡ queued s im q) where
-    pub below-unqueued : not b ≡ true → true ≡ below s im q m
-    unfolding below
-    below-unqueued n = let e = failed-so b _ eb n in rw e
+  -- the words that it holds and its free slots, where it obeys the rules of queues
+  module _ (b : Bool) (eb : b ≡ queued s im q) where
+    module _ (m : ℕ) where
+      pub below-unqueued : not b ≡ true → true ≡ below s im q m
+      unfolding below
+      below-unqueued n = let e = failed-so b _ eb n in rw e
 
-    pub below-tested : not b ≡ false → (o : Bool) → o ≡ all-below m (held s im q) → o ≡ below s im q m
-    unfolding below
-    below-tested n o eo = let e = passed-so b _ eb n in rw (eo, e)
+      pub below-tested : not b ≡ false → (o : Bool) → o ≡ all-below m (held s im q) → o ≡ below s im q m
+      unfolding below
+      below-tested n o eo = let e = passed-so b _ eb n in rw (eo, e)
+
+    pub zeros-unqueued : not b ≡ true → true ≡ free-zeros s im q
+    unfolding free-zeros
+    zeros-unqueued n = let e = failed-so b _ eb n in rw e
+
+    pub zeros-tested : not b ≡ false → (o : Bool) → o ≡ cleared s im q → o ≡ free-zeros s im q
+    unfolding free-zeros
+    zeros-tested n o eo = let e = passed-so b _ eb n in rw (eo, e)
 
   -- an input or output buffer, and the ready queue
   pub input-tested : (i : Task) (o : Bool) → q ≡ Queue.Input i → o ≡ below s im q (most-character + 1) → o ≡ only-characters s im q

@@ -1,4 +1,4 @@
--- The rules of an image one by one, in the order of "Image" and "What an image must hold": what each is of, and what it asks.
+-- The rules of an image one by one, in the order of "Image" and "What an image must hold", that of request 6 last: what each is of, and what it asks.
 use mathlib.Core.List.{List}
 use mathlib.Core.Bool.{Bool, true, not, cond, _&&_, _||_}
 use Prim.Native.Nat.{ℕ, _+_, _-_, _*_, _/_, _%_}
@@ -8,7 +8,7 @@ use Rattle.paper.specs.Image.{task, most-character, at, clock, status, peer, bu
 use Rattle.paper.specs.Queues.{header-capacity, head, tail, count, capacity, held, empty}
 use Rattle.paper.specs.Flags.{cc, error, pending, most-cc, most-error, waits, is-stopped}
 use Rattle.paper.specs.Services.{services}
-use Rattle.paper.specs.Tests.{all-below, implies, queued, readied-tasks, readied-once, stands-as}
+use Rattle.paper.specs.Tests.{all-below, implies, queued, cleared, readied-tasks, readied-once, stands-as}
 use Rattle.paper.specs.declared.Task.{Task}
 use Rattle.paper.specs.declared.Shape.{Shape}
 use Rattle.paper.specs.declared.Queue.{Queue}
@@ -95,6 +95,10 @@ unfoldable pub no-peer : Shape → List ℕ → Task → Bool
 no-peer s im i =
     eqb (at s im (status i)) (waits Service.Send) || eqb (at s im (status i)) (waits Service.Receive) || eqb (at s im (peer i)) 0
 
+-- 21: 0 in every free slot; a queue that breaks one of the rules 4 to 7 has no free slots that could be told
+unfoldable pub free-zeros : Shape → List ℕ → Queue → Bool
+free-zeros s im q = implies (queued s im q) (cleared s im q)
+
 -- a rule is asked of each task, of each queue, or of the clock
 pub data Asks : Type 0 where
   of-tasks : (Shape → List ℕ → Task → Bool) → Asks
@@ -123,6 +127,7 @@ asks Rule.Inputs = of-tasks (stands Service.Input)
 asks Rule.Outputs = of-tasks (stands Service.Output)
 asks Rule.Stopped = of-tasks stopped
 asks Rule.Peerless = of-tasks no-peer
+asks Rule.FreeSlots = of-queues free-zeros
 
 -- what a rule is of
 abbrev pub kind-asked : Asks → Kind

@@ -15,6 +15,7 @@ use of_queues::has_capacity;
 use of_queues::holds_characters;
 use of_queues::holds_tasks;
 use of_queues::length_inside;
+use of_queues::slots_cleared;
 use of_queues::tail_right;
 use of_tasks::fields_ranged;
 use of_tasks::never_both;
@@ -37,7 +38,7 @@ use paper::Task;
 use places::word_of;
 use task_rules::is_empty;
 
-// The rules of an image, in the paper's order.
+// The rules of an image, in the paper's order, and last that of request 6.
 pub enum Rule {
     Flags,
     Both,
@@ -59,6 +60,7 @@ pub enum Rule {
     Outputs,
     Stopped,
     Peerless,
+    FreeSlots,
 }
 
 // What a rule is of: each task, each queue, or the clock.
@@ -93,6 +95,7 @@ pub fn kind_of(rule: Rule) -> Kind
         Rule::Outputs => Kind::Task,
         Rule::Stopped => Kind::Task,
         Rule::Peerless => Kind::Task,
+        Rule::FreeSlots => Kind::Queue,
     }
 }
 
@@ -180,5 +183,6 @@ pub fn holds(s: Shape, im: &[u16], rule: Rule, k: usize) -> bool
         Rule::Outputs => stands_for_output(s, im, i),
         Rule::Stopped => stopped_by_error(s, im, i),
         Rule::Peerless => peerless(s, im, i),
+        Rule::FreeSlots => slots_cleared(s, im, q),
     }
 }

@@ -2,7 +2,7 @@
 ghost use mathlib.Core.Path.{_≡_};
 ghost use Rattle.paper.specs.Queues.{Has};
 ghost use Rattle.laws.specs.Sound.{Sized};
-ghost use Rattle.single_rules.specs.Each.{headers-own, ends-below, length-within, round, below, only-characters, only-tasks};
+ghost use Rattle.single_rules.specs.Each.{headers-own, ends-below, length-within, round, below, only-characters, only-tasks, free-zeros};
 use connectives::both;
 use paper::CAPACITY;
 use paper::COUNT;
@@ -13,6 +13,7 @@ use paper::TAIL;
 use places::wide;
 use queue_rules::CHARACTERS;
 use queue_rules::capacity_of;
+use queue_rules::cleared;
 use queue_rules::held_below;
 use queue_rules::queue_word;
 use queue_rules::queued;
@@ -97,4 +98,16 @@ pub fn holds_tasks(s: Shape, im: &[u16], q: Queue) -> bool
         Queue::Output(_) => true,
         Queue::Message(_, _) => true,
     }
+}
+
+// Whether every free slot has 0, where the queue obeys the rules of queues.
+pub fn slots_cleared(s: Shape, im: &[u16], q: Queue) -> bool
+    requires { ⌜ Sized s (now im) ⌝ }
+    requires { ⌜ Has s q ⌝ }
+    ensures { λ r. ⌜ r ≡ free-zeros s (now (im .entry)) q ⌝ }
+{
+    if !queued(s, im, q) {
+        return true;
+    }
+    cleared(s, im, q)
 }

@@ -2,7 +2,7 @@
 use mathlib.Core.Path.{ap}
 use borrow.Author.Needs.{needs}
 use Rattle.paper.specs.declared.Service.{Service}
-use Rattle.single_rules.specs.Each.{fields-within, one-at-most, known, headers-own, ends-below, length-within, round, only-characters, only-tasks, once-if-ready, clock-within, clock-idle, port-within, port-idle, stands, stopped, no-peer, asks}
+use Rattle.single_rules.specs.Each.{fields-within, one-at-most, known, headers-own, ends-below, length-within, round, only-characters, only-tasks, once-if-ready, clock-within, clock-idle, port-within, port-idle, stands, stopped, no-peer, free-zeros, asks}
 use Rattle.single_rules.proofs.Tested.{queue-in, few, task-in, by-task, by-queue, by-clock}
 use Rattle.single_rules.proofs.holds.Statement.{statement}
 use Rattle.single_rules.proofs.holds.Tie as tie
@@ -67,6 +67,9 @@ stopped-by-error-requires c κs = let d = c .before .before .before .before in (
 peerless-requires : tie.Need-peerless-requires
 peerless-requires c κs = let d = c .before .before .before .before in (d .pre .0, task-in _ _ (d .pre .0) (d .args .rule) _ (d .pre .1) _ (ap asks (c .enum-told20 .given .1)))
 
+slots-cleared-requires : tie.Need-slots-cleared-requires
+slots-cleared-requires c κs = (c .before .before .before .before .pre .0, c .before .before .queue-at .ensures .1)
+
 returns : tie.Need-returns
 returns c = by-task _ _ (c .before .before .before .before .before .args .rule) _ _ fields-within (ap asks (c .before .enum-told .given .1)) (c .fields-ranged .ensures)
 
@@ -127,6 +130,9 @@ returns-19 c = by-task _ _ (c .before .before .before .before .before .args .rul
 returns-20 : tie.Need-returns-20
 returns-20 c = by-task _ _ (c .before .before .before .before .before .args .rule) _ _ no-peer (ap asks (c .before .enum-told20 .given .1)) (c .peerless .ensures)
 
+returns-21 : tie.Need-returns-21
+returns-21 c = by-queue _ _ (c .before .before .before .before .before .args .rule) _ _ free-zeros _ (ap asks (c .before .enum-told21 .given .1)) (c .before .before .before .queue-at .ensures .0) (c .slots-cleared .ensures)
+
 pub holds-spec : {M : Type 1} → statement M
 holds-spec =
     tie.close
@@ -139,5 +145,6 @@ holds-spec =
     (λ c. search needs) port-ranged-requires (λ c. search needs) port-rests-requires (λ c. search needs)
     stands-to-send-requires (λ c. search needs) stands-to-receive-requires (λ c. search needs) stands-for-input-requires
     (λ c. search needs) stands-for-output-requires (λ c. search needs) stopped-by-error-requires (λ c. search needs)
-    peerless-requires returns returns-2 returns-3 returns-4 returns-5 returns-6 returns-7 returns-8 returns-9 returns-10
-    returns-11 returns-12 returns-13 returns-14 returns-15 returns-16 returns-17 returns-18 returns-19 returns-20)
+    peerless-requires (λ c. search needs) slots-cleared-requires returns returns-2 returns-3 returns-4 returns-5 returns-6
+    returns-7 returns-8 returns-9 returns-10 returns-11 returns-12 returns-13 returns-14 returns-15 returns-16 returns-17
+    returns-18 returns-19 returns-20 returns-21)
