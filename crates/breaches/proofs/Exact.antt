@@ -1,4 +1,4 @@
--- The twenty rules are what number 6 goes by: all of them hold exactly where the tests of `rules-hold` do. Assumes nothing.
+-- The twenty-one rules are what number 6 goes by: all of them hold exactly where the tests of `rules-hold` do. Assumes nothing.
 use mathlib.Core.Path.{_≡_, refl, ap, _∙_}
 use mathlib.Core.List.{List}
 use mathlib.Core.Bool.{Bool, true, and-eq-true-iff}
@@ -11,13 +11,13 @@ use borrow.Author.Tests.{lt-ltb, le-ltb, eq-eqb, ne-eqb, eqb-true}
 use Rattle.paper.specs.Image.{task, most-character, at}
 use Rattle.paper.specs.Queues.{Has, header-capacity, capacity, held}
 use Rattle.paper.specs.Rules.{Fit}
-use Rattle.paper.specs.Tests.{every-task, all-below, queued, readied-tasks, clock-holds, buffers-hold, characters, readied-once, port-holds, flags-hold, status-holds, task-holds, rules-hold}
+use Rattle.paper.specs.Tests.{every-task, all-below, queued, cleared, queue-holds, readied-tasks, clock-holds, buffers-hold, characters, readied-once, port-holds, flags-hold, status-holds, task-holds, rules-hold}
 use Rattle.paper.specs.declared.Task.{Task}
 use Rattle.paper.specs.declared.Shape.{Shape}
 use Rattle.paper.specs.declared.Queue.{Queue}
 use Rattle.paper.specs.declared.Service.{Service}
 use Rattle.laws.specs.Checked.{every-is}
-use Rattle.single_rules.specs.Each.{fields-within, one-at-most, known, headers-own, ends-below, length-within, round, below, only-characters, only-tasks, once-if-ready, clock-within, clock-idle, port-within, port-idle, stands, stopped, no-peer, kind, queues, subjects, queue, holds}
+use Rattle.single_rules.specs.Each.{fields-within, one-at-most, known, headers-own, ends-below, length-within, round, below, only-characters, only-tasks, once-if-ready, clock-within, clock-idle, port-within, port-idle, stands, stopped, no-peer, free-zeros, kind, queues, subjects, queue, holds}
 use Rattle.single_rules.specs.declared.Rule.{Rule}
 use Rattle.single_rules.proofs.Tested.{queue-ready, queue-input, queue-output, queue-message}
 
@@ -100,12 +100,27 @@ module _ (s : Shape) (im : List ℕ) (q : Queue) where
   unfolding below
   below-so m e h = rw e at h
 
+  -- its free slots
+  zeros-by : queued s im q ≡ true → cleared s im q ≡ true → free-zeros s im q ≡ true
+  unfolding free-zeros
+  zeros-by e h = rw (e, h)
+
+  zeros-so : queued s im q ≡ true → free-zeros s im q ≡ true → cleared s im q ≡ true
+  unfolding free-zeros
+  zeros-so e h = rw e at h
+
 -- where all rules hold, the tests do
 module _ (s : Shape) (im : List ℕ) (f : Fit s) (h : AllHold s im) where
   all-queued : (q : Queue) → Has s q → queued s im q ≡ true
   all-queued q hq =
       queued-by s im q (of-all s f (headers-own s im) (h Rule.Capacity) q hq) (of-all s f (ends-below s im) (h Rule.HeadTail) q hq)
       (of-all s f (length-within s im) (h Rule.Length) q hq) (of-all s f (round s im) (h Rule.Round) q hq)
+
+  all-kept : (q : Queue) → Has s q → queue-holds s im q ≡ true
+  unfolding queue-holds
+  all-kept q hq =
+      let e = all-queued q hq in
+      and-eq-true-iff _ _ .1 (e, zeros-so s im q e (of-all s f (free-zeros s im) (h Rule.FreeSlots) q hq))
 
   tasks-held : readied-tasks s im ≡ true
   unfolding readied-tasks
@@ -116,8 +131,8 @@ module _ (s : Shape) (im : List ℕ) (f : Fit s) (h : AllHold s im) where
     unfolding buffers-hold
     buffers-so =
         and-eq-true-iff _ _ .1 (
-          and-eq-true-iff _ _ .1 (all-queued (Queue.Input i) l, all-queued (Queue.Output i) l),
-          every-is (s .n) _ .1 (λ k m. all-queued (Queue.Message i (task k)) (l, m)),
+          and-eq-true-iff _ _ .1 (all-kept (Queue.Input i) l, all-kept (Queue.Output i) l),
+          every-is (s .n) _ .1 (λ k m. all-kept (Queue.Message i (task k)) (l, m)),
         )
 
     characters-so : characters s im i ≡ true
@@ -155,11 +170,11 @@ module _ (s : Shape) (im : List ℕ) (f : Fit s) (h : AllHold s im) where
 
   pub rules-so : rules-hold s im ≡ true
   unfolding rules-hold
-  rules-so = rw (all-queued Queue.Ready tt, tasks-held, clock-so, every-is (s .n) (λ k. task-holds s im (task k)) .1 (λ k l. task-so (task k) l))
+  rules-so = rw (all-kept Queue.Ready tt, tasks-held, clock-so, every-is (s .n) (λ k. task-holds s im (task k)) .1 (λ k l. task-so (task k) l))
 
 -- where the tests hold, all rules do
 module _ (s : Shape) (im : List ℕ) (f : Fit s) (h : rules-hold s im ≡ true) where
-  parts : (queued s im Queue.Ready ≡ true) × (readied-tasks s im ≡ true) × (clock-holds s im ≡ true) × (every-task s (task-holds s im) ≡ true)
+  parts : (queue-holds s im Queue.Ready ≡ true) × (readied-tasks s im ≡ true) × (clock-holds s im ≡ true) × (every-task s (task-holds s im) ≡ true)
   unfolding rules-hold
   parts = let p = simp and-eq-true-iff at h in (p .0 .0 .0, p .0 .0 .1, p .0 .1, p .1)
 
@@ -171,7 +186,8 @@ module _ (s : Shape) (im : List ℕ) (f : Fit s) (h : rules-hold s im ≡ true) 
         let p = simp and-eq-true-iff at (every-is (s .n) (λ k. task-holds s im (task k)) .0 (parts .3) (i .0) l) in
         (p .0 .0 .0 .0 .0, p .0 .0 .0 .0 .1, p .0 .0 .0 .1, p .0 .0 .1, p .0 .1, p .1)
 
-    of-buffers : (queued s im (Queue.Input i) ≡ true) × (queued s im (Queue.Output i) ≡ true) × (every-task s (λ j. queued s im (Queue.Message i j)) ≡ true)
+    of-buffers : (queue-holds s im (Queue.Input i) ≡ true) × (queue-holds s im (Queue.Output i) ≡ true) ×
+        (every-task s (λ j. queue-holds s im (Queue.Message i j)) ≡ true)
     unfolding buffers-hold
     of-buffers = let p = simp and-eq-true-iff at (of-task .0) in (p .0 .0, p .0 .1, p .1)
 
@@ -199,36 +215,43 @@ module _ (s : Shape) (im : List ℕ) (f : Fit s) (h : rules-hold s im ≡ true) 
         let a = and-eq-true-iff _ _ .0 (b .0) in
         (a .0, a .1, b .1, c .1, d .1, e .1, g .1)
 
-    of-once : once-if-ready s im i ≡ true
-    unfolding once-if-ready
-    of-once = let a = parts .0 in let b = parts .1 in let c = of-task .2 in rw (a, b, c)
-
   of-clock : (clock-within s im ≡ true) × (clock-idle s im ≡ true)
   unfolding clock-holds clock-within clock-idle
   of-clock = and-eq-true-iff _ _ .0 (parts .2)
 
-  queued-all : (q : Queue) → Has s q → queued s im q ≡ true
-  queued-all Queue.Ready l = parts .0
-  queued-all (Queue.Input i) l = of-buffers i l .0
-  queued-all (Queue.Output i) l = of-buffers i l .1
-  queued-all (Queue.Message i j) l = every-is (s .n) (λ k. queued s im (Queue.Message i (task k))) .0 (of-buffers i (l .0) .2) (j .0) (l .1)
+  kept-all : (q : Queue) → Has s q → queue-holds s im q ≡ true
+  kept-all Queue.Ready l = parts .0
+  kept-all (Queue.Input i) l = of-buffers i l .0
+  kept-all (Queue.Output i) l = of-buffers i l .1
+  kept-all (Queue.Message i j) l = every-is (s .n) (λ k. queue-holds s im (Queue.Message i (task k))) .0 (of-buffers i (l .0) .2) (j .0) (l .1)
+
+  of-queue : (q : Queue) → Has s q → (queued s im q ≡ true) × (cleared s im q ≡ true)
+  unfolding queue-holds
+  of-queue q l = and-eq-true-iff _ _ .0 (kept-all q l)
 
   characters-all : (q : Queue) → Has s q → only-characters s im q ≡ true
   characters-all Queue.Ready l = refl
-  characters-all (Queue.Input i) l = below-by s im (Queue.Input i) (most-character + 1) (queued-all (Queue.Input i) l) (of-characters i l .0)
-  characters-all (Queue.Output i) l = below-by s im (Queue.Output i) (most-character + 1) (queued-all (Queue.Output i) l) (of-characters i l .1)
+  characters-all (Queue.Input i) l = below-by s im (Queue.Input i) (most-character + 1) (of-queue (Queue.Input i) l .0) (of-characters i l .0)
+  characters-all (Queue.Output i) l = below-by s im (Queue.Output i) (most-character + 1) (of-queue (Queue.Output i) l .0) (of-characters i l .1)
   characters-all (Queue.Message i j) l = refl
 
   tasks-all : (q : Queue) → Has s q → only-tasks s im q ≡ true
   unfolding readied-tasks
-  tasks-all Queue.Ready l = below-by s im Queue.Ready (s .n) (parts .0) (parts .1)
+  tasks-all Queue.Ready l = below-by s im Queue.Ready (s .n) (of-queue Queue.Ready l .0) (parts .1)
   tasks-all (Queue.Input i) l = refl
   tasks-all (Queue.Output i) l = refl
   tasks-all (Queue.Message i j) l = refl
 
+  zeros-all : (q : Queue) → Has s q → free-zeros s im q ≡ true
+  zeros-all q l = let w = of-queue q l in zeros-by s im q (w .0) (w .1)
+
+  once-all : (i : Task) → i .0 < s .n → once-if-ready s im i ≡ true
+  unfolding once-if-ready
+  once-all i l = let a = of-queue Queue.Ready tt .0 in let b = parts .1 in let c = of-task i l .2 in rw (a, b, c)
+
   queue-parts : (k : ℕ) → k < queues s → (headers-own s im (queue s k) ≡ true) × (ends-below s im (queue s k) ≡ true) × (length-within s im (queue s k) ≡ true) ×
       (round s im (queue s k) ≡ true)
-  queue-parts k l = queued-parts s im (queue s k) (queued-all (queue s k) (queue-has s f k l))
+  queue-parts k l = queued-parts s im (queue s k) (of-queue (queue s k) (queue-has s f k l) .0)
 
   pub all-so : AllHold s im
   all-so Rule.Flags k l = of-flags (task k) l .0
@@ -240,7 +263,7 @@ module _ (s : Shape) (im : List ℕ) (f : Fit s) (h : rules-hold s im ≡ true) 
   all-so Rule.Round k l = queue-parts k l .3
   all-so Rule.Characters k l = characters-all (queue s k) (queue-has s f k l)
   all-so Rule.Tasks k l = tasks-all (queue s k) (queue-has s f k l)
-  all-so Rule.Readied k l = of-once (task k) l
+  all-so Rule.Readied k l = once-all (task k) l
   all-so Rule.ClockRange k l = of-clock .0
   all-so Rule.ClockIdle k l = of-clock .1
   all-so Rule.Port k l = of-port (task k) l .0
@@ -251,3 +274,4 @@ module _ (s : Shape) (im : List ℕ) (f : Fit s) (h : rules-hold s im ≡ true) 
   all-so Rule.Outputs k l = of-status (task k) l .4
   all-so Rule.Stopped k l = of-status (task k) l .5
   all-so Rule.Peerless k l = of-status (task k) l .6
+  all-so Rule.FreeSlots k l = zeros-all (queue s k) (queue-has s f k l)

@@ -9,6 +9,7 @@ use native.Mathlib.Decide.{ℕ-discrete}
 use native.Mathlib.Omega.{arith}
 use borrow.Author.Tests.{eq-eqb, ne-eqb, eqb-true}
 use lib.Dec.{eqb}
+use lib.ListN.{length}
 use Rattle.paper.specs.Image.{shape-of}
 use Rattle.paper.specs.Rules.{Good}
 use Rattle.paper.specs.Tests.{every, rules-hold}
@@ -20,7 +21,7 @@ use Rattle.laws.specs.Checked.{every-is, passed, checked-good, good-checked}
 use Rattle.laws.specs.Sound.{Sized, sized-fit}
 use Rattle.single_rules.specs.Each.{kind, subjects, holds}
 use Rattle.single_rules.specs.declared.Rule.{Rule}
-use Rattle.breaches.specs.Order.{rule, number-of-rule, subject}
+use Rattle.breaches.specs.Order.{rules, rule, number-of-rule, subject}
 use Rattle.breaches.specs.First.{first-failing}
 use Rattle.breaches.specs.Broken.{kept, breaker, told, breach-at, breach, broken-as, broken}
 use Rattle.breaches.specs.declared.Failing.{Failing}
@@ -34,7 +35,7 @@ use Rattle.breaches.proofs.Exact.{AllHold, rules-so, all-so}
 place : Rule → ℕ
 place r = number-of-rule r - 1
 
-in-order : (r : Rule) → (rule (place r) ≡ r) × (place r < 20)
+in-order : (r : Rule) → (rule (place r) ≡ r) × (place r < length rules)
 unfolding rule place
 in-order Rule.Flags = (refl, omega arith)
 in-order Rule.Both = (refl, omega arith)
@@ -56,19 +57,20 @@ in-order Rule.Inputs = (refl, omega arith)
 in-order Rule.Outputs = (refl, omega arith)
 in-order Rule.Stopped = (refl, omega arith)
 in-order Rule.Peerless = (refl, omega arith)
+in-order Rule.FreeSlots = (refl, omega arith)
 
-pub numbered : (k : ℕ) → k < 20 → number-of-rule (rule k) ≡ k + 1
+pub numbered : (k : ℕ) → k < length rules → number-of-rule (rule k) ≡ k + 1
 unfolding rule every
-numbered k l = eqb-true (number-of-rule (rule k)) (k + 1) (every-is 20 (λ j. eqb (number-of-rule (rule j)) (j + 1)) .0 all k l)
+numbered k l = eqb-true (number-of-rule (rule k)) (k + 1) (every-is (length rules) (λ j. eqb (number-of-rule (rule j)) (j + 1)) .0 all k l)
   where
-    all : every 20 (λ j. eqb (number-of-rule (rule j)) (j + 1)) ≡ true
+    all : every (length rules) (λ j. eqb (number-of-rule (rule j)) (j + 1)) ≡ true
     all = refl
 
 place-so : (r : Rule) → number-of-rule r ≡ place r + 1
 place-so r = sym (ap number-of-rule (in-order r .0)) ∙ numbered (place r) (in-order r .1)
 
--- they are 1 to 20
-pub number-range : (r : Rule) → (1 ≤ number-of-rule r) × (number-of-rule r ≤ 20)
+-- they are 1 to 21
+pub number-range : (r : Rule) → (1 ≤ number-of-rule r) × (number-of-rule r ≤ 21)
 number-range r = (omega (arith, place-so r), omega (arith, place-so r, in-order r .1))
 
 -- a rule is broken first, by what breaks it first
@@ -97,10 +99,10 @@ module _ (s : Shape) (im : List ℕ) where
       let w : kept s im p ≡ true = rw e at (every-is k (λ j. kept s im (rule j)) .0 h (place p) l) in
       every-is (subjects s (kind p)) (holds s im p) .0 w j m
 
-  placed : (k : ℕ) → k < 20 → (p : Rule) → number-of-rule p < number-of-rule (rule k) → place p < k
+  placed : (k : ℕ) → k < length rules → (p : Rule) → number-of-rule p < number-of-rule (rule k) → place p < k
   placed k l p m = omega (arith, m, numbered k l, place-so p)
 
-  breaker-says : (k : ℕ) → FailsFirst 20 k (λ j. kept s im (rule j)) → (x : Failing) → Says (subjects s (kind (rule k))) (holds s im (rule k)) x
+  breaker-says : (k : ℕ) → FailsFirst (length rules) k (λ j. kept s im (rule j)) → (x : Failing) → Says (subjects s (kind (rule k))) (holds s im (rule k)) x
       → Breached s im (told s (rule k) x)
   unfolding kept
   breaker-says k w (Failing.At j) v =
@@ -114,13 +116,13 @@ module _ (s : Shape) (im : List ℕ) where
       }
   breaker-says k w Failing.Nowhere v = absurd (true≢false (sym v ∙ w .fails))
 
-  at-says : (x : Failing) → Says 20 (λ j. kept s im (rule j)) x → Breached s im (breach-at s im x)
+  at-says : (x : Failing) → Says (length rules) (λ j. kept s im (rule j)) x → Breached s im (breach-at s im x)
   at-says (Failing.At k) w = breaker-says k w (breaker s im (rule k)) (says s im (rule k) (breaker s im (rule k)) refl)
-  at-says Failing.Nowhere w = λ r j m. kept-so 20 w r (in-order r .1) j m
+  at-says Failing.Nowhere w = λ r j m. kept-so (length rules) w r (in-order r .1) j m
 
   breach-says : Breached s im (breach s im)
   unfolding breach
-  breach-says = at-says (first-failing 20 (λ j. kept s im (rule j))) (first-says 20 (λ j. kept s im (rule j)))
+  breach-says = at-says (first-failing (length rules) (λ j. kept s im (rule j))) (first-says (length rules) (λ j. kept s im (rule j)))
 
 -- (a) where the check says 6, a rule is told, and it is the first that is broken
 pub record RuleTold (im : List ℕ) : Type 0 where
@@ -162,7 +164,7 @@ told-is-first im r x t =
     dite (ℕ-discrete (verdict-number (check im)) 6) (λ e. (e, rw (sym (six-told im e) ∙ t) at (breach-says (shape-of im) im)))
     (λ n. absurd (other-told im n r x t))
 
--- (c) of a good image all rules hold, and nothing is told; so the twenty rules are what number 6 goes by
+-- (c) of a good image all rules hold, and nothing is told; so the twenty-one rules are what number 6 goes by
 fine-so : (im : List ℕ) → check im ≡ Verdict.Fine → rules-hold (shape-of im) im ≡ true
 unfolding check
 fine-so im e =

@@ -7,6 +7,7 @@ use Prim.Native.Nat.{ℕ, _*_, _<_, _≤_}
 use native.Mathlib.Nat.{mul-le-mul}
 use native.Mathlib.Omega.{arith}
 use borrow.Author.Tests.{eq-eqb, ne-eqb, not-true}
+use lib.ListN.{length}
 use Rattle.paper.specs.Image.{task, most-tasks, shape-of}
 use Rattle.paper.specs.Rules.{Fit}
 use Rattle.paper.specs.Tests.{every, rules-hold}
@@ -21,7 +22,7 @@ use Rattle.inspect.proofs.Tested.{sized-so}
 use Rattle.single_rules.specs.Each.{kind, queues, subjects, queue, holds}
 use Rattle.single_rules.specs.declared.Rule.{Rule}
 use Rattle.single_rules.specs.declared.Kind.{Kind}
-use Rattle.breaches.specs.Order.{rule, subject}
+use Rattle.breaches.specs.Order.{rules, rule, subject}
 use Rattle.breaches.specs.Broken.{kept, breaker, breach, broken, TellsBroken}
 use Rattle.breaches.specs.declared.Failing.{Failing}
 use Rattle.breaches.specs.declared.Broken.{Broken}
@@ -80,19 +81,19 @@ abbrev pub KeptBefore : Shape → List ℕ → ℕ → Type 0
 KeptBefore s im k = every k (λ j. kept s im (rule j)) ≡ true
 
 module _ (s : Shape) (im : List ℕ) (k : ℕ) (h : KeptBefore s im k) where
-  pub breach-told : k < 20 → (r : Rule) (x : Failing) (at : ℕ) (κ : Kind) (y : Subject) → r ≡ rule k → x ≡ breaker s im r → x ≡ Failing.At at → κ ≡ kind r
+  pub breach-told : k < length rules → (r : Rule) (x : Failing) (at : ℕ) (κ : Kind) (y : Subject) → r ≡ rule k → x ≡ breaker s im r → x ≡ Failing.At at → κ ≡ kind r
       → y ≡ subject s κ at → Broken.Rule r y ≡ breach s im
   unfolding breach
   breach-told l r x at κ y er ex ea eκ ey =
       let b : Failing.At at ≡ breaker s im (rule k) = sym ea ∙ ex ∙ ap (breaker s im) er in
-      let f = first-at 20 k (λ j. kept s im (rule j)) record { inside = l; before = h; fails = not-kept s im (rule k) at b } in
+      let f = first-at (length rules) k (λ j. kept s im (rule j)) record { inside = l; before = h; fails = not-kept s im (rule k) at b } in
       rw (f, ← b, ey, eκ, er)
 
-  pub breach-none : 20 ≤ k → k ≤ 20 → Broken.Nothing ≡ breach s im
+  pub breach-none : length rules ≤ k → k ≤ length rules → Broken.Nothing ≡ breach s im
   unfolding breach
   breach-none a b =
-      let e : k ≡ 20 = omega (arith, a, b) in
-      let f = first-nowhere 20 (λ j. kept s im (rule j)) (rw (← e) h) in
+      let e : k ≡ length rules = omega (arith, a, b) in
+      let f = first-nowhere (length rules) (λ j. kept s im (rule j)) (rw (← e) h) in
       rw f
 
 -- the subject that is told is one

@@ -9,16 +9,16 @@ use Rattle.single_rules.specs.declared.Rule.{Rule}
 use Rattle.single_rules.specs.declared.Kind.{Kind}
 use Rattle.breaches.specs.declared.Subject.{Subject}
 
--- the rules, in the order of "Image" and "What an image must hold"
+-- the rules, in the order of "Image" and "What an image must hold", and last that of request 6
 abbrev pub rules : List Rule
 rules =
     Rule.Flags ∷ Rule.Both ∷ Rule.Status ∷ Rule.Capacity ∷ Rule.HeadTail ∷ Rule.Length ∷ Rule.Round ∷ Rule.Characters ∷
     Rule.Tasks ∷ Rule.Readied ∷ Rule.ClockRange ∷ Rule.ClockIdle ∷ Rule.Port ∷ Rule.IdlePort ∷ Rule.Sends ∷ Rule.Receives ∷
-    Rule.Inputs ∷ Rule.Outputs ∷ Rule.Stopped ∷ Rule.Peerless ∷ []
+    Rule.Inputs ∷ Rule.Outputs ∷ Rule.Stopped ∷ Rule.Peerless ∷ Rule.FreeSlots ∷ []
 
 -- rule k of them, counted from 0
 unfoldable pub rule : ℕ → Rule
-rule k = getD rules k Rule.Peerless
+rule k = getD rules k Rule.FreeSlots
 
 -- their numbers
 abbrev pub number-of-rule : Rule → ℕ
@@ -42,6 +42,7 @@ number-of-rule Rule.Inputs = 17
 number-of-rule Rule.Outputs = 18
 number-of-rule Rule.Stopped = 19
 number-of-rule Rule.Peerless = 20
+number-of-rule Rule.FreeSlots = 21
 
 -- task k, queue k, or the clock
 abbrev pub subject : Shape → Kind → ℕ → Subject

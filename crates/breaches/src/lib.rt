@@ -1,4 +1,4 @@
-// The first broken rule of an image, in the paper's order, and the first task or queue that breaks it.
+// Of the rules of an image, in their order, the first that is broken, and the first task or queue that breaks it.
 ghost use mathlib.Core.Path.{_≡_};
 ghost use Prim.Native.Nat.{_<_};
 ghost use lib.ListN.{length};
@@ -21,7 +21,7 @@ use single_rules::kind_of;
 use single_rules::queue_at;
 
 // How many rules there are.
-const RULES: usize = 20;
+const RULES: usize = 21;
 
 // The number of a refusal for a broken rule.
 pub const RULE_BROKEN: u16 = 6;
@@ -71,11 +71,12 @@ fn rule_at(k: usize) -> Rule
         16 => Rule::Inputs,
         17 => Rule::Outputs,
         18 => Rule::Stopped,
-        _ => Rule::Peerless,
+        19 => Rule::Peerless,
+        _ => Rule::FreeSlots,
     }
 }
 
-// The number of a rule, 1 to 20.
+// The number of a rule, 1 to 21.
 pub fn rule_number(rule: Rule) -> u16
     ensures { λ r. ⌜ r ≡ number-of-rule rule ⌝ }
 {
@@ -100,6 +101,7 @@ pub fn rule_number(rule: Rule) -> u16
         Rule::Outputs => 18,
         Rule::Stopped => 19,
         Rule::Peerless => 20,
+        Rule::FreeSlots => 21,
     }
 }
 

@@ -34,7 +34,7 @@ subject-numbers n (Subject.Task i) = (refl, refl)
 subject-numbers n (Subject.Queue q) = queue-numbers n q
 
 module _ (im : List ℕ) (a : BrokenNumbers) (p : TellsBrokenC im a) where
-  pub six-told : verdict-number (check im) ≡ 6 → (a .number ≡ 6) × (1 ≤ a .rule) × (a .rule ≤ 20)
+  pub six-told : verdict-number (check im) ≡ 6 → (a .number ≡ 6) × (1 ≤ a .rule) × (a .rule ≤ 21)
   six-told e =
       let t = six-has-a-rule im e in
       let u : a ≡ subject-told (number-of-rule (t .of)) (t .by) = p .told ∙ ap broken-numbers (t .told) in

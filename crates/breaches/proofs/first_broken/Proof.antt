@@ -2,8 +2,10 @@
 use mathlib.Core.Path.{sym, ap, _∙_}
 use Prim.Native.Nat.{_-_, _≤_}
 use native.Mathlib.Omega.{arith}
+use lib.ListN.{length}
 use Rattle.laws.specs.Every.{every-none, every-more}
 use Rattle.laws.specs.Sound.{sized-fit}
+use Rattle.breaches.specs.Order.{rules}
 use Rattle.breaches.specs.Broken.{kept}
 use Rattle.breaches.proofs.Told.{KeptBefore, is-kept, at-in, breach-told, breach-none}
 use borrow.Author.Needs.{needs}
@@ -11,10 +13,10 @@ use Rattle.breaches.proofs.first_broken.Statement.{statement}
 use Rattle.breaches.proofs.first_broken.Tie as tie
 
 abbrev Inv-loop : tie.InvT-loop
-Inv-loop s im k₀ k = KeptBefore s im k × (k ≤ 20)
+Inv-loop s im k₀ k = KeptBefore s im k × (k ≤ length rules)
 
 abbrev μ-loop : tie.MeasureT-loop
-μ-loop s im k₀ k = 20 - k
+μ-loop s im k₀ k = length rules - k
 
 loop-holds : tie.Need-loop-holds Inv-loop μ-loop
 loop-holds c = (every-none _, omega arith)

@@ -84,11 +84,15 @@ returns-19 c = ap rule (sym (c .match .keys19))
 
 returns-20 : tie.Need-returns-20
 unfolding rule
-returns-20 c = let e : c .before .args .k ≡ 19 = omega (arith, past-them 0 19 _ (c .match .rest) (omega arith), c .before .pre) in ap rule (sym e)
+returns-20 c = ap rule (sym (c .match .keys20))
+
+returns-21 : tie.Need-returns-21
+unfolding rule
+returns-21 c = let e : c .before .args .k ≡ 20 = omega (arith, past-them 0 20 _ (c .match .rest) (omega arith), c .before .pre) in ap rule (sym e)
 
 pub rule-at-spec : {M : Type 1} → statement M
 rule-at-spec =
     tie.close
     (tie.spec
     returns returns-2 returns-3 returns-4 returns-5 returns-6 returns-7 returns-8 returns-9 returns-10 returns-11
-    returns-12 returns-13 returns-14 returns-15 returns-16 returns-17 returns-18 returns-19 returns-20)
+    returns-12 returns-13 returns-14 returns-15 returns-16 returns-17 returns-18 returns-19 returns-20 returns-21)
