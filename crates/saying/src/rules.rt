@@ -33,6 +33,7 @@ fn put_rule(out: Output, rule: Rule) -> Output {
         Rule::Outputs => put_text(out, b"does not stand as one that waits for output"),
         Rule::Stopped => put_text(out, b"stopped without an error"),
         Rule::Peerless => put_text(out, b"a peer though it waits for no task"),
+        Rule::FreeSlots => put_text(out, b"old words in free slots"),
     }
 }
 
