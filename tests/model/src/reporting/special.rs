@@ -31,7 +31,8 @@ type Row = (Vec<u16>, usize, u16, Vec<Growth>);
 
 /// Every report chosen by hand, the paper's first.
 pub fn all() -> Vec<Night> {
-    let mut nights = vec![papers_run(), over_images(), tested_last(), row_of_orders(), row_of_idle_ticks(), faults()];
+    let mut nights = vec![papers_run(), over_images(), tested_last(), full_input()];
+    nights.extend([row_of_orders(), row_of_idle_ticks(), faults()]);
     nights.extend(at_the_end());
     nights
 }
@@ -123,6 +124,24 @@ fn tested_last() -> Night {
             ([LETTER, LETTER, TICK].concat(), 1, 8, vec![]),
             ([TICK, MALFORMED].concat(), 0, 17, vec![]),
             (vec![0; 4], 0, 7, vec![]),
+        ],
+    )
+}
+
+/// Letters for a full buffer: the ticks before them are counted.
+fn full_input() -> Night {
+    then(
+        Night::from(counts(&[])),
+        papers(),
+        vec![
+            ([LETTER, LETTER, TICK].concat(), 1, 8, vec![]),
+            ([LETTER, TICK].concat(), 0, 8, vec![]),
+            ([TICK, LETTER].concat(), 1, 8, vec![(0, 1)]),
+            // The input is done, which makes room for one letter.
+            ([TICK, LETTER, LETTER].concat(), 2, 8, vec![(1, 1)]),
+            ([TICK, TICK, LETTER, TICK].concat(), 2, 8, vec![(0, 2), (5, 1)]),
+            ([TICK, LETTER].concat(), 1, 8, vec![(1, 2)]),
+            ([TICK, TICK, LETTER].concat(), 2, 8, vec![(3, 1), (5, 2)]),
         ],
     )
 }
