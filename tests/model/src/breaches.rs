@@ -1,4 +1,4 @@
-//! The first broken rule of an image that number 6 refuses: rules 1 to 20, and
+//! The first broken rule of an image that number 6 refuses: rules 1 to 21, and
 //! of a rule the first task or queue that breaks it.
 
 use crate::check::lay_out;
@@ -45,7 +45,7 @@ const OF_WORDS: [(u16, Rule<Words>); 7] = [
 ];
 
 /// The rules of a kernel whose queues are sound.
-const OF_KERNEL: [(u16, Rule<Kernel>); 13] = [
+const OF_KERNEL: [(u16, Rule<Kernel>); 14] = [
     (8, Rule::Queue(holds_characters)),
     (9, Rule::Queue(holds_tasks)),
     (10, Rule::Task(is_queued_where_ready)),
@@ -59,6 +59,7 @@ const OF_KERNEL: [(u16, Rule<Kernel>); 13] = [
     (18, Rule::Task(|kernel, me| of_status(kernel, me, status::WAITS_FOR_OUTPUT, waits_for_output))),
     (19, Rule::Task(|kernel, me| of_status(kernel, me, status::STOPPED, |_, _, task| task.flags.error != 0))),
     (20, Rule::Task(|kernel, me| waits_for_a_task(&kernel.tasks[me]) || kernel.tasks[me].peer == 0)),
+    (21, Rule::Queue(|kernel, which| which.of(kernel).is_clear())),
 ];
 
 /// The number of the check, and where that is 6 rule, queue, i and j; else four
@@ -199,6 +200,7 @@ mod tests {
     use crate::damage;
     use crate::good;
     use crate::happening::scene::Scene;
+    use crate::looking::RULES;
     use crate::rng::Rng;
 
     const NO: u16 = 65535;
@@ -261,7 +263,7 @@ mod tests {
         assert_eq!(with(&[(60, 2), (63, 256), (54, 2), (57, 256)]), [6, 8, 1, 1, 0]);
         assert_eq!(with(&[(60, 2), (63, 256)]), [6, 8, 2, 0, 0]);
         assert_eq!(with(&[(72, 2), (74, 256)]), [0, NO, NO, NO, NO]);
-        assert_eq!(with(&[(57, 256)]), [0, NO, NO, NO, NO]);
+        assert_eq!(with(&[(57, 256)]), [6, 21, 1, 1, 0]);
         assert_eq!(with(&[(41, 2)]), [6, 9, 0, 0, 0]);
         assert_eq!(with(&[(41, 0)]), by(10, 0));
         assert_eq!(with(&[(37, 1), (38, 1)]), by(10, 1));
@@ -271,7 +273,7 @@ mod tests {
     }
 
     /// Both tasks stopped, and nothing in the ready queue.
-    const STOPPED: [(usize, u16); 6] = [(26, 4), (42, 5), (35, 4), (44, 5), (38, 0), (17, 0)];
+    const STOPPED: [(usize, u16); 7] = [(26, 4), (42, 5), (35, 4), (44, 5), (38, 0), (41, 0), (17, 0)];
 
     #[test]
     fn the_clock() {
@@ -296,7 +298,7 @@ mod tests {
     /// Task 0 with this status and pending, outside the ready queue; R2 stands
     /// at 20, R3 at 21.
     fn waiting(status: u16, pending: u16, changes: &[(usize, u16)]) -> [u16; 5] {
-        let wait = [(42, status), (26, 32 * pending), (40, 1), (37, 1), (38, 1)];
+        let wait = [(42, status), (26, 32 * pending), (40, 1), (41, 0), (37, 1), (38, 1)];
         with(&[&wait, changes].concat())
     }
 
@@ -331,6 +333,31 @@ mod tests {
         assert_eq!(waiting(3, 3, &[(45, 1)]), by(20, 1));
     }
 
+    #[test]
+    fn old_words_in_free_slots() {
+        assert_eq!(with(&[(50, 1)]), [6, 21, 1, 0, 0]);
+        assert_eq!(with(&[(51, 65535)]), [6, 21, 1, 0, 0]);
+        assert_eq!(with(&[(68, 2)]), [6, 21, 2, 1, 0]);
+        assert_eq!(with(&[(81, 256)]), [6, 21, 3, 0, 1]);
+        assert_eq!(waiting(3, 3, &[(41, 1)]), [6, 21, 0, 0, 0]);
+        assert_eq!(waiting(3, 3, &[(41, 1), (50, 1)]), [6, 21, 0, 0, 0]);
+        assert_eq!(with(&[(92, 1), (57, 1)]), [6, 21, 1, 1, 0]);
+        assert_eq!(with(&[(47, 1), (48, 1), (51, 1)]), [6, 21, 1, 0, 0]);
+        assert_eq!(with(&[(46, 1), (48, 1), (50, 1)]), [6, 21, 1, 0, 0]);
+        assert_eq!(with(&[(50, 32768), (51, 32768)]), [6, 21, 1, 0, 0]);
+    }
+
+    /// Held zeros are no old words, and old words are told last.
+    #[test]
+    fn what_is_no_old_word_or_told_before_it() {
+        assert_eq!(with(&[(47, 1), (48, 1)]), [0, NO, NO, NO, NO]);
+        assert_eq!(with(&[(46, 1), (48, 1), (51, 9)]), [0, NO, NO, NO, NO]);
+        assert_eq!(with(&[(72, 2), (74, 65535), (75, 1)]), [0, NO, NO, NO, NO]);
+        assert_eq!(with(&[(57, 256), (45, 1)]), by(20, 1));
+        assert_eq!(with(&[(57, 256), (53, 1)]), [6, 7, 1, 1, 0]);
+        assert_eq!(with(&[(57, 256), (17, 6)]), [6, 11, NO, NO, NO]);
+    }
+
     /// The two ways in which the model looks for number 6 agree.
     #[test]
     fn a_rule_is_told_exactly_where_the_check_gives_6() {
@@ -341,7 +368,7 @@ mod tests {
             for words in crate::cases::family(&mut rng, &kernel, &damages) {
                 let [number, rule, ..] = broken_rule(&words);
                 assert_eq!(number, check(&words));
-                assert_eq!(number == 6, (1..=20).contains(&rule));
+                assert_eq!(number == 6, (1..=RULES).contains(&rule));
             }
         }
     }

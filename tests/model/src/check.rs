@@ -141,7 +141,6 @@ mod tests {
 
     #[test]
     fn ports_and_characters() {
-        assert_eq!(check_with(&[(38, 256), (43, 65535), (48, 7)]), 0);
         assert_eq!(check_with(&[(36, 1), (38, 255)]), 0);
         assert_eq!(check_with(&[(36, 1), (38, 256)]), 6);
         assert_eq!(check_with(&[(46, 1), (48, 65535)]), 0);
@@ -152,6 +151,36 @@ mod tests {
         assert_eq!(check_with(&[(41, 1)]), 6);
         assert_eq!(check_with(&[(41, 1), (49, 1)]), 0);
         assert_eq!(check_with(&[(41, 1), (43, 256), (49, 1)]), 6);
+    }
+
+    /// The slots of the three buffers stand at 38, 43 and 48, that of the ready
+    /// queue at 31.
+    #[test]
+    fn free_slots_hold_0() {
+        for slot in [38, 43, 48] {
+            for old in [1, 65, 256, 32768, 65535] {
+                assert_eq!(check_with(&[(slot, old)]), 6);
+            }
+        }
+        let stopped = [(32, 5), (26, 4), (29, 0), (17, 0)];
+        assert_eq!(check_with(&stopped), 0);
+        assert_eq!(check_with(&[&stopped[..], &[(31, 1)]].concat()), 6);
+        assert_eq!(check_with(&[&stopped[..], &[(31, 65535)]].concat()), 6);
+        assert_eq!(check_with(&[(36, 1), (46, 1)]), 0);
+        assert_eq!(check_with(&[(36, 1), (46, 1), (43, 1)]), 6);
+    }
+
+    /// The paper's image as a kernel left it that kept taken words: after its
+    /// fifth event, and after its tenth.
+    #[test]
+    fn an_image_with_its_taken_words_is_6() {
+        let delivered = [(17, 1), (18, 1), (21, 65)];
+        assert_eq!(check_with(&delivered), 0);
+        assert_eq!(check_with(&[&delivered[..], &[(38, 65)]].concat()), 6);
+        let printed = [(17, 0), (18, 2), (21, 65), (26, 8)];
+        assert_eq!(check_with(&printed), 0);
+        assert_eq!(check_with(&[&printed[..], &[(38, 65), (43, 65)]].concat()), 6);
+        assert_eq!(check_with(&[&printed[..], &[(43, 65)]].concat()), 6);
     }
 
     #[test]

@@ -126,12 +126,12 @@ fn buffer(rng: &mut Rng, capacity: usize, held: fn(&mut Rng) -> u16) -> Queue {
     queue(rng, capacity, length, held)
 }
 
-/// A queue with its head anywhere and any words in its free slots.
+/// A queue with its head anywhere.
 fn queue(rng: &mut Rng, capacity: usize, length: usize, held: fn(&mut Rng) -> u16) -> Queue {
     Queue {
         head: rng.below(capacity),
         held: (0..length).map(|_| held(rng)).collect::<VecDeque<_>>(),
-        free: (length..capacity).map(|_| rng.word()).collect::<VecDeque<_>>(),
+        free: vec![0; capacity - length].into(),
     }
 }
 
@@ -198,4 +198,30 @@ pub fn line_up(rng: &mut Rng, kernel: &mut Kernel) {
     let most = if kernel.ready.is_empty() { 0 } else { kernel.slice };
     let any = word(rng.below(usize::from(most) + 1));
     kernel.clock = *rng.pick(&[0, most, any]);
+}
+
+#[cfg(test)]
+mod tests {
+    use super::*;
+    use crate::which::Which;
+
+    /// How many images are looked at, and the least that there is of each thing
+    /// in each sort of queue.
+    const IMAGES: usize = 500;
+    const OFTEN: usize = 20;
+
+    #[test]
+    fn zeros_and_other_words_are_held_beside_free_slots() {
+        let mut rng = Rng::new(6);
+        let (mut zeros, mut others) = ([0; 4], [0; 4]);
+        for kernel in (0..IMAGES).map(|_| kernel(&mut rng)) {
+            for which in Which::all(kernel.tasks.len()) {
+                let queue = which.of(&kernel);
+                let sort = usize::from(which.words()[0]);
+                zeros[sort] += usize::from(queue.held.contains(&0) && !queue.is_full());
+                others[sort] += usize::from(queue.held.iter().any(|&word| word != 0) && !queue.is_full());
+            }
+        }
+        assert!(zeros.iter().chain(&others).all(|&queues| queues >= OFTEN), "{zeros:?} {others:?}");
+    }
 }

@@ -1,4 +1,4 @@
-//! A queue: the words it holds, and the old words in its free slots.
+//! A queue: the words it holds, and its free slots.
 
 use crate::layout::{word, QUEUE_LEAD};
 use std::collections::VecDeque;
@@ -57,16 +57,21 @@ impl Queue {
         self.free.is_empty()
     }
 
-    /// Stores a word in the first free slot, over the old word there.
+    /// Whether every free slot holds 0.
+    pub fn is_clear(&self) -> bool {
+        self.free.iter().all(|&word| word == 0)
+    }
+
+    /// Stores a word in the first free slot.
     pub fn append(&mut self, word: u16) {
         self.free.pop_front().expect("a queue that is appended to has a free slot");
         self.held.push_back(word);
     }
 
-    /// Takes the first word; its slot keeps it as an old word.
+    /// Takes the first word and leaves 0 in its slot.
     pub fn take(&mut self) -> u16 {
         let word = self.held.pop_front().expect("a queue that is taken from holds a word");
-        self.free.push_back(word);
+        self.free.push_back(0);
         self.head = (self.head + 1) % self.capacity();
         word
     }
@@ -77,17 +82,17 @@ mod tests {
     use super::*;
 
     #[test]
-    fn a_taken_slot_keeps_its_old_word() {
+    fn a_taken_slot_becomes_0() {
         let mut queue = Queue::fresh(2);
         queue.append(7);
         queue.append(8);
         assert_eq!(queue.encode(), [0, 0, 2, 2, 7, 8]);
         assert_eq!(queue.take(), 7);
-        assert_eq!(queue.encode(), [1, 0, 1, 2, 7, 8]);
+        assert_eq!(queue.encode(), [1, 0, 1, 2, 0, 8]);
         queue.append(9);
         assert_eq!(queue.encode(), [1, 1, 2, 2, 9, 8]);
         assert_eq!([queue.take(), queue.take()], [8, 9]);
-        assert_eq!(queue.encode(), [1, 1, 0, 2, 9, 8]);
+        assert_eq!(queue.encode(), [1, 1, 0, 2, 0, 0]);
     }
 
     #[test]
@@ -97,6 +102,15 @@ mod tests {
         assert_eq!(queue.held, [10, 20]);
         assert_eq!(queue.free, [30]);
         assert_eq!(queue.encode(), words);
+    }
+
+    #[test]
+    fn a_queue_is_clear_where_its_free_slots_hold_0() {
+        let clear = [[0, 1, 1, 3, 7, 0, 0], [1, 2, 1, 3, 0, 0, 0], [2, 2, 0, 3, 0, 0, 0], [1, 1, 3, 3, 7, 8, 9]];
+        let others = [[0, 1, 1, 3, 7, 8, 0], [0, 1, 1, 3, 0, 0, 1], [1, 2, 1, 3, 3, 0, 0], [2, 2, 0, 3, 0, 65535, 0]];
+        let is_clear = |words: &[u16; 7]| Queue::decode(words, 3).expect("a sound queue").is_clear();
+        assert!(clear.iter().all(is_clear));
+        assert!(!others.iter().any(is_clear));
     }
 
     #[test]

@@ -2,6 +2,7 @@
 //! of number 6, one function for each rule.
 
 use crate::image::{service, status, Flags, Kernel, Task, LARGEST_CHARACTER};
+use crate::queue::Queue;
 
 /// Whether a kernel keeps every rule that a struct of sound queues can break.
 pub fn hold(kernel: &Kernel) -> bool {
@@ -11,6 +12,7 @@ pub fn hold(kernel: &Kernel) -> bool {
         && kernel.tasks.iter().all(port_fits)
         && kernel.tasks.iter().all(|task| flags_fit(&task.flags))
         && (0..kernel.tasks.len()).all(|me| status_fits(kernel, me))
+        && free_slots_hold_0(kernel)
 }
 
 /// Each task of status 0 exactly once, and no other.
@@ -65,6 +67,12 @@ fn status_fits(kernel: &Kernel, me: usize) -> bool {
         status::STOPPED => task.peer == 0 && task.flags.error != 0,
         _ => false,
     }
+}
+
+/// 0 in every free slot of every queue, the ready queue too.
+fn free_slots_hold_0(kernel: &Kernel) -> bool {
+    let devices = kernel.tasks.iter().flat_map(|task| [&task.input, &task.output]);
+    devices.chain(kernel.messages.iter().flatten()).chain([&kernel.ready]).all(Queue::is_clear)
 }
 
 /// The task that both R2 and the peer field name, if there is such a task.

@@ -65,9 +65,9 @@ mod tests {
     fn image() -> Vec<u16> {
         let scene = Scene::of(3)
             .message(0, 2, &[1, 1, 2, 2, 70, 71])
-            .message(2, 0, &[0, 1, 1, 2, 80, 81])
-            .input(1, &[1, 0, 1, 2, 90, 91])
-            .output(2, 65, &[0, 1, 1, 2, 92, 93])
+            .message(2, 0, &[0, 1, 1, 2, 80, 0])
+            .input(1, &[1, 0, 1, 2, 0, 91])
+            .output(2, 65, &[0, 1, 1, 2, 92, 0])
             .register(1, 7, 4321)
             .waits_to_send(0, 2)
             .stopped(2, 6)

@@ -1,6 +1,7 @@
 //! Damaged images made from good ones, each breaking one rule by name, and
 //! mixtures of them.
 
+mod free;
 mod header;
 mod mixed;
 mod queues;
@@ -69,8 +70,9 @@ impl Damage {
 
 /// Every damage that breaks a single rule.
 pub fn all() -> Vec<Damage> {
-    let parts = [header::damages(), segments::damages(), queues::damages(), ready::damages(), tasks::damages()];
-    parts.into_iter().flatten().collect()
+    let header = [header::damages(), segments::damages()];
+    let rules = [queues::damages(), free::damages(), ready::damages(), tasks::damages()];
+    header.into_iter().chain(rules).flatten().collect()
 }
 
 /// Every damage that breaks a single rule and gives this number.

@@ -7,34 +7,18 @@ use crate::layout::QUEUE_LEAD;
 use crate::numbers::OTHER_RULE;
 use crate::queue::Queue;
 use crate::rng::Rng;
+use crate::which::{Which, INPUT, MESSAGE, OUTPUT, READY};
 
-const KINDS: [(&str, Kind); 4] = [
-    ("ready queue", Kind::Ready),
-    ("input buffer", Kind::Input),
-    ("output buffer", Kind::Output),
-    ("message buffer", Kind::Message),
-];
+/// The sorts of queues, each with the first of the words that name its queues.
+pub const SORTS: [(&str, u16); 4] =
+    [("ready queue", READY), ("input buffer", INPUT), ("output buffer", OUTPUT), ("message buffer", MESSAGE)];
 
-#[derive(Clone, Copy)]
-enum Kind {
-    Ready,
-    Input,
-    Output,
-    Message,
-}
-
-impl Kind {
-    /// The place of a random queue of this kind.
-    fn place(self, rng: &mut Rng, kernel: &Kernel) -> usize {
-        let layout = kernel.layout();
-        let n = kernel.tasks.len();
-        match self {
-            Kind::Ready => layout.ready_queue,
-            Kind::Input => layout.input(rng.below(n)),
-            Kind::Output => layout.output(rng.below(n)),
-            Kind::Message => layout.message(rng.below(n), rng.below(n)),
-        }
-    }
+/// The queues of a sort, in any order.
+pub fn of_sort(rng: &mut Rng, kernel: &Kernel, sort: u16) -> Vec<Which> {
+    let mut queues = Which::all(kernel.tasks.len());
+    queues.retain(|which| which.words()[0] == sort);
+    rng.shuffle(&mut queues);
+    queues
 }
 
 /// The leading words of a queue.
@@ -73,10 +57,10 @@ fn step(index: u16, queue: &Lead) -> u16 {
 
 pub fn damages() -> Vec<Damage> {
     let mut list = held_characters();
-    for (queue, kind) in KINDS {
+    for (queue, sort) in SORTS {
         for (name, fault) in FAULTS {
             list.push(Damage::new(format!("{queue}, {name}"), OTHER_RULE, move |rng, kernel| {
-                let place = kind.place(rng, kernel);
+                let place = of_sort(rng, kernel, sort)[0].place(&kernel.layout());
                 with_fault(kernel, place, fault)
             }));
         }

@@ -37,7 +37,7 @@ mod tests {
 
     #[test]
     fn an_input_joins_the_buffer() {
-        let before = Scene::of(2).input(1, &[1, 0, 1, 2, 777, 5]).clock(3).kernel();
+        let before = Scene::of(2).input(1, &[1, 0, 1, 2, 0, 5]).clock(3).kernel();
         let mut expected = before.clone();
         expected.tasks[1].input = queue(&[1, 1, 2, 2, 65, 5]);
         let full = after(&before, [1, 1, 65], 8, 1);
@@ -75,11 +75,15 @@ mod tests {
 
     #[test]
     fn a_port_goes_on_until_the_buffer_is_empty() {
-        let before = Scene::of(1).output(0, 64, &[1, 0, 1, 2, 777, 0]).kernel();
+        let before = Scene::of(1).output(0, 64, &[1, 1, 2, 2, 0, 66]).kernel();
         let mut expected = before.clone();
-        expected.tasks[0].output = queue(&[0, 0, 0, 2, 777, 0]);
+        expected.tasks[0].output = queue(&[0, 1, 1, 2, 0, 0]);
+        expected.tasks[0].port = Port { busy: 1, character: 66 };
+        let first = after(&before, [2, 0, 0], 9, 0);
+        assert_eq!(first, expected);
+        expected.tasks[0].output = queue(&[1, 1, 0, 2, 0, 0]);
         expected.tasks[0].port = Port { busy: 1, character: 0 };
-        let last = after(&before, [2, 0, 0], 9, 0);
+        let last = after(&first, [2, 0, 0], 9, 0);
         assert_eq!(last, expected);
         expected.tasks[0].port = Port { busy: 0, character: 0 };
         let idle = after(&last, [2, 0, 0], 9, 0);
@@ -92,7 +96,7 @@ mod tests {
         let scene = Scene::of(1).waits_for_output(0, 67);
         let before = scene.output(0, 64, &[0, 0, 2, 2, 65, 66]).kernel();
         let mut expected = before.clone();
-        expected.tasks[0].output = queue(&[1, 0, 1, 2, 65, 66]);
+        expected.tasks[0].output = queue(&[1, 0, 1, 2, 0, 66]);
         expected.tasks[0].port = Port { busy: 1, character: 65 };
         expected.tasks[0].status = 0;
         expected.ready = queue(&[0, 0, 1, 1, 0]);
@@ -104,7 +108,7 @@ mod tests {
     fn output_done_wakes_nobody_who_waits_for_something_else() {
         let scenes = [Scene::of(2).waits_for_input(0), Scene::of(2).waits_to_receive(0, 1), Scene::of(2)];
         for scene in scenes {
-            let before = scene.output(0, 64, &[0, 0, 0, 2, 777, 777]).kernel();
+            let before = scene.output(0, 64, &[1, 1, 0, 2, 0, 0]).kernel();
             let mut expected = before.clone();
             expected.tasks[0].port = Port { busy: 0, character: 0 };
             assert_eq!(after(&before, [2, 0, 0], 9, 0), expected);

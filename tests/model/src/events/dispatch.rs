@@ -50,7 +50,7 @@ mod tests {
         assert_eq!(kernel.ready, queue(&[1, 0, 1, 2, 0, 1]));
         leave(&mut kernel, 5);
         assert_eq!((kernel.clock, kernel.tasks[1].status), (0, 5));
-        assert_eq!(kernel.ready, queue(&[0, 0, 0, 2, 0, 1]));
+        assert_eq!(kernel.ready, queue(&[0, 0, 0, 2, 0, 0]));
     }
 
     #[test]

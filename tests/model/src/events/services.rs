@@ -179,11 +179,11 @@ mod tests {
 
     #[test]
     fn an_input_service_delivers_the_first_character() {
-        let before = Scene::of(2).asks(0, 3, 65535, 9).input(0, &[0, 1, 1, 2, 65, 777]).kernel();
+        let before = Scene::of(2).asks(0, 3, 65535, 9).input(0, &[0, 1, 1, 2, 65, 0]).kernel();
         let mut expected = before.clone();
         expected.tasks[0].flags.pending = 0;
         expected.tasks[0].registers[3] = 65;
-        expected.tasks[0].input = queue(&[1, 1, 0, 2, 65, 777]);
+        expected.tasks[0].input = queue(&[1, 1, 0, 2, 0, 0]);
         expected.clock = 4;
         assert_eq!(after(&before, TICK, 3, 0), expected);
     }
@@ -193,7 +193,7 @@ mod tests {
         let before = Scene::of(2).asks(0, 4, 65535, 255).kernel();
         let mut expected = before.clone();
         expected.tasks[0].flags.pending = 0;
-        expected.tasks[0].output = queue(&[1, 1, 0, 2, 255, 0]);
+        expected.tasks[0].output = queue(&[1, 1, 0, 2, 0, 0]);
         expected.tasks[0].port = Port { busy: 1, character: 255 };
         expected.clock = 4;
         assert_eq!(after(&before, TICK, 3, 0), expected);
@@ -202,7 +202,7 @@ mod tests {
     #[test]
     fn an_output_to_a_busy_port_stays_in_the_buffer() {
         let scene = Scene::of(2).asks(0, 4, 0, 66);
-        let before = scene.output(0, 64, &[1, 0, 1, 2, 777, 65]).kernel();
+        let before = scene.output(0, 64, &[1, 0, 1, 2, 0, 65]).kernel();
         let mut expected = before.clone();
         expected.tasks[0].flags.pending = 0;
         expected.tasks[0].output = queue(&[1, 1, 2, 2, 66, 65]);
@@ -261,7 +261,7 @@ mod tests {
         let mut expected = before.clone();
         expected.tasks[1].flags.pending = 0;
         expected.tasks[1].registers[3] = 5;
-        expected.messages[0][1] = queue(&[1, 0, 1, 2, 5, 6]);
+        expected.messages[0][1] = queue(&[1, 0, 1, 2, 0, 6]);
         expected.tasks[0].status = 0;
         expected.tasks[0].peer = 0;
         expected.ready = queue(&[0, 0, 3, 3, 1, 2, 0]);
@@ -291,11 +291,11 @@ mod tests {
         let receives = Scene::of(3).waits_to_receive(2, 0);
         for scene in [sends, receives, Scene::of(3).waits_for_input(2)] {
             let scene = scene.asks(0, 2, 2, 9);
-            let before = scene.message(2, 0, &[0, 1, 1, 2, 7, 777]).kernel();
+            let before = scene.message(2, 0, &[0, 1, 1, 2, 7, 0]).kernel();
             let mut expected = before.clone();
             expected.tasks[0].flags.pending = 0;
             expected.tasks[0].registers[3] = 7;
-            expected.messages[2][0] = queue(&[1, 1, 0, 2, 7, 777]);
+            expected.messages[2][0] = queue(&[1, 1, 0, 2, 0, 0]);
             expected.clock = 4;
             assert_eq!(after(&before, TICK, 3, 0), expected);
         }

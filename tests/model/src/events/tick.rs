@@ -65,6 +65,16 @@ mod tests {
     }
 
     #[test]
+    fn a_task_that_stops_or_waits_leaves_0_in_its_slot() {
+        let scene = Scene::of(3).ready(&[2, 2, 3, 3, 0, 1, 2]);
+        let stopped = after(&scene.clone().flags(2, 0, 4, 0).kernel(), TICK, 1, 2);
+        let waiting = after(&scene.asks(2, 3, 0, 7).kernel(), TICK, 4, 2);
+        for left in [stopped, waiting] {
+            assert_eq!(left.ready, queue(&[0, 2, 2, 3, 0, 1, 0]));
+        }
+    }
+
+    #[test]
     fn the_last_task_that_stops_leaves_clock_0() {
         let stopped = after(&Scene::of(1).flags(0, 0, 1, 0).kernel(), TICK, 1, 0);
         assert_eq!((stopped.clock, stopped.ready), (0, queue(&[0, 0, 0, 1, 0])));
@@ -73,11 +83,22 @@ mod tests {
     #[test]
     fn at_clock_0_the_turn_passes_before_a_service() {
         let before = Scene::of(3).waits_for_input(1).asks(0, 1, 2, 7).clock(0).kernel();
-        assert_eq!(before.ready, queue(&[0, 2, 2, 3, 0, 2, 777]));
+        assert_eq!(before.ready, queue(&[0, 2, 2, 3, 0, 2, 0]));
         let mut expected = before.clone();
         expected.ready = queue(&[1, 0, 2, 3, 0, 2, 0]);
         expected.clock = 5;
         assert_eq!(after(&before, TICK, 2, 0), expected);
+    }
+
+    #[test]
+    fn a_passed_turn_clears_the_slot_and_then_stores_at_the_tail() {
+        let some = Scene::of(3).waits_for_input(0).clock(0).kernel();
+        assert_eq!(some.ready, queue(&[0, 2, 2, 3, 1, 2, 0]));
+        let turned = after(&some, TICK, 2, 1);
+        assert_eq!(turned.ready, queue(&[1, 0, 2, 3, 0, 2, 1]));
+        let all = Scene::of(3).ready(&[1, 1, 3, 3, 0, 1, 2]).clock(0).kernel();
+        let turned = after(&all, TICK, 2, 1);
+        assert_eq!(turned.ready, queue(&[2, 2, 3, 3, 0, 1, 2]));
     }
 
     #[test]

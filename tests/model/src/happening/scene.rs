@@ -6,8 +6,6 @@ use crate::layout::{word, Frame, QUEUE_LEAD};
 use crate::plan;
 use crate::queue::Queue;
 
-/// What stands in the free slots of a ready queue that tasks have left.
-const OLD: u16 = 777;
 /// Copies R4 from R5.
 const COPY: u16 = 0x0245;
 /// The word of a queue that holds its capacity.
@@ -135,7 +133,7 @@ impl Scene {
         self.kernel.tasks[task].peer = peer;
         let ready = &mut self.kernel.ready;
         ready.held.retain(|&other| usize::from(other) != task);
-        ready.free = vec![OLD; self.kernel.tasks.len() - ready.held.len()].into();
+        ready.free = vec![0; self.kernel.tasks.len() - ready.held.len()].into();
         let nobody = ready.is_empty();
         let clock = if nobody { 0 } else { self.kernel.clock };
         self.clock(clock)

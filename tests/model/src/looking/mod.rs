@@ -19,7 +19,7 @@ pub const MOST_ASKED: usize = 4;
 pub const MOST_FIELDS: usize = 5;
 
 /// How many rules there are.
-pub const RULES: u16 = 20;
+pub const RULES: u16 = 21;
 
 /// The numbers of bad images.
 const BAD_NUMBERS: [u16; 6] = [1, 2, 3, 4, 5, 6];

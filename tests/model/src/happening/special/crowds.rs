@@ -45,9 +45,11 @@ fn all_wait_to_send() -> Special {
             (Status(task), 1),
             (Peer(task), next(task)),
         ];
-        special = special.tick(SERVICE_WAITS, word(task), &left);
+        let cleared = (task != 0).then_some((Ready(SLOT + task), 0));
+        let changes: Vec<(Cell, u16)> = left.into_iter().chain(cleared).collect();
+        special = special.tick(SERVICE_WAITS, word(task), &changes);
     }
-    let last = [(Clock, 0), (Ready(HEAD), 0), (Ready(LENGTH), 0), (Status(LAST), 1)];
+    let last = [(Clock, 0), (Ready(HEAD), 0), (Ready(LENGTH), 0), (Ready(SLOT + LAST), 0), (Status(LAST), 1)];
     special.tick(SERVICE_WAITS, word(LAST), &last).tick(IDLE, 0, &[])
 }
 
@@ -57,11 +59,16 @@ fn all_wait_to_send() -> Special {
 /// orders, so the clock falls by four from one to the next.
 fn all_are_woken() -> Special {
     let waiting = (0..LAST).fold(full_messages(), |scene, task| scene.waits_to_send(task, word(LAST)));
-    let ready = [&[15, 0, 1, 16][..], &[777; 15], &[15]].concat();
+    let ready = [&[15, 0, 1, 16][..], &[0; 15], &[15]].concat();
     let first = waiting.asks(LAST, RECEIVE, 0, 9).register(LAST, 0, 2).register(LAST, 4, 1);
     let mut special = Special::on(first.ready(&ready).clock(100));
     for source in 0..=LAST {
-        let taken = [(Clock, word(99 - 4 * source)), (Flags(LAST), 0), (Message(source, LAST, LENGTH), 0)];
+        let taken = [
+            (Clock, word(99 - 4 * source)),
+            (Flags(LAST), 0),
+            (Message(source, LAST, LENGTH), 0),
+            (Message(source, LAST, SLOT), 0),
+        ];
         let r3 = (source == 0).then_some((R(LAST, 3), 65));
         let woken = woken_source(source);
         let changes: Vec<(Cell, u16)> = taken.into_iter().chain(r3).chain(woken).collect();
@@ -69,7 +76,7 @@ fn all_are_woken() -> Special {
         special = next_source(special);
     }
     let faulted = [(Clock, 35), (Flags(LAST), 4 * 5)];
-    let sent = [(Clock, 65534), (Flags(0), 0), (Message(0, LAST, LENGTH), 1), (Message(0, LAST, SLOT), 0)];
+    let sent = [(Clock, 65534), (Flags(0), 0), (Message(0, LAST, LENGTH), 1)];
     special.tick(SERVICE_FAULTED, word(LAST), &faulted).answers(ERROR_STOP, word(LAST)).tick(SERVICE_DONE, 0, &sent)
 }
 
@@ -79,13 +86,14 @@ fn woken_source(source: usize) -> Vec<(Cell, u16)> {
     if source == LAST {
         return Vec::new();
     }
-    vec![
-        (Ready(TAIL), word(source + 1)),
-        (Ready(LENGTH), word(source + 2)),
-        (Ready(SLOT + source), word(source)),
-        (Status(source), 0),
-        (Peer(source), 0),
-    ]
+    let woken =
+        [(Ready(TAIL), word(source + 1)), (Ready(LENGTH), word(source + 2)), (Status(source), 0), (Peer(source), 0)];
+    woken.into_iter().chain(stored(source, source)).collect()
+}
+
+/// What a woken task changes in the slot that it goes to, which held 0.
+fn stored(slot: usize, task: usize) -> Option<(Cell, u16)> {
+    (task != 0).then_some((Ready(SLOT + slot), word(task)))
 }
 
 /// The three orders that go back, name the next source and ask for it.
@@ -126,11 +134,12 @@ fn outputs() -> Special {
         let mut changes = vec![
             (Ready(TAIL), word((woken + 1) % LARGEST_TASKS)),
             (Ready(LENGTH), word(woken + 1)),
-            (Ready(SLOT + woken), word(task)),
             (Status(task), 0),
             (Output(task, LENGTH), 0),
+            (Output(task, SLOT), 0),
             (Character(task), 65),
         ];
+        changes.extend(stored(woken, task));
         if woken == 0 {
             changes.push((Clock, 65535));
         }

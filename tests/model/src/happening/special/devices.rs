@@ -28,10 +28,16 @@ pub fn all() -> Vec<Special> {
 /// An input delivers a character or waits, and does not look at R2.
 fn input_services() -> Vec<Special> {
     let mut list = Vec::new();
-    for (buffer, head, character) in [(SINGLE, 1, 65), ([1, 0, 1, 2, 65, 0], 0, 0), ([1, 0, 1, 2, 65, 255], 0, 255)] {
+    let rows = [
+        (SINGLE, 65, vec![(HEAD, 1), (LENGTH, 0), (SLOT, 0)]),
+        ([1, 0, 1, 2, 0, 0], 0, vec![(HEAD, 0), (LENGTH, 0)]),
+        ([1, 0, 1, 2, 0, 255], 255, vec![(HEAD, 0), (LENGTH, 0), (SLOT + 1, 0)]),
+        ([1, 1, 2, 2, 65, 66], 66, vec![(HEAD, 0), (LENGTH, 1), (SLOT + 1, 0)]),
+    ];
+    for (buffer, character, taken) in rows {
         let scene = Scene::of(2).asks(0, INPUT, 65535, 9).input(0, &buffer);
-        let taken = [(R(0, 3), character), (Input(0, HEAD), head), (Input(0, LENGTH), 0)];
-        let changes = [&taken[..], &[(Clock, 4), (Flags(0), 0)]].concat();
+        let taken = taken.into_iter().map(|(k, new)| (Input(0, k), new));
+        let changes: Vec<(Cell, u16)> = taken.chain([(Clock, 4), (Flags(0), 0), (R(0, 3), character)]).collect();
         list.push(Special::on(scene).tick(SERVICE_DONE, 0, &changes));
     }
     let empty = Scene::of(2).asks(0, INPUT, 65535, 9).input(0, &EMPTY).clock(2);
@@ -43,17 +49,18 @@ fn input_services() -> Vec<Special> {
 /// Inputs until the buffer is full, of a ready task and of others.
 fn inputs() -> Vec<Special> {
     let refused = |device| Event::Input { device, character: 1 }.words();
-    let stored = |character| [(Input(1, TAIL), 1), (Input(1, LENGTH), 1), (Input(1, SLOT), character)];
     let mut list = Vec::new();
     for character in [0, 1, 255] {
+        let slot = (character != 0).then_some((Input(1, SLOT), character));
+        let stored: Vec<(Cell, u16)> = [(Input(1, TAIL), 1), (Input(1, LENGTH), 1)].into_iter().chain(slot).collect();
         let special = Special::on(Scene::of(2).input(1, &EMPTY).clock(2))
-            .input(1, character, &stored(character))
+            .input(1, character, &stored)
             .input(1, 67, &[(Input(1, TAIL), 0), (Input(1, LENGTH), 2), (Input(1, SLOT + 1), 67)])
             .refused(refused(1), INPUT_FULL)
             .input(0, 68, &[(Input(0, TAIL), 1), (Input(0, LENGTH), 1), (Input(0, SLOT), 68)]);
         list.push(special);
     }
-    let wrapping = Scene::of(2).input(1, &[1, 0, 1, 2, 777, 65]);
+    let wrapping = Scene::of(2).input(1, &[1, 0, 1, 2, 0, 65]);
     list.push(
         Special::on(wrapping)
             .input(1, 67, &[(Input(1, TAIL), 1), (Input(1, LENGTH), 2), (Input(1, SLOT), 67)])
@@ -71,10 +78,10 @@ fn inputs() -> Vec<Special> {
 /// queue was empty and the clock becomes S. Its R3 stays until its turn.
 fn inputs_that_wake() -> Vec<Special> {
     let stored = [(Input(0, TAIL), 1), (Input(0, LENGTH), 1), (Input(0, SLOT), 65), (Status(0), 0)];
-    let behind = [(Ready(TAIL), 0), (Ready(LENGTH), 3), (Ready(SLOT + 2), 0)];
+    let behind = [(Ready(TAIL), 0), (Ready(LENGTH), 3)];
     let of_three = Special::on(Scene::of(3).waits_for_input(0).clock(2)).input(0, 65, &[&stored[..], &behind].concat());
     let all_wait = Scene::of(2).waits_for_input(0).waits_for_input(1).register(0, 3, 9);
-    let first = [(Clock, 5), (Ready(TAIL), 1), (Ready(LENGTH), 1), (Ready(SLOT), 0)];
+    let first = [(Clock, 5), (Ready(TAIL), 1), (Ready(LENGTH), 1)];
     let second = [
         (Ready(TAIL), 0),
         (Ready(LENGTH), 2),
@@ -84,7 +91,8 @@ fn inputs_that_wake() -> Vec<Special> {
         (Input(1, LENGTH), 1),
         (Input(1, SLOT), 66),
     ];
-    let served = [(Clock, 4), (Flags(0), 0), (R(0, 3), 65), (Input(0, HEAD), 1), (Input(0, LENGTH), 0)];
+    let taken = [(Input(0, HEAD), 1), (Input(0, LENGTH), 0), (Input(0, SLOT), 0)];
+    let served = [&taken[..], &[(Clock, 4), (Flags(0), 0), (R(0, 3), 65)]].concat();
     let one_by_one = Special::on(all_wait).input(0, 65, &[&stored[..], &first].concat()).input(1, 66, &second).tick(
         SERVICE_DONE,
         0,
@@ -115,28 +123,26 @@ fn printed(scene: Scene, character: u16, changes: &[(Cell, u16)]) -> Special {
     Special::on(scene.asks(0, OUTPUT, 65535, character)).tick(SERVICE_DONE, 0, &changes)
 }
 
-/// To an idle port the character goes through the buffer; to a busy one it
-/// stays there.
+/// To an idle port the character goes through the buffer, whose slot is 0 as
+/// before; to a busy one it stays there.
 fn output_services() -> Vec<Special> {
     let mut list = Vec::new();
     for character in [1, 255] {
-        let through = [(Output(0, HEAD), 1), (Output(0, TAIL), 1), (Output(0, SLOT), character)];
+        let through = [(Output(0, HEAD), 1), (Output(0, TAIL), 1)];
         let port = [(Busy(0), 1), (Character(0), character)];
         let idle = Scene::of(2).idle_output(0, &EMPTY);
         list.push(printed(idle, character, &[&through[..], &port].concat()));
         let busy = [(Output(0, TAIL), 1), (Output(0, LENGTH), 1), (Output(0, SLOT), character)];
         list.push(printed(Scene::of(2).output(0, 0, &EMPTY), character, &busy));
     }
-    let zero = [(Output(0, HEAD), 1), (Output(0, TAIL), 1), (Output(0, SLOT), 0), (Busy(0), 1)];
+    let zero = [(Output(0, HEAD), 1), (Output(0, TAIL), 1), (Busy(0), 1)];
     list.push(printed(Scene::of(2).idle_output(0, &EMPTY), 0, &zero));
-    let last_slot = Scene::of(2).idle_output(0, &[1, 1, 0, 2, 777, 778]);
-    let wrapped =
-        [(Output(0, HEAD), 0), (Output(0, TAIL), 0), (Output(0, SLOT + 1), 67), (Busy(0), 1), (Character(0), 67)];
+    let last_slot = Scene::of(2).idle_output(0, &[1, 1, 0, 2, 0, 0]);
+    let wrapped = [(Output(0, HEAD), 0), (Output(0, TAIL), 0), (Busy(0), 1), (Character(0), 67)];
     list.push(printed(last_slot, 67, &wrapped));
     let last_room = [(Output(0, TAIL), 0), (Output(0, LENGTH), 2), (Output(0, SLOT + 1), 67)];
     list.push(printed(Scene::of(2).output(0, 64, &SINGLE), 67, &last_room));
-    let kept = [(Output(0, SLOT), 67), (Busy(0), 1), (Character(0), 67)];
-    list.push(printed(Scene::narrow(1), 67, &kept));
+    list.push(printed(Scene::narrow(1), 67, &[(Busy(0), 1), (Character(0), 67)]));
     list
 }
 
@@ -163,19 +169,19 @@ fn outputs_that_wait_or_fault() -> Vec<Special> {
 fn outputs_done() -> Vec<Special> {
     let idle = |device| Event::OutputDone { device }.words();
     let to_the_end = Special::on(Scene::of(2).output(1, 64, &[1, 1, 2, 2, 0, 64]))
-        .output_done(1, &[(Output(1, HEAD), 0), (Output(1, LENGTH), 1)])
+        .output_done(1, &[(Output(1, HEAD), 0), (Output(1, LENGTH), 1), (Output(1, SLOT + 1), 0)])
         .output_done(1, &[(Output(1, HEAD), 1), (Output(1, LENGTH), 0), (Character(1), 0)])
         .output_done(1, &[(Busy(1), 0)])
         .refused(idle(1), PORT_IDLE)
         .refused(idle(0), PORT_IDLE);
     let both = Special::on(Scene::of(2).output(0, 255, &EMPTY).output(1, 1, &SINGLE))
         .output_done(0, &[(Busy(0), 0), (Character(0), 0)])
-        .output_done(1, &[(Output(1, HEAD), 1), (Output(1, LENGTH), 0), (Character(1), 65)])
+        .output_done(1, &[(Output(1, HEAD), 1), (Output(1, LENGTH), 0), (Output(1, SLOT), 0), (Character(1), 65)])
         .refused(idle(0), PORT_IDLE)
         .output_done(1, &[(Busy(1), 0), (Character(1), 0)])
         .refused(idle(1), PORT_IDLE);
     let one_slot = Special::on(Scene::narrow(1).output(0, 64, &[0, 0, 1, 1, 65]))
-        .output_done(0, &[(Output(0, LENGTH), 0), (Character(0), 65)])
+        .output_done(0, &[(Output(0, LENGTH), 0), (Output(0, SLOT), 0), (Character(0), 65)])
         .output_done(0, &[(Busy(0), 0), (Character(0), 0)]);
     vec![to_the_end, both, one_slot]
 }
@@ -184,10 +190,11 @@ fn outputs_done() -> Vec<Special> {
 /// ready queue was empty and the clock becomes S. It prints at its own turn.
 fn outputs_done_that_wake() -> Vec<Special> {
     let waits = |tasks| Scene::of(tasks).waits_for_output(0, 67).output(0, 64, &FULL);
-    let moved = [(Output(0, HEAD), 1), (Output(0, LENGTH), 1), (Character(0), 65), (Status(0), 0)];
-    let behind = [(Ready(TAIL), 0), (Ready(LENGTH), 3), (Ready(SLOT + 2), 0)];
+    let moved =
+        [(Output(0, HEAD), 1), (Output(0, LENGTH), 1), (Output(0, SLOT), 0), (Character(0), 65), (Status(0), 0)];
+    let behind = [(Ready(TAIL), 0), (Ready(LENGTH), 3)];
     let of_three = Special::on(waits(3).clock(2)).output_done(0, &[&moved[..], &behind].concat());
-    let first = [(Clock, 5), (Ready(LENGTH), 1), (Ready(SLOT), 0)];
+    let first = [(Clock, 5), (Ready(LENGTH), 1)];
     let printed = [(Clock, 4), (Flags(0), 0), (Output(0, TAIL), 1), (Output(0, LENGTH), 2), (Output(0, SLOT), 67)];
     let alone = Special::on(waits(1)).output_done(0, &[&moved[..], &first].concat()).tick(SERVICE_DONE, 0, &printed);
     vec![of_three, alone]
@@ -203,7 +210,7 @@ fn outputs_done_that_do_not_wake() -> Vec<Special> {
         Scene::of(2).stopped(0, 2),
         Scene::of(2).waits_for_output(1, 67).output(1, 64, &FULL),
     ];
-    let moved = [(Output(0, HEAD), 1), (Output(0, LENGTH), 1), (Character(0), 65)];
+    let moved = [(Output(0, HEAD), 1), (Output(0, LENGTH), 1), (Output(0, SLOT), 0), (Character(0), 65)];
     let row = |scene: Scene| Special::on(scene.output(0, 64, &FULL)).output_done(0, &moved);
     scenes.map(row).to_vec()
 }

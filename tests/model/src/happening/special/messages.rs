@@ -26,10 +26,11 @@ fn sent(buffer: &[u16], word: u16, changes: &[(usize, u16)]) -> Special {
 fn sends() -> Vec<Special> {
     let mut list = vec![
         sent(&SINGLE, 7, &[(TAIL, 0), (LENGTH, 2), (SLOT + 1, 7)]),
-        sent(&[1, 1, 0, 2, 777, 778], 7, &[(TAIL, 0), (LENGTH, 1), (SLOT + 1, 7)]),
-        sent(&[1, 0, 1, 2, 777, 31], 7, &[(TAIL, 1), (LENGTH, 2), (SLOT, 7)]),
+        sent(&[1, 1, 0, 2, 0, 0], 7, &[(TAIL, 0), (LENGTH, 1), (SLOT + 1, 7)]),
+        sent(&[1, 0, 1, 2, 0, 31], 7, &[(TAIL, 1), (LENGTH, 2), (SLOT, 7)]),
+        sent(&EMPTY, 0, &[(TAIL, 1), (LENGTH, 1)]),
     ];
-    for word in [0, 1, 255, 256, 32768, 65535] {
+    for word in [1, 255, 256, 32768, 65535] {
         list.push(sent(&EMPTY, word, &[(TAIL, 1), (LENGTH, 1), (SLOT, word)]));
     }
     let scene = Scene::narrow(2).asks(0, SEND, 1, 7);
@@ -56,12 +57,13 @@ fn received(buffer: &[u16], changes: &[(usize, u16)], word: u16) -> Special {
 /// word like any other.
 fn receives() -> Vec<Special> {
     let mut list = vec![
-        received(&FULL, &[(HEAD, 1), (LENGTH, 1)], 65),
-        received(&[1, 1, 2, 2, 31, 32], &[(HEAD, 0), (LENGTH, 1)], 32),
-        received(&[1, 0, 1, 2, 31, 32], &[(HEAD, 0), (LENGTH, 0)], 32),
+        received(&FULL, &[(HEAD, 1), (LENGTH, 1), (SLOT, 0)], 65),
+        received(&[1, 1, 2, 2, 31, 32], &[(HEAD, 0), (LENGTH, 1), (SLOT + 1, 0)], 32),
+        received(&[1, 0, 1, 2, 0, 32], &[(HEAD, 0), (LENGTH, 0), (SLOT + 1, 0)], 32),
+        received(&[0, 1, 1, 2, 0, 0], &[(HEAD, 1), (LENGTH, 0)], 0),
     ];
-    for word in [0, 1, 255, 256, 65535] {
-        list.push(received(&[0, 1, 1, 2, word, 777], &[(HEAD, 1), (LENGTH, 0)], word));
+    for word in [1, 255, 256, 65535] {
+        list.push(received(&[0, 1, 1, 2, word, 0], &[(HEAD, 1), (LENGTH, 0), (SLOT, 0)], word));
     }
     let scene = Scene::narrow(2).asks(0, RECEIVE, 1, 9);
     let changes = [(Clock, 4), (Flags(0), 0), (R(0, 3), 0), (Message(1, 0, LENGTH), 0)];
@@ -75,7 +77,7 @@ fn waits() -> Vec<Special> {
     let left = [(Clock, 5), (Ready(HEAD), 1), (Ready(LENGTH), 1), (Peer(0), 1)];
     let waits = |status| [&left[..], &[(Status(0), status)]].concat();
     let full = |head| [head, head, 2, 2, 31, 32];
-    let empty = |head| [head, head, 0, 2, 31, 32];
+    let empty = |head| [head, head, 0, 2, 0, 0];
     let mut list = Vec::new();
     for head in [0, 1] {
         let sends = Scene::of(2).asks(0, SEND, 1, 7).message(0, 1, &full(head)).clock(2);
@@ -133,7 +135,17 @@ fn to_itself() -> Vec<Special> {
             ],
         )
         .tick(ORDER_DONE, 0, &[(Clock, 2), (R(0, 0), 2), (Flags(0), 64)])
-        .tick(SERVICE_DONE, 0, &[(Clock, 1), (Flags(0), 0), (Message(0, 0, HEAD), 1), (Message(0, 0, LENGTH), 0)])
+        .tick(
+            SERVICE_DONE,
+            0,
+            &[
+                (Clock, 1),
+                (Flags(0), 0),
+                (Message(0, 0, HEAD), 1),
+                (Message(0, 0, LENGTH), 0),
+                (Message(0, 0, SLOT), 0),
+            ],
+        )
         .tick(ORDER_DONE, 0, &[(Clock, 0), (R(0, 0), 3), (Flags(0), 64)])
         .tick(TURN_PASSED, 0, &[(Clock, 5)])
         .tick(SERVICE_WAITS, 0, &[(Clock, 0), (Ready(LENGTH), 0), (Status(0), 2)])
@@ -142,7 +154,7 @@ fn to_itself() -> Vec<Special> {
     let full = Special::on(full.ready(&[1, 1, 2, 2, 0, 1]).clock(2)).tick(
         SERVICE_WAITS,
         1,
-        &[(Clock, 5), (Ready(HEAD), 0), (Ready(LENGTH), 1), (Status(1), 1), (Peer(1), 1)],
+        &[(Clock, 5), (Ready(HEAD), 0), (Ready(LENGTH), 1), (Ready(SLOT + 1), 0), (Status(1), 1), (Peer(1), 1)],
     );
     vec![there_and_back, full]
 }
@@ -159,6 +171,7 @@ fn passed_on() -> Vec<Special> {
         let buffer = [(Message(0, 1, HEAD), head), (Message(0, 1, LENGTH), length)];
         [&buffer[..], &[(Clock, clock), (Flags(1), 0), (R(1, 3), word)]].concat()
     };
+    let waits = [(Clock, 0), (Ready(HEAD), 0), (Ready(LENGTH), 0), (Ready(SLOT + 1), 0), (Status(1), 2)];
     let script = Special::on(Scene::planned(&plan).register(0, 2, 1).register(1, 3, 77))
         .answers(ORDER_DONE, 0)
         .answers(SERVICE_DONE, 0)
@@ -170,9 +183,9 @@ fn passed_on() -> Vec<Special> {
         .answers(ORDER_DONE, 1)
         .tick(SERVICE_DONE, 1, &taken(65533, 0, (1, 1)))
         .answers(ORDER_DONE, 1)
-        .tick(SERVICE_DONE, 1, &taken(65531, 9, (0, 0)))
+        .tick(SERVICE_DONE, 1, &[&taken(65531, 9, (0, 0))[..], &[(Message(0, 1, SLOT + 1), 0)]].concat())
         .answers(ORDER_DONE, 1)
-        .tick(SERVICE_WAITS, 1, &[(Clock, 0), (Ready(HEAD), 0), (Ready(LENGTH), 0), (Status(1), 2)])
+        .tick(SERVICE_WAITS, 1, &waits)
         .tick(IDLE, 0, &[]);
     vec![script]
 }

@@ -20,8 +20,8 @@ use cell::Cell;
 
 /// The words of a buffer with two slots: full, empty, and with one word.
 const FULL: [u16; 6] = [0, 0, 2, 2, 65, 66];
-const EMPTY: [u16; 6] = [0, 0, 0, 2, 777, 778];
-const SINGLE: [u16; 6] = [0, 1, 1, 2, 65, 777];
+const EMPTY: [u16; 6] = [0, 0, 0, 2, 0, 0];
+const SINGLE: [u16; 6] = [0, 1, 1, 2, 65, 0];
 
 /// An image, and events with what must come of them.
 #[derive(Clone, Debug)]

@@ -50,18 +50,20 @@ fn papers_run() -> Special {
 }
 
 /// The only task waits for input, comes back with a whole slice, and waits
-/// again. The ready queue of one has its number all the time.
+/// again. Its number is 0, as is the slot that it leaves.
 fn emptied_and_filled_again() -> Special {
     let program = [0x1230, 0x1230];
     let gone = [(Clock, 0), (Ready(LENGTH), 0), (Status(0), 3)];
     let back = [(Clock, 5), (Ready(LENGTH), 1), (Status(0), 0)];
     let came = [(Input(0, TAIL), 1), (Input(0, LENGTH), 1), (Input(0, SLOT), 65)];
+    let taken = [(Input(0, HEAD), 1), (Input(0, LENGTH), 0), (Input(0, SLOT), 0)];
+    let served = [&taken[..], &[(Clock, 4), (Flags(0), 0), (R(0, 3), 65)]].concat();
     Special::on(Scene::running(1, &program).clock(2))
         .tick(ORDER_DONE, 0, &[(Clock, 1), (R(0, 0), 1), (Flags(0), 96)])
         .tick(SERVICE_WAITS, 0, &gone)
         .tick(IDLE, 0, &[])
         .input(0, 65, &[&back[..], &came].concat())
-        .tick(SERVICE_DONE, 0, &[(Clock, 4), (Flags(0), 0), (R(0, 3), 65), (Input(0, HEAD), 1), (Input(0, LENGTH), 0)])
+        .tick(SERVICE_DONE, 0, &served)
         .tick(ORDER_DONE, 0, &[(Clock, 3), (R(0, 0), 2), (Flags(0), 96)])
         .tick(SERVICE_WAITS, 0, &gone)
         .tick(IDLE, 0, &[])

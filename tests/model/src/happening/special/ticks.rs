@@ -41,29 +41,32 @@ fn stops() -> Vec<Special> {
         let left = [(Clock, 5), (Ready(HEAD), 1), (Ready(LENGTH), 1), (Status(0), 5)];
         list.push(Special::on(out_of_time).tick(ERROR_STOP, 0, &left));
     }
-    let last_slot = Scene::of(3).ready(&[2, 2, 3, 3, 1, 2, 0]).flags(0, 0, 1, 0);
-    let wrapped = [(Ready(HEAD), 0), (Ready(LENGTH), 2), (Status(0), 5)];
-    list.push(Special::on(last_slot).tick(ERROR_STOP, 0, &wrapped));
+    let last_slot = Scene::of(3).ready(&[2, 2, 3, 3, 0, 1, 2]).flags(2, 0, 1, 0);
+    let wrapped = [(Ready(HEAD), 0), (Ready(LENGTH), 2), (Ready(SLOT + 2), 0), (Status(2), 5)];
+    list.push(Special::on(last_slot).tick(ERROR_STOP, 2, &wrapped));
     let both = Scene::of(2).flags(0, 0, 1, 0).flags(1, 0, 2, 0).clock(1);
     let first = [(Clock, 5), (Ready(HEAD), 1), (Ready(LENGTH), 1), (Status(0), 5)];
-    let second = [(Clock, 0), (Ready(HEAD), 0), (Ready(LENGTH), 0), (Status(1), 5)];
+    let second = [(Clock, 0), (Ready(HEAD), 0), (Ready(LENGTH), 0), (Ready(SLOT + 1), 0), (Status(1), 5)];
     list.push(Special::on(both).tick(ERROR_STOP, 0, &first).tick(ERROR_STOP, 1, &second));
     list
 }
 
 /// Turns passed with one task and with several, in full queues and in others,
-/// with head and tail at each slot.
+/// with head and tail at each slot. The slot is cleared before the task is
+/// stored, which may be in the same slot.
 fn turns() -> Vec<Special> {
     let alone = Special::on(Scene::of(1).clock(0)).tick(TURN_PASSED, 0, &[(Clock, 5)]);
     let last_of_three = Scene::of(3).waits_for_input(0).waits_for_input(2);
-    let last_of_three = Special::on(last_of_three.ready(&[2, 0, 1, 3, 777, 778, 1]).clock(0)).tick(
+    let last_of_three = Special::on(last_of_three.ready(&[2, 0, 1, 3, 0, 0, 1]).clock(0)).tick(
         TURN_PASSED,
         1,
-        &[(Clock, 5), (Ready(HEAD), 0), (Ready(TAIL), 1), (Ready(SLOT), 1)],
+        &[(Clock, 5), (Ready(HEAD), 0), (Ready(TAIL), 1), (Ready(SLOT), 1), (Ready(SLOT + 2), 0)],
     );
     let two_of_three = Special::on(Scene::of(3).waits_for_input(1).clock(0))
-        .tick(TURN_PASSED, 0, &[(Clock, 5), (Ready(HEAD), 1), (Ready(TAIL), 0), (Ready(SLOT + 2), 0)])
+        .tick(TURN_PASSED, 0, &[(Clock, 5), (Ready(HEAD), 1), (Ready(TAIL), 0)])
         .tick(ORDER_DONE, 2, &[(Clock, 4), (R(2, 0), 1)]);
+    let stored_behind = [(Clock, 5), (Ready(HEAD), 1), (Ready(TAIL), 0), (Ready(SLOT), 0), (Ready(SLOT + 2), 1)];
+    let last_two_of_three = Special::on(Scene::of(3).waits_for_input(0).clock(0)).tick(TURN_PASSED, 1, &stored_behind);
     let full = Special::on(Scene::of(3).clock(0))
         .tick(TURN_PASSED, 0, &[(Clock, 5), (Ready(HEAD), 1), (Ready(TAIL), 1)])
         .tick(ORDER_DONE, 1, &[(Clock, 4), (R(1, 0), 1)]);
@@ -72,7 +75,9 @@ fn turns() -> Vec<Special> {
         0,
         &[(Clock, 5), (Ready(HEAD), 0), (Ready(TAIL), 0)],
     );
-    vec![alone, last_of_three, two_of_three, full, wrapping]
+    let same_slot = [(Clock, 5), (Ready(HEAD), 2), (Ready(TAIL), 2)];
+    let same_slot = Special::on(Scene::of(3).ready(&[1, 1, 3, 3, 0, 1, 2]).clock(0)).tick(TURN_PASSED, 1, &same_slot);
+    vec![alone, last_of_three, two_of_three, last_two_of_three, full, wrapping, same_slot]
 }
 
 /// At clock 0 no pending service is served, with room or without.
@@ -87,7 +92,8 @@ fn turns_before_services() -> Vec<Special> {
         }
     }
     let alone = Scene::of(1).asks(0, INPUT, 0, 9).input(0, &[0, 1, 1, 2, 65, 0]).clock(0);
-    let served = [(Clock, 4), (Input(0, HEAD), 1), (Input(0, LENGTH), 0), (Flags(0), 0), (R(0, 3), 65)];
+    let taken = [(Input(0, HEAD), 1), (Input(0, LENGTH), 0), (Input(0, SLOT), 0)];
+    let served = [&taken[..], &[(Clock, 4), (Flags(0), 0), (R(0, 3), 65)]].concat();
     list.push(Special::on(alone).tick(TURN_PASSED, 0, &[(Clock, 5)]).tick(SERVICE_DONE, 0, &served));
     list
 }

@@ -26,7 +26,6 @@ fn receiver_behind_another() -> Special {
                 (Flags(1), 0),
                 (Ready(TAIL), 0),
                 (Ready(LENGTH), 3),
-                (Ready(SLOT + 2), 0),
                 (Status(0), 0),
                 (Peer(0), 0),
                 (Message(1, 0, TAIL), 1),
@@ -41,7 +40,7 @@ fn receiver_behind_another() -> Special {
 /// The receiver waits for this sender, and a zero arrives at its turn.
 fn receiver_with_its_zero() -> Special {
     let scene = Scene::of(2).waits_to_receive(1, 0).asks(0, SEND, 1, 0).register(1, 3, 9);
-    Special::on(scene.clock(1).message(0, 1, &[1, 1, 0, 2, 777, 778]))
+    Special::on(scene.clock(1).message(0, 1, &[1, 1, 0, 2, 0, 0]))
         .tick(
             SERVICE_DONE,
             0,
@@ -54,7 +53,6 @@ fn receiver_with_its_zero() -> Special {
                 (Status(1), 0),
                 (Message(0, 1, TAIL), 0),
                 (Message(0, 1, LENGTH), 1),
-                (Message(0, 1, SLOT + 1), 0),
             ],
         )
         .tick(TURN_PASSED, 0, &[(Clock, 5), (Ready(HEAD), 1), (Ready(TAIL), 1)])
@@ -98,11 +96,11 @@ fn sender_with_room() -> Special {
                 (R(1, 3), 65),
                 (Ready(TAIL), 0),
                 (Ready(LENGTH), 2),
-                (Ready(SLOT + 1), 0),
                 (Status(0), 0),
                 (Peer(0), 0),
                 (Message(0, 1, HEAD), 1),
                 (Message(0, 1, LENGTH), 1),
+                (Message(0, 1, SLOT), 0),
             ],
         )
         .tick(TURN_PASSED, 1, &[(Clock, 5), (Ready(HEAD), 1), (Ready(TAIL), 1)])
@@ -132,7 +130,8 @@ fn senders_not_woken() -> Vec<Special> {
         Scene::of(3).stopped(2, 1),
         Scene::of(3).waits_to_send(1, 0).message(1, 0, &FULL),
     ];
-    let changes = [(Clock, 4), (Flags(0), 0), (R(0, 3), 65), (Message(2, 0, HEAD), 1), (Message(2, 0, LENGTH), 0)];
+    let taken = [(Message(2, 0, HEAD), 1), (Message(2, 0, LENGTH), 0), (Message(2, 0, SLOT), 0)];
+    let changes = [&taken[..], &[(Clock, 4), (Flags(0), 0), (R(0, 3), 65)]].concat();
     let row = |scene: Scene| {
         let scene = scene.asks(0, RECEIVE, 2, 9).message(2, 0, &SINGLE);
         Special::on(scene).tick(SERVICE_DONE, 0, &changes)
