@@ -32,6 +32,10 @@
  * says so each time. An image has an edition in its second word, KERNEL_EDITION today. No word of an edition ever gets
  * another place: what needs that is a new edition. An edition that the library does not know is refused with
  * KERNEL_REFUSED_NOT_MARKED.
+ *
+ * Images saved before 0.5. Once it had run, nearly every one is refused with KERNEL_REFUSED_RULE_BROKEN, though its
+ * edition is the same: words that were taken from its queues are in their slots still, where there must be 0 now. It
+ * is not converted: build the image anew from its plan, and run its events again.
  */
 #ifndef KERNEL_H
 #define KERNEL_H
@@ -45,7 +49,7 @@ extern "C" {
 
 /* The version of this header and of the archive, and the edition of the images that are built. */
 #define KERNEL_VERSION_MAJOR 0
-#define KERNEL_VERSION_MINOR 4
+#define KERNEL_VERSION_MINOR 5
 #define KERNEL_EDITION 1
 
 /* The numbers that come back. kernel_number_text says each in words. */
@@ -150,6 +154,7 @@ extern "C" {
 #define KERNEL_RULE_OUTPUTS 18
 #define KERNEL_RULE_STOPPED 19
 #define KERNEL_RULE_PEERLESS 20
+#define KERNEL_RULE_FREE_SLOTS 21
 
 /* Words of an image that passes the check, which a program may read itself. The segment table begins at the place that
    stands at KERNEL_AT_SEGMENTS: for each task in turn the place of its segment's first word, and its count of words. */
@@ -455,6 +460,7 @@ static inline const char *kernel_rule_text(uint16_t rule)
     case KERNEL_RULE_OUTPUTS: return "does not stand as one that waits for output";
     case KERNEL_RULE_STOPPED: return "stopped without an error";
     case KERNEL_RULE_PEERLESS: return "a peer though it waits for no task";
+    case KERNEL_RULE_FREE_SLOTS: return "old words in free slots";
     default: return "unknown";
     }
 }

@@ -19,6 +19,9 @@ enum { NONE = 65535 };
 enum { TASK_TABLE = 18, READY_QUEUE = 45, STATUS_TABLE = 52, INPUT_OF_1 = 64, OUTPUT_OF_1 = 81, PORTS = 163 };
 enum { FROM_0_TO_1 = 99, FROM_1_TO_0 = 115, FROM_1_TO_2 = 131, TASK_WORDS = 9 };
 
+/* Where the slot of the input buffer stands in the example's image. */
+enum { INPUT_SLOT = 38 };
+
 /* The plan of the paper's example. */
 static const uint16_t plan[] = {1, 2, 1, 1, 1, 4, 2, 4656, 4672};
 
@@ -164,6 +167,22 @@ static void try_the_example(void)
     EXPECT(refused(kernel_event(image, IMAGE_WORDS, KERNEL_INPUT, 1, 65), 7));
     EXPECT(is_told(kernel_event(image, IMAGE_WORDS, KERNEL_INPUT, 0, 65), 0, 8, 0));
     EXPECT(is_ran(kernel_run(image, IMAGE_WORDS, NULL, 0), 0, 0));
+    EXPECT(guarded(IMAGE_WORDS));
+}
+
+/* The example from its fresh image: the input, then the order for it and the service. The character's slot is 0 then, and
+   the image with the character there is refused. */
+static void try_a_taken_slot(void)
+{
+    static const uint16_t events[] = {KERNEL_INPUT, 0, 65, KERNEL_TICK, 0, 0, KERNEL_TICK, 0, 0};
+    clear();
+    EXPECT(kernel_build(plan, COUNT(plan), image, IMAGE_WORDS) == 0);
+    EXPECT(is_ran(kernel_run(image, IMAGE_WORDS, events, KERNEL_EVENT_WORDS), 1, 0) && image[INPUT_SLOT] == 65);
+    EXPECT(is_ran(kernel_run(image, IMAGE_WORDS, events + KERNEL_EVENT_WORDS, 2 * KERNEL_EVENT_WORDS), 2, 0));
+    EXPECT(is_word(kernel_register(image, IMAGE_WORDS, 0, 3), 0, 65) && image[INPUT_SLOT] == 0);
+    image[INPUT_SLOT] = 65;
+    EXPECT(kernel_check(image, IMAGE_WORDS) == KERNEL_REFUSED_RULE_BROKEN);
+    EXPECT(refused(kernel_event(image, IMAGE_WORDS, KERNEL_TICK, 0, 0), 6) && image[INPUT_SLOT] == 65);
     EXPECT(guarded(IMAGE_WORDS));
 }
 
@@ -381,12 +400,12 @@ static void people(void)
     PUT(TASK_TABLE, 100, 101, 102, 103, 104, 105, 106, 107, 2 + 32 * 4);
     PUT(TASK_TABLE + TASK_WORDS, 110, 111, 112, 113, 114, 115, 116, 117, 1 + 4 * 6);
     PUT(TASK_TABLE + 2 * TASK_WORDS, 120, 121, 1, 123, 124, 125, 126, 127, 32 * 2);
-    PUT(READY_QUEUE, 2, 0, 1, 3, 9, 9, 0);
+    PUT(READY_QUEUE, 2, 0, 1, 3, 0, 0, 0);
     PUT(STATUS_TABLE, 0, 0, 5, 0, 2, 1);
     PUT(INPUT_OF_1, 1, 1, 2, 2, 67, 66);
     PUT(OUTPUT_OF_1, 0, 0, 1, 1, 68);
-    PUT(FROM_0_TO_1, 3, 1, 2, 4, 800, 9, 9, 700);
-    PUT(FROM_1_TO_0, 0, 1, 1, 4, 65535, 9, 9, 9);
+    PUT(FROM_0_TO_1, 3, 1, 2, 4, 800, 0, 0, 700);
+    PUT(FROM_1_TO_0, 0, 1, 1, 4, 65535, 0, 0, 0);
     PUT(PORTS, 0, 0, 1, 69);
     EXPECT(kernel_check(image, CROWD_WORDS) == KERNEL_NOT_REFUSED);
 }
@@ -438,12 +457,17 @@ static void try_not_there(void)
     EXPECT(guarded(CROWD_WORDS));
 }
 
-/* A good image, a cut one, and a broken rule of a queue, of the clock and of a task, each before the last. */
+/* A good image, a cut one, and a broken rule of a queue, of a queue before it, of a task, of the clock and of a queue again,
+   each told before the last. */
 static void try_broken_rules(void)
 {
     people();
     EXPECT(no_rule(kernel_broken_rule(image, CROWD_WORDS), 0));
     EXPECT(no_rule(kernel_broken_rule(image, CROWD_WORDS - 1), 5));
+    image[FROM_1_TO_2 + 7] = 9;
+    EXPECT(is_broken(kernel_broken_rule(image, CROWD_WORDS), KERNEL_RULE_FREE_SLOTS, KERNEL_QUEUE_MESSAGES, 1, 2));
+    image[READY_QUEUE + 4] = 2;
+    EXPECT(is_broken(kernel_broken_rule(image, CROWD_WORDS), KERNEL_RULE_FREE_SLOTS, KERNEL_QUEUE_READY, 0, 0));
     image[STATUS_TABLE + 3] = 1;
     EXPECT(is_broken(kernel_broken_rule(image, CROWD_WORDS), KERNEL_RULE_PEERLESS, NONE, 1, NONE));
     image[KERNEL_AT_CLOCK] = 6;
@@ -472,7 +496,8 @@ static void try_words(void)
     EXPECT(same(kernel_error_text(0), "no error") && same(kernel_error_text(6), "output of more than 255"));
     EXPECT(same(kernel_service_text(1), "send") && same(kernel_service_text(4), "output"));
     EXPECT(same(kernel_rule_text(1), "cc, error or pending out of range") && same(kernel_rule_text(0), "unknown"));
-    EXPECT(same(kernel_rule_text(20), "a peer though it waits for no task") && same(kernel_rule_text(21), "unknown"));
+    EXPECT(same(kernel_rule_text(20), "a peer though it waits for no task"));
+    EXPECT(same(kernel_rule_text(21), "old words in free slots") && same(kernel_rule_text(22), "unknown"));
     EXPECT(same(kernel_status_text(6), "unknown") && same(kernel_error_text(7), "unknown"));
     EXPECT(same(kernel_service_text(5), "unknown") && same(kernel_service_text(65535), "unknown"));
 }
@@ -481,6 +506,7 @@ int main(void)
 {
     try_no_words();
     try_the_example();
+    try_a_taken_slot();
     try_a_crowd();
     try_counts();
     try_a_faulted_service();

@@ -113,7 +113,7 @@ pub struct Word {
 pub struct Broken {
     /// 0 to 6, as the image is checked.
     pub number: u16,
-    /// 1 to 20 where the number is 6, else [`NOT_THERE`], as the fields below.
+    /// 1 to 21 where the number is 6, else [`NOT_THERE`], as the fields below.
     pub rule: u16,
     /// The queue that breaks a rule of queues.
     pub queue: u16,

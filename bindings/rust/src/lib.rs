@@ -28,7 +28,8 @@
 //! since: they give the same image and counts again.
 //!
 //! The enums may get more cases, so a `match` on one needs a last arm `_`. An image carries its edition, [`EDITION`]
-//! today; one of an edition that is not known is [`Refusal::NotMarked`].
+//! today; one of an edition that is not known is [`Refusal::NotMarked`]. One that was saved before 0.5, and had run, is
+//! nearly always refused with [`Rule::FreeSlots`], and is not converted: build it anew, and run its events again.
 //!
 //! # Example
 //!

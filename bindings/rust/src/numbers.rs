@@ -243,5 +243,7 @@ numbered! {
         Stopped = 19, "stopped without an error";
         /// 20, of a task that waits neither to send nor to receive: its peer is 0.
         Peerless = 20, "a peer though it waits for no task";
+        /// 21, of a queue: each of its free slots holds 0.
+        FreeSlots = 21, "old words in free slots";
     }
 }

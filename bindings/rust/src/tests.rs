@@ -91,6 +91,34 @@ fn a_run_is_the_events_one_by_one() {
     assert_eq!(by_run, by_events);
 }
 
+/// After the input is done and after the output, the character is in R3 and then at the port, and nowhere else.
+#[test]
+fn a_taken_character_is_in_no_buffer() {
+    let places = |image: &[u16]| (0..image.len()).filter(|at| image[*at] == 65).collect::<Vec<_>>();
+    let mut image = fresh();
+    let events = [TICK, 0, 0, TICK, 0, 0, INPUT, 0, 65, TICK, 0, 0];
+    assert_eq!(run(&mut image, &events), Ok(4));
+    assert_eq!(places(&image), [21]);
+    assert_eq!(run(&mut image, &[TICK; 9]), Ok(3));
+    assert_eq!(places(&image), [21, 50]);
+    assert_eq!(check(&image), Ok(()));
+}
+
+/// The slot of the input buffer stands at 38, that of the ready queue, which the task has left, at 31.
+#[test]
+fn an_image_with_an_old_word_is_refused_by_each_call_and_kept() {
+    for (at, old) in [(38, 65), (31, 1)] {
+        let mut image = fresh();
+        assert_eq!(run(&mut image, &[TICK; 6]), Ok(2));
+        image[at] = old;
+        let before = image.clone();
+        assert_eq!(check(&image), Err(Refusal::RuleBroken));
+        assert_eq!(event(&mut image, TICK, 0, 0), Err(Refusal::RuleBroken));
+        assert_eq!(run(&mut image, &[TICK, 0, 0]), Err(Stopped { taken: 0, refusal: Refusal::RuleBroken }));
+        assert_eq!(image, before);
+    }
+}
+
 #[test]
 fn a_list_of_four_words_is_7_and_no_event_is_taken() {
     let mut image = fresh();

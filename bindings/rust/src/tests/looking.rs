@@ -37,12 +37,12 @@ fn peopled() -> Vec<u16> {
     put(&mut image, row(0), &[100, 101, 102, 103, 104, 105, 106, 107, 2 + 32 * 4]);
     put(&mut image, row(1), &[110, 111, 112, 113, 114, 115, 116, 117, 1 + 4 * 6]);
     put(&mut image, row(2), &[120, 121, 1, 123, 124, 125, 126, 127, 32 * 2]);
-    put(&mut image, READY_QUEUE, &[2, 0, 1, 3, 9, 9, 0]);
+    put(&mut image, READY_QUEUE, &[2, 0, 1, 3, 0, 0, 0]);
     put(&mut image, STATUS_TABLE, &[0, 0, 5, 0, 2, 1]);
     put(&mut image, INPUT_BUFFERS + 6, &[1, 1, 2, 2, 67, 66]);
     put(&mut image, OUTPUT_BUFFERS + 5, &[0, 0, 1, 1, 68]);
-    put(&mut image, messages(0, 1), &[3, 1, 2, 4, 800, 9, 9, 700]);
-    put(&mut image, messages(1, 0), &[0, 1, 1, 4, 65535, 9, 9, 9]);
+    put(&mut image, messages(0, 1), &[3, 1, 2, 4, 800, 0, 0, 700]);
+    put(&mut image, messages(1, 0), &[0, 1, 1, 4, 65535, 0, 0, 0]);
     put(&mut image, PORTS, &[0, 0, 1, 69]);
     image
 }
@@ -144,6 +144,8 @@ fn a_broken_rule_is_told_with_what_breaks_it() {
     assert_eq!(broken_by(crate::AT_CLOCK, &[6]), is(Rule::ClockRange, Subject::Clock));
     assert_eq!(broken_by(row(1) + 8, &[0]), is(Rule::Stopped, Subject::Task(1)));
     assert_eq!(broken_by(STATUS_TABLE + 1, &[2]), is(Rule::Peerless, Subject::Task(0)));
+    assert_eq!(broken_by(READY_QUEUE + 5, &[1]), is(Rule::FreeSlots, Subject::Queue(Queue::Ready)));
+    assert_eq!(broken_by(messages(1, 2) + 7, &[9]), is(Rule::FreeSlots, Subject::Queue(from_1_to_2)));
 }
 
 #[test]
@@ -155,6 +157,8 @@ fn a_broken_rule_is_said_in_words() {
     assert_eq!(said(READY_QUEUE + 6, &[3]), "ready queue: holds a word that is no task");
     assert_eq!(said(crate::AT_CLOCK, &[6]), "clock over the slice");
     assert_eq!(said(row(1) + 8, &[0]), "task 1: stopped without an error");
+    assert_eq!(said(messages(1, 2) + 4, &[9]), "messages from 1 to 2: old words in free slots");
+    assert_eq!(said(READY_QUEUE + 4, &[2]), "ready queue: old words in free slots");
 }
 
 // The archive's own functions: no two fields of an answer are the same in all of the cases. The calls are safe as

@@ -93,7 +93,7 @@ fn a_case_is_found_by_its_number_and_no_other_number_has_one() {
     assert!(Refusal::ALL.iter().all(|case| Refusal::with_number(case.number()) == Some(*case)));
     assert_eq!((0..=u16::MAX).filter_map(Refusal::with_number).collect::<Vec<_>>(), Refusal::ALL);
     assert_eq!(Refusal::with_number(10), None);
-    assert_eq!((0..=u16::MAX).filter_map(Rule::with_number).count(), 20);
+    assert_eq!((0..=u16::MAX).filter_map(Rule::with_number).count(), 21);
     assert_eq!((Kind::with_number(0), Kind::with_number(10)), (Some(Kind::Idle), None));
     assert_eq!((TaskError::with_number(0), Service::with_number(0)), (None, None));
 }
