@@ -71,6 +71,12 @@ steps-to h k c hc hk =
     (λ l. (k + c - h, omega arith, steps-mod h (k + c - h) c hc ∙ ap (λ (x : ℕ). x % c) (omega arith) ∙ mod-high {x = k + c} {c = c} (omega arith) (omega arith) ∙ omega arith))
     (λ n. (k - h, omega arith, steps-mod h (k - h) c hc ∙ ap (λ (x : ℕ). x % c) (omega arith) ∙ mod-low hk))
 
+-- where that many steps lead, without a remainder
+pub steps-far : (h n c : ℕ) → h < c → n < c → ((h + n < c) × (steps h n c ≡ h + n)) ⊎ ((c ≤ h + n) × (steps h n c ≡ h + n - c))
+steps-far h n c hc hn =
+    dite (decLt (h + n) c) (λ l. inl (l, steps-mod h n c hc ∙ mod-low l))
+    (λ m. inr (omega arith, steps-mod h n c hc ∙ mod-high {x = h + n} {c = c} (omega arith) (omega arith)))
+
 -- fewer than capacity steps do not come back
 steps-away : (h n c : ℕ) → h < c → suc n < c → h ≢ steps h (suc n) c
 steps-away h n c hc hn e =

@@ -8,11 +8,11 @@ use native.Mathlib.Omega.{arith}
 use borrow.Author.Tests.{eq-eqb}
 use Rattle.paper.specs.Image.{at}
 use Rattle.paper.specs.Queues.{Has, header-capacity, head, tail, count, capacity, slot, step, words-from, held, free}
-use Rattle.paper.specs.Rules.{Zeros, times, Good}
+use Rattle.paper.specs.Rules.{times, Good}
 use Rattle.paper.specs.declared.Shape.{Shape}
 use Rattle.paper.specs.declared.Queue.{Queue}
 use Rattle.laws.specs.Steps.{steps, steps-add, steps-to}
-use Rattle.laws.specs.Queues.{round-steps}
+use Rattle.laws.specs.Queues.{zero-among, round-steps}
 
 -- a list holds a word
 abbrev pub Holds : List ℕ → ℕ → Type 0
@@ -28,12 +28,6 @@ module _ (s : Shape) (im : List ℕ) (q : Queue) where
   among h zero j l = absurd (omega arith)
   among h (suc n) zero l = let x = at s im (slot s q h) in rw (eq-eqb x x refl) (omega arith)
   among h (suc n) (suc j) l = omega (arith, among (step h (at s im (capacity s q))) n j (omega arith))
-
-  -- and it is 0, where all of them are
-  zero-among : (h n j : ℕ) → j < n → Zeros (words-from s im q h n) → at s im (slot s q (steps h j (at s im (capacity s q)))) ≡ 0
-  zero-among h zero j l z = absurd (omega arith)
-  zero-among h (suc n) zero l z = z .0
-  zero-among h (suc n) (suc j) l z = zero-among (step h (at s im (capacity s q))) n j (omega arith) (z .1)
 
 -- THE SLOTS: each word of a queue's slots that is not 0 is a word that the queue holds
 pub slots-held : (s : Shape) (im : List ℕ) → Good s im → (q : Queue) → Has s q → (w : ℕ) → w ≢ 0 → OnlyHeld s im q w
