@@ -8,9 +8,9 @@ use native.Mathlib.Omega.{arith}
 use borrow.Author.Tests.{lt-ltb, le-ltb}
 use lib.Dec.{eqb, leb, ltb}
 use Rattle.paper.specs.Image.{lead, most-capacity, most-character, cell, Valid, at}
-use Rattle.paper.specs.Queues.{Has, header-capacity, queue-word, head, tail, count, capacity, slot, step, words-from, held}
+use Rattle.paper.specs.Queues.{Has, header-capacity, queue-word, head, tail, count, capacity, slot, step, words-from, held, free}
 use Rattle.paper.specs.Rules.{Queued}
-use Rattle.paper.specs.Tests.{all-below, queued, buffers-hold, characters}
+use Rattle.paper.specs.Tests.{all-below, queued, cleared, buffers-hold, characters}
 use Rattle.paper.specs.declared.Task.{Task}
 use Rattle.paper.specs.declared.Shape.{Shape}
 use Rattle.paper.specs.declared.Cell.{Cell}
@@ -47,11 +47,15 @@ module _ (s : Shape) (im : List ℕ) (q : Queue) (ok : queued s im q ≡ true) w
   rules : Queued s im q
   rules = queued-is s im q .0 ok
 
-  pub capacity-given : (g c : ℕ) → g ≡ c → c ≡ at s im (capacity s q) → g ≡ header-capacity s q
-  capacity-given g c eg ec = eg ∙ ec ∙ rules .sized
-
   pub head-inside : (a h : ℕ) → a ≡ h → h ≡ at s im (head s q) → a < header-capacity s q
   head-inside a h ea eh = omega (arith, rules .headed, rules .sized)
+
+  pub tail-inside : (a t : ℕ) → a ≡ t → t ≡ at s im (tail s q) → a < header-capacity s q
+  tail-inside a t ea et = omega (arith, rules .tailed, rules .sized)
+
+  -- no more words are held than there are slots
+  pub count-inside : (a n g : ℕ) → a ≡ n → n ≡ at s im (count s q) → g ≡ header-capacity s q → a ≤ g
+  count-inside a n g ea en eg = omega (arith, rules .counted, rules .sized)
 
   module _ (a : ℕ) (inside : a < header-capacity s q) (g b : ℕ) (eg : g ≡ header-capacity s q) (eb : b ≡ (a + 1) % g) where
     pub next-step : b ≡ step a (at s im (capacity s q))
@@ -74,9 +78,6 @@ pub held-none : (s : Shape) (im : List ℕ) (q : Queue) (a n : ℕ) → n ≤ 0 
 held-none s im q a n h = let e : n ≡ 0 = omega arith in rw e
 
 module _ (s : Shape) (im : List ℕ) (q : Queue) (m a n : ℕ) where
-  pub below-start : a ≡ at s im (head s q) → n ≡ at s im (count s q) → all-below m (words-from s im q a n) ≡ all-below m (held s im q)
-  below-start ea en = rw (held-from s im q a n ea en)
-
   module _ (all : Bool) (so-far : all-below m (words-from s im q a n) ≡ all) where
     pub below-fails : (v r w : ℕ) → 0 < n → v ≡ a → r ≡ at s im (slot s q v) → w ≡ r → m ≤ w → false ≡ all
     below-fails v r w h ev er ew l =
@@ -92,13 +93,24 @@ module _ (s : Shape) (im : List ℕ) (q : Queue) (m a n : ℕ) where
     pub below-done : n ≤ 0 → true ≡ all
     below-done h = rw (held-none s im q a n h) at so-far
 
+-- the words held, and those of the free slots
+module _ (s : Shape) (im : List ℕ) (q : Queue) (o : Bool) where
+  pub held-tested : (a h m c n : ℕ) → h ≡ at s im (head s q) → a ≡ h → c ≡ at s im (count s q) → n ≡ c → o ≡ all-below m (words-from s im q a n)
+      → o ≡ all-below m (held s im q)
+  held-tested a h m c n eh ea ec en eo = eo ∙ rw (held-from s im q a n (ea ∙ eh) (en ∙ ec))
+
+  pub cleared-tested : queued s im q ≡ true → (a t c n g : ℕ) → t ≡ at s im (tail s q) → a ≡ t → c ≡ at s im (count s q) → n ≡ c → g ≡ header-capacity s q
+      → o ≡ all-below 1 (words-from s im q a (g - n)) → o ≡ cleared s im q
+  unfolding cleared free
+  cleared-tested ok a t c n g et ea ec en eg eo = let e = rules s im q ok .sized in rw (eo, ea, et, en, ec, eg, e)
+
 -- the input and the output buffer of task i
 module _ (s : Shape) (im : List ℕ) (i : Task) where
   pub input-queued : buffers-hold s im i ≡ true → queued s im (Queue.Input i) ≡ true
-  input-queued h = queued-is s im (Queue.Input i) .1 (buffers-are s im i .0 h .0)
+  input-queued h = queued-is s im (Queue.Input i) .1 (buffers-are s im i .0 h .0 .0)
 
   pub output-queued : buffers-hold s im i ≡ true → queued s im (Queue.Output i) ≡ true
-  output-queued h = queued-is s im (Queue.Output i) .1 (buffers-are s im i .0 h .1)
+  output-queued h = queued-is s im (Queue.Output i) .1 (buffers-are s im i .0 h .1 .0)
 
   pub characters-tested : (a b o : Bool) → a ≡ all-below (most-character + 1) (held s im (Queue.Input i))
       → b ≡ all-below (most-character + 1) (held s im (Queue.Output i)) → o ≡ (a && b) → o ≡ characters s im i

@@ -59,8 +59,8 @@ module _ (s : Shape) (im : List ℕ) (z : Sized s im) where
         sym (every-is (s .n) _ .1 (λ k l.
         let b = buffers-are s im (task k) .0 (every-is (s .n) _ .0 all k l) in
         rw (
-          held-low (Queue.Input (task k)) (most-character + 1) (b .0) (slot-low (Queue.Input (task k)) l (omega arith) (omega arith)),
-          held-low (Queue.Output (task k)) (most-character + 1) (b .1) (slot-low (Queue.Output (task k)) l (omega arith) (omega arith)),
+          held-low (Queue.Input (task k)) (most-character + 1) (b .0 .0) (slot-low (Queue.Input (task k)) l (omega arith) (omega arith)),
+          held-low (Queue.Output (task k)) (most-character + 1) (b .1 .0) (slot-low (Queue.Output (task k)) l (omega arith) (omega arith)),
         )
         refl))
 

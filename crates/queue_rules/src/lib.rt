@@ -4,8 +4,8 @@ ghost use mathlib.Core.Bool.{true};
 ghost use Prim.Native.Nat.{_+_, _%_, _<_, _≤_};
 ghost use lib.ListN.{length};
 ghost use Rattle.paper.specs.Image.{lead, most-capacity, most-words, at as word-at};
-ghost use Rattle.paper.specs.Queues.{Has, header-capacity, queue-word, held};
-ghost use Rattle.paper.specs.Tests.{every, all-below, every-task, queued as is-queued, buffers-hold as do-buffers-hold, characters as are-characters};
+ghost use Rattle.paper.specs.Queues.{Has, header-capacity, queue-word, words-from, held};
+ghost use Rattle.paper.specs.Tests.{every, all-below, every-task, queued as is-queued, cleared as is-cleared, buffers-hold as do-buffers-hold, characters as are-characters};
 ghost use Rattle.paper.specs.declared.Queue.the-variants.{Ready};
 ghost use Rattle.laws.specs.Sound.{Sized};
 ghost use Rattle.queue_rules.specs.BufferRows.{leads, row-right, row-at, RowsBetween, RightUpTo, Covers};
@@ -30,6 +30,9 @@ use places::load;
 use places::start_of;
 use places::wide;
 use places::word_of;
+
+// Words of free slots are below this.
+const ABOVE_ZERO: usize = 1;
 
 // Characters are below this.
 pub const CHARACTERS: usize = MOST_CHARACTER as usize + 1;
@@ -183,16 +186,17 @@ pub fn queued(s: Shape, im: &[u16], q: Queue) -> bool
     leads_right(capacity_of(s, q), head, tail, count, capacity)
 }
 
-// Whether each word that a queue holds is below m.
-pub fn held_below(s: Shape, im: &[u16], q: Queue, m: usize) -> bool
+// Whether so many words of a queue, from a slot on, are below m.
+fn words_below(s: Shape, im: &[u16], q: Queue, from: usize, n: usize, m: usize) -> bool
     requires { ⌜ Sized s (now im) ⌝ }
     requires { ⌜ Has s q ⌝ }
     requires { ⌜ is-queued s (now im) q ≡ true ⌝ }
-    ensures { λ r. ⌜ r ≡ all-below m (held s (now (im .entry)) q) ⌝ }
+    requires { ⌜ from < header-capacity s q ⌝ }
+    ensures { λ r. ⌜ r ≡ all-below m (words-from s (now (im .entry)) q from n) ⌝ }
 {
-    let capacity = wide(queue_word(s, im, q, CAPACITY));
-    let mut slot = wide(queue_word(s, im, q, HEAD));
-    let mut left = queue_word(s, im, q, COUNT);
+    let capacity = capacity_of(s, q);
+    let mut slot = from;
+    let mut left = n;
     while 0 < left {
         if m <= wide(queue_word(s, im, q, LEAD_WORDS + slot)) {
             return false;
@@ -201,6 +205,30 @@ pub fn held_below(s: Shape, im: &[u16], q: Queue, m: usize) -> bool
         left -= 1;
     }
     true
+}
+
+// Whether each word that a queue holds is below m.
+pub fn held_below(s: Shape, im: &[u16], q: Queue, m: usize) -> bool
+    requires { ⌜ Sized s (now im) ⌝ }
+    requires { ⌜ Has s q ⌝ }
+    requires { ⌜ is-queued s (now im) q ≡ true ⌝ }
+    ensures { λ r. ⌜ r ≡ all-below m (held s (now (im .entry)) q) ⌝ }
+{
+    let head = wide(queue_word(s, im, q, HEAD));
+    let count = wide(queue_word(s, im, q, COUNT));
+    words_below(s, im, q, head, count, m)
+}
+
+// Whether every free slot of a queue has 0.
+pub fn cleared(s: Shape, im: &[u16], q: Queue) -> bool
+    requires { ⌜ Sized s (now im) ⌝ }
+    requires { ⌜ Has s q ⌝ }
+    requires { ⌜ is-queued s (now im) q ≡ true ⌝ }
+    ensures { λ r. ⌜ r ≡ is-cleared s (now (im .entry)) q ⌝ }
+{
+    let tail = wide(queue_word(s, im, q, TAIL));
+    let count = wide(queue_word(s, im, q, COUNT));
+    words_below(s, im, q, tail, capacity_of(s, q) - count, ABOVE_ZERO)
 }
 
 // Counts how often the ready queue holds each task, up to a word that is no task; whether there is none.
