@@ -34,9 +34,8 @@ use paper::Task;
 use paper::Verdict;
 use places::word_of;
 use queue_rules::buffers_hold;
-use queue_rules::characters_hold;
 use queue_rules::count_ready;
-use queue_rules::queued;
+use queue_rules::ready_holds;
 use task_rules::flags_hold;
 use task_rules::is_empty;
 use task_rules::port_holds;
@@ -118,16 +117,13 @@ fn rules_hold(s: Shape, im: &[u16]) -> bool
     requires { ⌜ Sized s (now im) ⌝ }
     ensures { λ r. ⌜ r ≡ do-rules-hold s (now (im .entry)) ⌝ }
 {
-    if !queued(s, im, Queue::Ready) {
+    if !ready_holds(s, im) {
         return false;
     }
     if !clock_holds(s, im) {
         return false;
     }
     if !buffers_hold(s, im) {
-        return false;
-    }
-    if !characters_hold(s, im) {
         return false;
     }
     let mut found: [u8; MOST_TASKS] = [0; MOST_TASKS];

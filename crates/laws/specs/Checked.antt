@@ -11,7 +11,7 @@ use lib.Dec.{eqb, leb, lit<}
 use lib.ListN.{length, getD}
 use lib.Seq.{ext-getD}
 use Rattle.paper.specs.Image.{task, header-words, mark, edition, most-tasks, most-slice, most-capacity, most-words, most-character, offsets, total, header, header-word, shape-of, segment-start, at, clock, base, len}
-use Rattle.paper.specs.Queues.{Has, held, free, empty, full}
+use Rattle.paper.specs.Queues.{Has, capacity, slot, step, words-from, held, free, empty, full}
 use Rattle.paper.specs.Rules.{Within, Laid, Flagged, Queued, Empty, Characters, Zeros, times, Ready, Ported, Stands, Good}
 use Rattle.paper.specs.Tests.{every, all-below, queued, cleared, queue-holds, readied-tasks, clock-holds, buffers-hold, characters, readied-once, port-holds, flags-hold, status-holds, task-holds, rules-hold}
 use Rattle.paper.specs.Numbers.{number, verdict-number, refused-if, too-short, not-marked, out-of-range, not-packed, segment-right, wrong-segments, check, and-then}
@@ -21,6 +21,7 @@ use Rattle.paper.specs.declared.Queue.{Queue}
 use Rattle.paper.specs.declared.Refusal.{Refusal}
 use Rattle.paper.specs.declared.Verdict.{Verdict}
 use Rattle.laws.specs.Layout.{shape-is, smallest-total}
+use Rattle.laws.specs.Steps.{steps}
 use Rattle.laws.specs.Sound.{Sound, shut}
 
 -- two numbers are equal
@@ -37,7 +38,7 @@ denied true = (λ e _. false≢true e, λ f. absurd (f refl))
 denied false = (λ _ e. false≢true e, λ _. refl)
 
 -- where a holds, b does
-implied : (a b : Bool) → So (not a || b) ↔ (So a → So b)
+pub implied : (a b : Bool) → So (not a || b) ↔ (So a → So b)
 implied true b = (λ e _. e, λ f. f refl)
 implied false b = (λ _ e. absurd (false≢true e), λ _. refl)
 
@@ -84,6 +85,20 @@ characters-are (w ∷ ws) = simp (tests, characters-are ws) (λ h. (omega arith,
 zeros-are : (ws : List ℕ) → So (all-below 1 ws) ↔ Zeros ws
 zeros-are [] = (λ _. tt, λ _. refl)
 zeros-are (w ∷ ws) = simp (tests, zeros-are ws) (λ h. (omega arith, h .1), λ h. (omega arith, h .1))
+
+-- the words of n slots from slot h on are below m
+pub slots-below : (s : Shape) (im : List ℕ) (q : Queue) (m h n : ℕ) → So (all-below m (words-from s im q h n)) ↔
+    ((i : ℕ) → i < n → at s im (slot s q (steps h i (at s im (capacity s q)))) < m)
+slots-below s im q m h zero = (λ _ i l. absurd (omega arith), λ _. refl)
+slots-below s im q m h (suc n) =
+    simp (tests, slots-below s im q m (step h (at s im (capacity s q))) n)
+    (λ a i l. first-or-later a i l, λ f. (f 0 (omega arith), λ i l. f (suc i) (omega arith)))
+  where
+    first-or-later : (at s im (slot s q h) < m) ×
+        ((i : ℕ) → i < n → at s im (slot s q (steps (step h (at s im (capacity s q))) i (at s im (capacity s q)))) < m)
+        → (i : ℕ) → i < suc n → at s im (slot s q (steps h i (at s im (capacity s q)))) < m
+    first-or-later a zero l = a .0
+    first-or-later a (suc i) l = a .1 i (omega arith)
 
 -- a list of words below m holds no other word
 below-is : (m : ℕ) (ws : List ℕ) → So (all-below m ws) ↔ ((x : ℕ) → m ≤ x → times x ws ≡ 0)

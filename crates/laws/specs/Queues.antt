@@ -2,8 +2,8 @@
 use mathlib.Core.Path.{_≡_, refl, sym, ap, _∙_}
 use mathlib.Core.List.{List, [], _∷_, _++_}
 use mathlib.Core.Bool.{not}
-use mathlib.Core.Logic.{_≢_, _↔_, _⊎_, inl, inr, ⊎-elim, dite}
-use Prim.Native.Nat.{ℕ, zero, suc, _+_, _-_, _<_, _≤_}
+use mathlib.Core.Logic.{_≢_, _⊎_, inl, inr, dite}
+use Prim.Native.Nat.{ℕ, zero, suc, _+_, _-_, _<_}
 use native.Mathlib.Numerals.{add-one}
 use native.Mathlib.Decide.{ℕ-discrete}
 use native.Mathlib.Omega.{arith}
@@ -19,7 +19,7 @@ use Rattle.paper.specs.declared.Part.{Part}
 use Rattle.paper.specs.declared.Queue.{Queue}
 use Rattle.laws.specs.Places.{row-below, row-same, column-same, one-cell}
 use Rattle.laws.specs.Cells.{at-same, at-other, length-put}
-use Rattle.laws.specs.Steps.{step-below, steps, steps-mod, steps-below, steps-on, steps-add, steps-round, steps-to, steps-far, steps-apart}
+use Rattle.laws.specs.Steps.{step-below, steps, steps-mod, steps-below, steps-on, steps-add, steps-round, steps-apart}
 
 -- a queue is a row of its part, of four words and its slots
 pub queue-row : (s : Shape) (q : Queue) → Has s q → row-of s q < rows s (part-of q)
@@ -156,10 +156,6 @@ module _ (s : Shape) (m : List ℕ) (q : Queue) (has : Has s q) (k v : ℕ) (hk 
 zeros-and-one : (ws : List ℕ) → Zeros ws → Zeros (ws ++ (0 ∷ []))
 zeros-and-one [] z = (refl, tt)
 zeros-and-one (w ∷ ws) z = (z .0, zeros-and-one ws (z .1))
-
--- slot k lies outside of n words held from slot h on, of c slots
-abbrev pub Outside : ℕ → ℕ → ℕ → ℕ → Type 0
-Outside h n c k = (k < h → h + n ≤ k + c) × (h ≤ k → h + n ≤ k)
 
 module _ (s : Shape) (im : List ℕ) (q : Queue) (has : Has s q) (long : length im ≡ total s) (r : Queued s im q) where
   -- the paper's (head + length) mod capacity = tail, as steps
@@ -319,31 +315,6 @@ module _ (s : Shape) (im : List ℕ) (q : Queue) (has : Has s q) (long : length 
       let c = at s im (capacity s q) in
       let whole : n + (c - n) ≡ c = omega (arith, r .counted) in
       rw (← round-steps, ← steps-add h n (c - n) c) (ap (λ (x : ℕ). steps h x c) whole ∙ steps-round h c (r .headed))
-
-  -- the free slots are 0 exactly where each slot is that lies outside of the words held
-  pub free-slots : Zeros (free s im q) ↔
-      ((k : ℕ) → k < at s im (capacity s q) → Outside (at s im (head s q)) (at s im (count s q)) (at s im (capacity s q)) k → at s im (slot s q k) ≡ 0)
-  unfolding free
-  free-slots =
-      let h = at s im (head s q) in
-      let n = at s im (count s q) in
-      let c = at s im (capacity s q) in
-      let t = at s im (tail s q) in
-      let from : (i : ℕ) → steps t i c ≡ steps h (n + i) c = λ i. sym (steps-add h n i c ∙ ap (λ (x : ℕ). steps x i c) round-steps) in (
-        λ z k l out.
-            let way = steps-to h k c (r .headed) l in
-            let j = way .0 in
-            let late : n ≤ j =
-            ⊎-elim (λ a. omega (arith, way .2, out .1 (omega (arith, way .2)))) (λ a. omega (arith, way .2, out .0 (omega (arith, way .2, way .1))))
-            (steps-far h j c (r .headed) (way .1)) in
-            let parts : n + (j - n) ≡ j = omega arith in
-            ap (λ (x : ℕ). at s im (slot s q x)) (sym (from (j - n) ∙ ap (λ (x : ℕ). steps h x c) parts ∙ way .2)) ∙
-            zero-among s im q t (c - n) (j - n) (omega (arith, way .1)) z,
-        λ f. zero-words s im q t (c - n) (λ i l.
-            f (steps t i c) (steps-below t i c (r .tailed))
-            (⊎-elim (λ a. (λ b. omega (arith, from i), λ b. omega (arith, from i))) (λ a. (λ b. omega (arith, from i), λ b. omega (arith, from i)))
-            (steps-far h (n + i) c (r .headed) (omega arith)))),
-      )
 
   -- the slot that a word is stored in was the first of the free ones
   pub appended-free : (v : ℕ) → at s im (count s q) < at s im (capacity s q)

@@ -1,6 +1,6 @@
 -- The wrapped step, and several steps on: as the paper's remainder. Assumes nothing.
 use mathlib.Core.Path.{_≡_, refl, sym, ap, _∙_}
-use mathlib.Core.Logic.{_≢_, _⊎_, inl, inr, ⊎-elim, dite}
+use mathlib.Core.Logic.{_≢_, _↔_, _⊎_, inl, inr, ⊎-elim, dite}
 use Prim.Native.Nat.{ℕ, zero, suc, _+_, _-_, _%_, _<_, _≤_}
 use native.Mathlib.Nat.{mod-eq-of-lt, mod-eq-sub-mod, mod-add-mod, add-zero, zero-add, suc-add}
 use native.Mathlib.Decide.{decLt}
@@ -76,6 +76,30 @@ pub steps-far : (h n c : ℕ) → h < c → n < c → ((h + n < c) × (steps h n
 steps-far h n c hc hn =
     dite (decLt (h + n) c) (λ l. inl (l, steps-mod h n c hc ∙ mod-low l))
     (λ m. inr (omega arith, steps-mod h n c hc ∙ mod-high {x = h + n} {c = c} (omega arith) (omega arith)))
+
+-- slot k lies outside of n slots from slot h on, of c slots
+abbrev pub Outside : ℕ → ℕ → ℕ → ℕ → Type 0
+Outside h n c k = (k < h → h + n ≤ k + c) × (h ≤ k → h + n ≤ k)
+
+-- the slots from the end of those on, round to their start, are those outside of them
+pub outside-steps : (P : ℕ → Type 0) (h n c t : ℕ) → h < c → n ≤ c → steps h n c ≡ t
+    → ((i : ℕ) → i < c - n → P (steps t i c)) ↔ ((k : ℕ) → k < c → Outside h n c k → P k)
+outside-steps P h n c t hc hn e =
+    let from : (i : ℕ) → steps t i c ≡ steps h (n + i) c = λ i. sym (steps-add h n i c ∙ ap (λ (x : ℕ). steps x i c) e) in (
+      λ f k l out.
+          let way = steps-to h k c hc l in
+          let j = way .0 in
+          let late : n ≤ j =
+          ⊎-elim (λ a. omega (arith, way .2, out .1 (omega (arith, way .2)))) (λ a. omega (arith, way .2, out .0 (omega (arith, way .2, way .1))))
+          (steps-far h j c hc (way .1)) in
+          let parts : n + (j - n) ≡ j = omega arith in
+          let there : steps t (j - n) c ≡ k = from (j - n) ∙ ap (λ (x : ℕ). steps h x c) parts ∙ way .2 in
+          rw there at (f (j - n) (omega (arith, way .1))),
+      λ f i l.
+          f (steps t i c) (rw (from i) (steps-below h (n + i) c hc))
+          (⊎-elim (λ a. (λ b. omega (arith, from i), λ b. omega (arith, from i))) (λ a. (λ b. omega (arith, from i), λ b. omega (arith, from i)))
+          (steps-far h (n + i) c hc (omega arith))),
+    )
 
 -- fewer than capacity steps do not come back
 steps-away : (h n c : ℕ) → h < c → suc n < c → h ≢ steps h (suc n) c

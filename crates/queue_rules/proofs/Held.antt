@@ -103,16 +103,3 @@ module _ (s : Shape) (im : List ℕ) (q : Queue) (o : Bool) where
       → o ≡ all-below 1 (words-from s im q a (g - n)) → o ≡ cleared s im q
   unfolding cleared free
   cleared-tested ok a t c n g et ea ec en eg eo = let e = rules s im q ok .sized in rw (eo, ea, et, en, ec, eg, e)
-
--- the input and the output buffer of task i
-module _ (s : Shape) (im : List ℕ) (i : Task) where
-  pub input-queued : buffers-hold s im i ≡ true → queued s im (Queue.Input i) ≡ true
-  input-queued h = queued-is s im (Queue.Input i) .1 (buffers-are s im i .0 h .0 .0)
-
-  pub output-queued : buffers-hold s im i ≡ true → queued s im (Queue.Output i) ≡ true
-  output-queued h = queued-is s im (Queue.Output i) .1 (buffers-are s im i .0 h .1 .0)
-
-  pub characters-tested : (a b o : Bool) → a ≡ all-below (most-character + 1) (held s im (Queue.Input i))
-      → b ≡ all-below (most-character + 1) (held s im (Queue.Output i)) → o ≡ (a && b) → o ≡ characters s im i
-  unfolding characters
-  characters-tested a b o ea eb eo = rw (eo, ea, eb)

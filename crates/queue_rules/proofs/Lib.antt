@@ -1,6 +1,7 @@
 pub mod Buffers
 pub mod Counting
 pub mod Held
+pub mod Lanes
 pub mod Leads
-pub mod LowWords
 pub mod Passing
+pub mod Rows

@@ -1,33 +1,26 @@
--- Rows gone over one after another, and the bits of many words. Assumes nothing.
+-- Rows gone over one after another. Assumes nothing.
 use mathlib.Core.Path.{_≡_, sym, _∙_}
 use mathlib.Core.List.{List}
-use mathlib.Core.Bool.{Bool, true, false, not}
+use mathlib.Core.Bool.{Bool, true, false}
 use mathlib.Core.Logic.{dite}
 use Prim.Native.Nat.{ℕ, suc, _+_, _-_, _*_, _<_, _≤_}
 use native.Mathlib.Nat.{mul-le-mul-right}
-use native.Mathlib.Decide.{ℕ-discrete, decLt}
+use native.Mathlib.Decide.{decLt}
 use native.Mathlib.Omega.{arith}
-use borrow.Author.Tests.{not-true, not-false}
-use lib.Bits.{bitOr, or-add-and, and-le-l, and-le-r}
 use lib.ListN.{getD}
 use Rattle.paper.specs.Image.{lead, word, place-at}
 use Rattle.paper.specs.Tests.{every}
 use Rattle.paper.specs.declared.Place.{Place}
 use Rattle.laws.specs.Every.{every-none, every-more, every-fails, every-done}
 use Rattle.laws.specs.Checked.{every-is}
-use Rattle.queue_rules.specs.BufferRows.{leads, row-right, row-at, RowsBetween, RightUpTo, Covers}
+use Rattle.queue_rules.specs.Failing.{together}
+use Rattle.queue_rules.specs.BufferRows.{leads, row-queued, row-right, row-at, RowsBetween, RightUpTo, AllRight}
 
 -- the four words, read
-module _ (im : List ℕ) (p : Place) (given : ℕ) (r : Bool) where
-  pub row-tested : r ≡ leads given (word im p) (getD im (p .0 + 1) 0) (getD im (p .0 + 2) 0) (getD im (p .0 + 3) 0) → r ≡ row-right im p given
-  unfolding row-right
-  row-tested e = e
-
-  -- and of a queue never used
-  pub unused-tested : (r ≡ true → leads given (word im p) (getD im (p .0 + 1) 0) (getD im (p .0 + 2) 0) (getD im (p .0 + 3) 0) ≡ true)
-      → r ≡ true → row-right im p given ≡ true
-  unfolding row-right
-  unused-tested f e = f e
+pub row-tested : (im : List ℕ) (p : Place) (given : ℕ) (r : Bool)
+    → r ≡ leads given (word im p) (getD im (p .0 + 1) 0) (getD im (p .0 + 2) 0) (getD im (p .0 + 3) 0) → r ≡ row-queued im p given
+unfolding row-queued
+row-tested im p given r e = e
 
 -- one row or more is left
 module _ (from end : Place) (given : ℕ) (r : RowsBetween from end given) (l : from .0 < end .0) where
@@ -46,74 +39,60 @@ module _ (from end : Place) (given : ℕ) (r : RowsBetween from end given) (l : 
             omega arith;
       }
 
--- no row passed yet; rows passed one part after another; one row
-pub passed-none : (im : List ℕ) (from end : Place) (given : ℕ) → RowsBetween from end given → RightUpTo im from end given from
-passed-none im from end given r = record { k = 0; here = omega arith; right = every-none _; left = r }
+module _ (im : List ℕ) (from end : Place) (given : ℕ) (typed : Bool) where
+  -- no row passed yet; rows passed one part after another; one row
+  pub passed-none : RowsBetween from end given → RightUpTo im from end given typed from
+  passed-none r = record { k = 0; here = omega arith; right = every-none _; left = r }
 
-passed-both : (im : List ℕ) (from end : Place) (given : ℕ) (at next : Place) → RightUpTo im from end given at → RightUpTo im at end given next
-    → RightUpTo im from end given next
-passed-both im from end given at next p q =
-    record {
-      k = p .k + q .k;
-      here = omega (arith, p .here, q .here);
-      right = every-is (p .k + q .k) _ .1 (λ j h.
-          dite (decLt j (p .k)) (λ b. every-is (p .k) _ .0 (p .right) j b) (λ nb.
-          let ij : j ≡ p .k + (j - p .k) = omega (arith, nb) in
-          let place : row-at from given (p .k + (j - p .k)) .0 ≡ row-at at given (j - p .k) .0 = omega (arith, p .here) in
-          rw (ij, place) (every-is (q .k) _ .0 (q .right) (j - p .k) (omega (arith, nb, h)))));
-      left = q .left;
-    }
+  pub passed-both : (at next : Place) → RightUpTo im from end given typed at → RightUpTo im at end given typed next → RightUpTo im from end given typed next
+  passed-both at next p q =
+      record {
+        k = p .k + q .k;
+        here = omega (arith, p .here, q .here);
+        right = every-is (p .k + q .k) _ .1 (λ j h.
+            dite (decLt j (p .k)) (λ b. every-is (p .k) _ .0 (p .right) j b) (λ nb.
+            let ij : j ≡ p .k + (j - p .k) = omega (arith, nb) in
+            let place : row-at from given (p .k + (j - p .k)) .0 ≡ row-at at given (j - p .k) .0 = omega (arith, p .here) in
+            rw (ij, place) (every-is (q .k) _ .0 (q .right) (j - p .k) (omega (arith, nb, h)))));
+        left = q .left;
+      }
 
-module _ (im : List ℕ) (from end : Place) (given : ℕ) (at : Place) (p : RightUpTo im from end given at) (l : at .0 < end .0) (r : Bool)
-    (tells : r ≡ true → row-right im at given ≡ true) (passes : not r ≡ false) where
-  abbrev next-row : Place
-  next-row = place-at (at .0 + (lead + given))
+  module _ (at : Place) (p : RightUpTo im from end given typed at) (l : at .0 < end .0) where
+    pub passed-one : row-right im at given typed ≡ true → RightUpTo im from end given typed (place-at (at .0 + (lead + given)))
+    passed-one right =
+        let here : row-at at given 0 .0 ≡ at .0 = omega arith in
+        let one = every-more 0 (λ j. row-right im (row-at at given j) given typed) (every-none _) (rw here right) in
+        passed-both at _ p record { k = 1; here = omega arith; right = one; left = rows-after at end given (p .left) l }
 
-  pub passed-one : RightUpTo im from end given next-row
-  passed-one =
-      let here : row-at at given 0 .0 ≡ at .0 = omega arith in
-      let right = every-more 0 (λ j. row-right im (row-at at given j) given) (every-none _) (rw here (tells (not-false r passes))) in
-      passed-both im from end given at next-row p record { k = 1; here = omega arith; right = right; left = rows-after at end given (p .left) l }
+  -- all rows, or one that is wrong
+  module _ (at : Place) (p : RightUpTo im from end given typed at) where
+    upto : (rows : ℕ) → end .0 ≡ row-at from given rows .0 → p .k ≤ rows
+    upto rows e =
+        dite (decLt rows (p .k)) (λ h. absurd (omega (arith, e, p .here, p .left .ends, mul-le-mul-right (lead + given) h))) (λ g. omega (arith, g))
 
-  pub passed-on : (next : Place) → RightUpTo im next-row end given next → RightUpTo im from end given next
-  passed-on next q = passed-both im from end given next-row next passed-one q
+    pub rows-right : end .0 ≤ at .0 → AllRight im from end given typed true
+    unfolding AllRight
+    rows-right l rows e =
+        let over : rows ≤ p .k = dite (decLt (p .k) rows) (λ h. absurd (omega (arith, e, p .here, l, mul-le-mul-right (lead + given) h))) (λ g. omega (arith, g)) in
+        sym (every-done rows (p .k) _ (p .right) over (upto rows e))
 
--- all rows, or one that is wrong
-module _ (im : List ℕ) (from : Place) (rows given : ℕ) (first at : Place) (p : RightUpTo im from (row-at from given rows) given first)
-    (q : RightUpTo im first (row-at from given rows) given at) where
-  all-passed : RightUpTo im from (row-at from given rows) given at
-  all-passed = passed-both im from (row-at from given rows) given first at p q
+    pub rows-wrong : at .0 < end .0 → row-right im at given typed ≡ false → AllRight im from end given typed false
+    unfolding AllRight
+    rows-wrong l wrong rows e =
+        let inside : p .k < rows = dite (decLt (p .k) rows) (λ h. h) (λ g. let m : rows ≤ p .k = omega (arith, g) in absurd (omega (arith, e, p .here, l, mul-le-mul-right (lead + given) m))) in
+        sym (every-fails rows (p .k) _ inside (rw (← p .here) wrong))
 
-  abbrev passed : ℕ
-  passed = all-passed .k
-
-  upto : passed ≤ rows
-  upto = dite (decLt rows passed) (λ h. absurd (omega (arith, all-passed .here, q .left .ends, mul-le-mul-right (lead + given) h))) (λ g. omega (arith, g))
-
-  pub rows-right : row-at from given rows .0 ≤ at .0 → true ≡ every rows (λ j. row-right im (row-at from given j) given)
-  rows-right l =
-      let over : rows ≤ passed = dite (decLt passed rows) (λ h. absurd (omega (arith, all-passed .here, l, mul-le-mul-right (lead + given) h))) (λ g. omega (arith, g)) in
-      sym (every-done rows passed _ (all-passed .right) over upto)
-
-  pub rows-wrong : at .0 < row-at from given rows .0 → (r : Bool) → r ≡ row-right im at given → not r ≡ true
-      → false ≡ every rows (λ j. row-right im (row-at from given j) given)
-  rows-wrong l r e n =
-      let inside : passed < rows = dite (decLt passed rows) (λ h. h) (λ g. let m : rows ≤ passed = omega (arith, g) in absurd (omega (arith, all-passed .here, l, mul-le-mul-right (lead + given) m))) in
-      sym (every-fails rows passed _ inside (rw (← all-passed .here) (sym e ∙ not-true r n)))
-
--- nothing but words below what a number's bits cover
-pub covers-none : (im : List ℕ) (from : Place) (m : ℕ) → Covers im from from m
-unfolding Covers
-covers-none im from m k l h = absurd (omega arith)
-
-pub covers-more : (im : List ℕ) (from at : Place) (m w : ℕ) → w ≡ word im at → Covers im from at m → Covers im from (place-at (at .0 + 1)) (bitOr m w)
-unfolding Covers
-covers-more im from at m w e f k l h =
-    let o = or-add-and m w in
-    let a = and-le-l m w in
-    let b = and-le-r m w in
-    dite (ℕ-discrete k (at .0)) (λ z. rw (z, ← e) (omega arith)) (λ ne. let g = f k l (omega arith) in omega arith)
-
-pub covers-done : (im : List ℕ) (from at end : Place) (m : ℕ) → end .0 ≤ at .0 → Covers im from at m → Covers im from end m
-unfolding Covers
-covers-done im from at end m g f k l h = f k l (omega arith)
+  -- those that are left decide
+  pub rows-left : (at : Place) → RightUpTo im from end given typed at → (r : Bool) → AllRight im at end given typed r → AllRight im from end given typed r
+  unfolding AllRight
+  rows-left at p r f rows e =
+      let more : p .k + (rows - p .k) ≡ rows = omega (arith, upto at p rows e) in
+      let far : end .0 ≡ row-at from given (p .k + (rows - p .k)) .0 = rw more e in
+      let rest = f (rows - p .k) (omega (arith, far, p .here)) in
+      let same : (j : ℕ) → row-at from given (p .k + j) .0 ≡ row-at at given j .0 = λ j. omega (arith, p .here) in
+      together r _
+      (λ t. every-is rows _ .1 (λ j h.
+      dite (decLt j (p .k)) (λ b. every-is (p .k) _ .0 (p .right) j b) (λ nb.
+      let ij : j ≡ p .k + (j - p .k) = omega (arith, nb) in
+      rw (ij, same (j - p .k)) (every-is (rows - p .k) _ .0 (sym rest ∙ t) (j - p .k) (omega (arith, nb, h, more))))))
+      (λ t. rest ∙ every-is (rows - p .k) _ .1 (λ j h. rw (← same j) (every-is rows _ .0 t (p .k + j) (omega (arith, h, more)))))

@@ -1,3 +1,4 @@
+pub mod FourWords
 pub mod BufferRows
 pub mod Failing
 pub mod ReadyCounts

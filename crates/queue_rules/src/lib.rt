@@ -1,21 +1,22 @@
 // The rules of an image's queues, tested.
 ghost use mathlib.Core.Path.{_≡_};
-ghost use mathlib.Core.Bool.{true};
+ghost use mathlib.Core.Bool.{Bool, true, _&&_};
 ghost use Prim.Native.Nat.{_+_, _%_, _<_, _≤_};
 ghost use lib.ListN.{length};
 ghost use Rattle.paper.specs.Image.{lead, most-capacity, most-words, at as word-at};
 ghost use Rattle.paper.specs.Queues.{Has, header-capacity, queue-word, words-from, held};
-ghost use Rattle.paper.specs.Tests.{every, all-below, every-task, queued as is-queued, cleared as is-cleared, buffers-hold as do-buffers-hold, characters as are-characters};
+ghost use Rattle.paper.specs.Tests.{all-below, every-task, implies, queued as is-queued, cleared as is-cleared, queue-holds as does-queue-hold, buffers-hold as do-buffers-hold, characters as are-characters};
 ghost use Rattle.paper.specs.declared.Queue.the-variants.{Ready};
 ghost use Rattle.laws.specs.Sound.{Sized};
-ghost use Rattle.queue_rules.specs.BufferRows.{leads, row-right, row-at, RowsBetween, RightUpTo, Covers};
+ghost use Rattle.queue_rules.specs.FourWords.{lanes, four-at, Gathers, Clear, AllOrNone, Sieves, MarkedFrom, Marks};
+ghost use Rattle.queue_rules.specs.BufferRows.{leads, row-queued, row-words-below, row-cleared, row-typed, SlotsTyped, row-right as is-right, Unused, RowsBetween, RightUpTo, AllRight, typed-hold};
 ghost use Rattle.queue_rules.specs.ReadyCounts.{None-found, All-found};
-use connectives::both;
 use paper::CAPACITY;
 use paper::COUNT;
 use paper::Cell;
 use paper::HEAD;
 use paper::LEAD_WORDS;
+use paper::MOST_CAPACITY;
 use paper::MOST_CHARACTER;
 use paper::MOST_TASKS;
 use paper::Part;
@@ -23,10 +24,8 @@ use paper::Place;
 use paper::Queue;
 use paper::Shape;
 use paper::TAIL;
-use paper::Task;
 use paper::WORD_END;
 use places::head_of;
-use places::load;
 use places::start_of;
 use places::wide;
 use places::word_of;
@@ -36,6 +35,18 @@ const ABOVE_ZERO: usize = 1;
 
 // Characters are below this.
 pub const CHARACTERS: usize = MOST_CHARACTER as usize + 1;
+
+// A queue of so many slots or more is looked at sixteen slots at a time.
+const SIXTEEN: usize = 16;
+
+// Marks for the slots of a queue, for as many before them and as many after them.
+const MARKS: usize = 3 * MOST_CAPACITY;
+
+// A mark has all bits of a word.
+const MARKED: u16 = 65535;
+
+// The bits that no character has, in four words.
+const HIGH_BITS: usize = 18374966859414961920;
 
 // The capacity that the header gives a queue.
 pub fn capacity_of(s: Shape, q: Queue) -> usize
@@ -96,45 +107,77 @@ fn leads_right(given: usize, head: u16, tail: u16, count: u16, capacity: u16) ->
     wrapped(wide(head) + wide(count), given) == wide(tail)
 }
 
-// Whether a queue's four leading words, as one number, are those of a queue never used.
-fn leads_unused(given: usize, head: u16, tail: u16, count: u16, capacity: u16) -> bool
-    requires { ⌜ (0 < given) × (given ≤ most-capacity) ⌝ }
-    ensures { λ r. ⌜ (r ≡ true → leads given head tail count capacity ≡ true) ⌝ }
+// Four words as one number, the first the lowest.
+fn joined(a: u16, b: u16, c: u16, d: u16) -> usize
+    ensures { λ r. ⌜ r ≡ lanes a b c d ⌝ }
 {
-    let size = wide(count) + WORD_END * wide(capacity);
-    let words = wide(head) + WORD_END * (wide(tail) + WORD_END * size);
-    words == WORD_END * (WORD_END * (WORD_END * given))
+    let high = wide(c) + WORD_END * wide(d);
+    wide(a) + WORD_END * (wide(b) + WORD_END * high)
 }
 
-// Whether the row at a place is a queue of the capacity given.
-fn row_queued(im: &[u16], p: Place, given: usize) -> bool
-    requires { ⌜ p .0 + lead ≤ length (now im) ⌝ }
-    ensures { λ r. ⌜ r ≡ row-right (now (im .entry)) p given ⌝ }
+// Four words from a place on, as one number.
+fn four(im: &[u16], at: usize) -> usize
+    requires { ⌜ at + 4 ≤ length (now im) ⌝ }
+    ensures { λ r. ⌜ r ≡ four-at (now (im .entry)) at ⌝ }
 {
-    let at = p.0;
-    leads_right(
-        given,
-        im[at],
-        im[at + TAIL],
-        im[at + COUNT],
-        im[at + CAPACITY],
-    )
+    joined(im[at], im[at + 1], im[at + 2], im[at + 3])
+}
+
+// The bits of sixteen words from a place on, together.
+fn sixteen(im: &[u16], at: usize) -> usize
+    requires { ⌜ at + 16 ≤ length (now im) ⌝ }
+    ensures { λ r. ⌜ Gathers (now (im .entry)) at 16 r ⌝ }
+{
+    four(im, at) | four(im, at + 4) | four(im, at + 8) | four(im, at + 12)
+}
+
+// The bits of all words from a place on, sixteen or more, but no more than twice as many.
+fn all_bits(im: &[u16], at: usize, words: usize) -> usize
+    requires { ⌜ (16 ≤ words) × (words ≤ most-capacity) ⌝ }
+    requires { ⌜ at + words ≤ length (now im) ⌝ }
+    ensures { λ r. ⌜ Gathers (now (im .entry)) at words r ⌝ }
+{
+    sixteen(im, at) | sixteen(im, at + words - SIXTEEN)
+}
+
+// Whether the words from a place up to another are 0.
+fn zeros(im: &[u16], from: usize, end: usize) -> bool
+    requires { ⌜ (from ≤ end) × (end ≤ length (now im)) ⌝ }
+    ensures { λ r. ⌜ (r ≡ true → Clear (now (im .entry)) from end) ⌝ }
+{
+    let mut at = from;
+    while at < end {
+        if im[at] != 0 {
+            return false;
+        }
+        at += 1;
+    }
+    true
+}
+
+// Whether all slots of a queue are 0, where they begin at a place.
+fn slots_clear(im: &[u16], at: usize, given: usize) -> bool
+    requires { ⌜ given ≤ most-capacity ⌝ }
+    requires { ⌜ at + given ≤ length (now im) ⌝ }
+    ensures { λ r. ⌜ (r ≡ true → Clear (now (im .entry)) at (at + given)) ⌝ }
+{
+    if SIXTEEN <= given {
+        return all_bits(im, at, given) == 0;
+    }
+    zeros(im, at, at + given)
 }
 
 // Whether the row at a place is a queue never used, of the capacity given.
 fn row_unused(im: &[u16], p: Place, given: usize) -> bool
     requires { ⌜ (0 < given) × (given ≤ most-capacity) ⌝ }
-    requires { ⌜ p .0 + lead ≤ length (now im) ⌝ }
-    ensures { λ r. ⌜ (r ≡ true → row-right (now (im .entry)) p given ≡ true) ⌝ }
+    requires { ⌜ p .0 + lead + given ≤ length (now im) ⌝ }
+    ensures { λ r. ⌜ (r ≡ true → Unused (now (im .entry)) p given) ⌝ }
 {
     let at = p.0;
-    leads_unused(
-        given,
-        im[at],
-        im[at + TAIL],
-        im[at + COUNT],
-        im[at + CAPACITY],
-    )
+    if four(im, at) != WORD_END * (WORD_END * (WORD_END * given)) {
+        return false;
+    }
+    slots_clear(im, at + LEAD_WORDS, given)
 }
 
 // The first row from a place on that is not a queue never used, or the end.
@@ -142,7 +185,7 @@ fn first_used(im: &[u16], from: Place, end: Place, given: usize) -> Place
     requires { ⌜ (0 < given) × (given ≤ most-capacity) ⌝ }
     requires { ⌜ RowsBetween from end given ⌝ }
     requires { ⌜ (end .0 ≤ length (now im)) × (length (now im) ≤ most-words) ⌝ }
-    ensures { λ r. ⌜ RightUpTo (now (im .entry)) from end given r ⌝ }
+    ensures { λ r. ⌜ ((typed : Bool) → RightUpTo (now (im .entry)) from end given typed r) ⌝ }
 {
     let width = LEAD_WORDS + given;
     let mut at = from;
@@ -155,22 +198,264 @@ fn first_used(im: &[u16], from: Place, end: Place, given: usize) -> Place
     at
 }
 
-// Whether so many rows from a place on are queues of the capacity given; those never used, which are most, are told at a look.
-fn rows_queued(im: &[u16], from: Place, rows: usize, given: usize) -> bool
-    requires { ⌜ (0 < given) × (given ≤ most-capacity) ⌝ }
-    requires { ⌜ (row-at from given rows .0 ≤ length (now im)) × (length (now im) ≤ most-words) ⌝ }
-    ensures { λ r. ⌜ r ≡ every rows (λ k. row-right (now (im .entry)) (row-at from given k) given) ⌝ }
+// Whether the row at a place is a queue of the capacity given, whatever its slots hold.
+fn row_queued(im: &[u16], p: Place, given: usize) -> bool
+    requires { ⌜ p .0 + lead ≤ length (now im) ⌝ }
+    ensures { λ r. ⌜ r ≡ row-queued (now (im .entry)) p given ⌝ }
 {
-    let width = LEAD_WORDS + given;
-    let end = Place(from.0 + rows * width);
-    let mut at = first_used(im, from, end, given);
-    while at.0 < end.0 {
-        if !row_queued(im, at, given) {
+    let at = p.0;
+    leads_right(
+        given,
+        im[at],
+        im[at + TAIL],
+        im[at + COUNT],
+        im[at + CAPACITY],
+    )
+}
+
+// Whether so many words of the row at a place are below m, from a slot on.
+fn slots_below(im: &[u16], p: Place, given: usize, from: usize, count: usize, m: usize) -> bool
+    requires { ⌜ (from < given) × (given ≤ most-capacity) ⌝ }
+    requires { ⌜ p .0 + lead + given ≤ length (now im) ⌝ }
+    ensures { λ r. ⌜ r ≡ row-words-below (now (im .entry)) p given from count m ⌝ }
+{
+    let first = p.0 + LEAD_WORDS;
+    let mut slot = from;
+    let mut left = count;
+    while 0 < left {
+        if m <= wide(im[first + slot]) {
             return false;
         }
-        at = first_used(im, Place(at.0 + width), end, given);
+        slot = wrapped(slot + 1, given);
+        left -= 1;
     }
     true
+}
+
+// Whether the words that a row holds are characters, where it is typed.
+fn words_typed(im: &[u16], p: Place, given: usize, typed: bool) -> bool
+    requires { ⌜ given ≤ most-capacity ⌝ }
+    requires { ⌜ p .0 + lead + given ≤ length (now im) ⌝ }
+    requires { ⌜ row-queued (now im) p given ≡ true ⌝ }
+    ensures { λ r. ⌜ r ≡ implies typed (row-typed (now (im .entry)) p given) ⌝ }
+{
+    if !typed {
+        return true;
+    }
+    let at = p.0;
+    slots_below(im, p, given, wide(im[at]), wide(im[at + COUNT]), CHARACTERS)
+}
+
+// Whether the free slots of a row are 0.
+fn free_zeros(im: &[u16], p: Place, given: usize) -> bool
+    requires { ⌜ given ≤ most-capacity ⌝ }
+    requires { ⌜ p .0 + lead + given ≤ length (now im) ⌝ }
+    requires { ⌜ row-queued (now im) p given ≡ true ⌝ }
+    ensures { λ r. ⌜ r ≡ row-cleared (now (im .entry)) p given ⌝ }
+{
+    let at = p.0;
+    let free = given - wide(im[at + COUNT]);
+    slots_below(im, p, given, wide(im[at + TAIL]), free, 1)
+}
+
+// Whether the row at a place is right; where it is typed, its words are characters.
+fn row_right(im: &[u16], p: Place, given: usize, typed: bool) -> bool
+    requires { ⌜ given ≤ most-capacity ⌝ }
+    requires { ⌜ p .0 + lead + given ≤ length (now im) ⌝ }
+    ensures { λ r. ⌜ r ≡ is-right (now (im .entry)) p given typed ⌝ }
+{
+    if !row_queued(im, p, given) {
+        return false;
+    }
+    if !words_typed(im, p, given, typed) {
+        return false;
+    }
+    free_zeros(im, p, given)
+}
+
+// The bits that are set in four words though they must not be: those of words whose two marks differ.
+fn four_free(im: &[u16], at: usize, marks: &[u16; MARKS], a: usize, b: usize) -> usize
+    requires { ⌜ at + 4 ≤ length (now im) ⌝ }
+    requires { ⌜ (a + 4 ≤ 96) × (b + 4 ≤ 96) ⌝ }
+    requires { ⌜ AllOrNone (now marks) ⌝ }
+    ensures { λ r. ⌜ Sieves (now (im .entry)) at (now (marks .entry)) a b 4 r ⌝ }
+{
+    four(im, at) & (four(marks, a) ^ four(marks, b))
+}
+
+// The same of sixteen words.
+fn sixteen_free(im: &[u16], at: usize, marks: &[u16; MARKS], a: usize, b: usize) -> usize
+    requires { ⌜ at + 16 ≤ length (now im) ⌝ }
+    requires { ⌜ (a + 16 ≤ 96) × (b + 16 ≤ 96) ⌝ }
+    requires { ⌜ AllOrNone (now marks) ⌝ }
+    ensures { λ r. ⌜ Sieves (now (im .entry)) at (now (marks .entry)) a b 16 r ⌝ }
+{
+    let low = four_free(im, at, marks, a, b) | four_free(im, at + 4, marks, a + 4, b + 4);
+    let high = four_free(im, at + 8, marks, a + 8, b + 8)
+        | four_free(im, at + 12, marks, a + 12, b + 12);
+    low | high
+}
+
+// Whether the free slots of a row of sixteen slots or more are 0.
+fn free_clear(im: &[u16], p: Place, given: usize, marks: &[u16; MARKS]) -> bool
+    requires { ⌜ (16 ≤ given) × (given ≤ most-capacity) ⌝ }
+    requires { ⌜ p .0 + lead + given ≤ length (now im) ⌝ }
+    requires { ⌜ row-queued (now im) p given ≡ true ⌝ }
+    requires { ⌜ Marks (now marks) given ⌝ }
+    ensures { λ r. ⌜ r ≡ row-cleared (now (im .entry)) p given ⌝ }
+{
+    let at = p.0;
+    let first = at + LEAD_WORDS;
+    let b = MOST_CAPACITY - wide(im[at]);
+    let a = b + given - wide(im[at + COUNT]);
+    let last = given - SIXTEEN;
+    let bits = sixteen_free(im, first, marks, a, b)
+        | sixteen_free(im, first + last, marks, a + last, b + last);
+    bits == 0
+}
+
+// Whether all slots of a row of sixteen or more have characters, where it is typed.
+fn slots_typed(im: &[u16], p: Place, given: usize, typed: bool) -> bool
+    requires { ⌜ (16 ≤ given) × (given ≤ most-capacity) ⌝ }
+    requires { ⌜ p .0 + lead + given ≤ length (now im) ⌝ }
+    ensures { λ r. ⌜ SlotsTyped (now (im .entry)) p given typed r ⌝ }
+{
+    if !typed {
+        return true;
+    }
+    let at = p.0;
+    all_bits(im, at + LEAD_WORDS, given) & HIGH_BITS == 0
+}
+
+// Whether a row of sixteen slots or more is right; where it is typed, its words are characters.
+fn long_right(im: &[u16], p: Place, given: usize, typed: bool, marks: &[u16; MARKS]) -> bool
+    requires { ⌜ (16 ≤ given) × (given ≤ most-capacity) ⌝ }
+    requires { ⌜ p .0 + lead + given ≤ length (now im) ⌝ }
+    requires { ⌜ Marks (now marks) given ⌝ }
+    ensures { λ r. ⌜ r ≡ is-right (now (im .entry)) p given typed ⌝ }
+{
+    if !row_queued(im, p, given) {
+        return false;
+    }
+    if !slots_typed(im, p, given, typed) {
+        return false;
+    }
+    let at = p.0;
+    if wide(im[at + COUNT]) == given {
+        return true;
+    }
+    free_clear(im, p, given, marks)
+}
+
+// Marks as many places from one on as a queue may have slots.
+fn mark(marks: &mut [u16; MARKS], from: usize)
+    requires { ⌜ length (now marks) ≡ 96 ⌝ }
+    requires { ⌜ from + most-capacity ≤ 96 ⌝ }
+    ensures { λ _. ⌜ MarkedFrom (now (marks .entry)) from most-capacity (now (marks .exit)) ⌝ }
+{
+    let mut k: usize = 0;
+    while k < MOST_CAPACITY {
+        marks[from + k] = MARKED;
+        k += 1;
+    }
+}
+
+// Whether there is a row at a place that holds a word.
+fn used_at(im: &[u16], p: Place, end: Place) -> bool
+    requires { ⌜ (p .0 < end .0 → p .0 + lead ≤ length (now im)) ⌝ }
+{
+    let at = p.0;
+    if end.0 <= at {
+        return false;
+    }
+    im[at + COUNT] != 0
+}
+
+// The first row from a place on that is not a queue never used, or the end; a row that holds a word is told at a look.
+fn next_used(im: &[u16], from: Place, end: Place, given: usize) -> Place
+    requires { ⌜ (0 < given) × (given ≤ most-capacity) ⌝ }
+    requires { ⌜ RowsBetween from end given ⌝ }
+    requires { ⌜ (end .0 ≤ length (now im)) × (length (now im) ≤ most-words) ⌝ }
+    ensures { λ r. ⌜ ((typed : Bool) → RightUpTo (now (im .entry)) from end given typed r) ⌝ }
+{
+    if used_at(im, from, end) {
+        return from;
+    }
+    first_used(im, from, end, given)
+}
+
+// Whether the rows from a place on are right, of sixteen slots or more, by the marks of their capacity.
+fn marked_rows(
+    im: &[u16],
+    from: Place,
+    end: Place,
+    given: usize,
+    typed: bool,
+    marks: &[u16; MARKS],
+) -> bool
+    requires { ⌜ (16 ≤ given) × (given ≤ most-capacity) ⌝ }
+    requires { ⌜ RowsBetween from end given ⌝ }
+    requires { ⌜ (end .0 ≤ length (now im)) × (length (now im) ≤ most-words) ⌝ }
+    requires { ⌜ Marks (now marks) given ⌝ }
+    ensures { λ r. ⌜ AllRight (now (im .entry)) from end given typed r ⌝ }
+{
+    let width = LEAD_WORDS + given;
+    let mut at = from;
+    while at.0 < end.0 {
+        if !long_right(im, at, given, typed, marks) {
+            return false;
+        }
+        at = next_used(im, Place(at.0 + width), end, given);
+    }
+    true
+}
+
+// Whether the rows from a place on are right, of sixteen slots or more.
+fn long_rows(im: &[u16], from: Place, end: Place, given: usize, typed: bool) -> bool
+    requires { ⌜ (16 ≤ given) × (given ≤ most-capacity) ⌝ }
+    requires { ⌜ RowsBetween from end given ⌝ }
+    requires { ⌜ (end .0 ≤ length (now im)) × (length (now im) ≤ most-words) ⌝ }
+    ensures { λ r. ⌜ AllRight (now (im .entry)) from end given typed r ⌝ }
+{
+    let mut marks: [u16; MARKS] = [0; MARKS];
+    mark(&mut marks, 0);
+    mark(&mut marks, MOST_CAPACITY + given);
+    marked_rows(im, from, end, given, typed, &marks)
+}
+
+// Whether the rows from a place on are right, of fewer slots.
+fn short_rows(im: &[u16], from: Place, end: Place, given: usize, typed: bool) -> bool
+    requires { ⌜ (0 < given) × (given ≤ most-capacity) ⌝ }
+    requires { ⌜ RowsBetween from end given ⌝ }
+    requires { ⌜ (end .0 ≤ length (now im)) × (length (now im) ≤ most-words) ⌝ }
+    ensures { λ r. ⌜ AllRight (now (im .entry)) from end given typed r ⌝ }
+{
+    let width = LEAD_WORDS + given;
+    let mut at = from;
+    while at.0 < end.0 {
+        if !row_right(im, at, given, typed) {
+            return false;
+        }
+        at = Place(at.0 + width);
+    }
+    true
+}
+
+// Whether the rows from a place up to another are right; those never used, which are most, are told at a look.
+fn rows_right(im: &[u16], from: Place, end: Place, given: usize, typed: bool) -> bool
+    requires { ⌜ (0 < given) × (given ≤ most-capacity) ⌝ }
+    requires { ⌜ RowsBetween from end given ⌝ }
+    requires { ⌜ (end .0 ≤ length (now im)) × (length (now im) ≤ most-words) ⌝ }
+    ensures { λ r. ⌜ AllRight (now (im .entry)) from end given typed r ⌝ }
+{
+    let used = first_used(im, from, end, given);
+    if end.0 <= used.0 {
+        return true;
+    }
+    if given < SIXTEEN {
+        return short_rows(im, used, end, given, typed);
+    }
+    long_rows(im, used, end, given, typed)
 }
 
 // Whether a queue obeys the rules of queues.
@@ -253,62 +538,44 @@ pub fn count_ready(s: Shape, im: &[u16], found: &mut [u8; MOST_TASKS]) -> bool
     true
 }
 
-// Whether all buffers obey the rules of queues.
+// Whether the ready queue obeys the rules of queues.
+pub fn ready_holds(s: Shape, im: &[u16]) -> bool
+    requires { ⌜ Sized s (now im) ⌝ }
+    ensures { λ r. ⌜ r ≡ does-queue-hold s (now (im .entry)) Ready ⌝ }
+{
+    row_right(im, start_of(s, Part::ReadyQueue), s.n, false)
+}
+
+// Whether the input and output buffers obey the rules of queues, and hold characters.
+fn characters_hold(s: Shape, im: &[u16]) -> bool
+    requires { ⌜ Sized s (now im) ⌝ }
+    ensures { λ r. ⌜ r ≡ typed-hold s (now (im .entry)) ⌝ }
+{
+    let inputs = start_of(s, Part::InputBuffers);
+    let outputs = start_of(s, Part::OutputBuffers);
+    let end = start_of(s, Part::MessageBuffers);
+    if s.ci == s.co {
+        return rows_right(im, inputs, end, s.ci, true);
+    }
+    if !rows_right(im, inputs, outputs, s.ci, true) {
+        return false;
+    }
+    rows_right(im, outputs, end, s.co, true)
+}
+
+// Whether all buffers obey the rules of queues, and those of input and output hold characters.
 pub fn buffers_hold(s: Shape, im: &[u16]) -> bool
     requires { ⌜ Sized s (now im) ⌝ }
-    ensures { λ r. ⌜ r ≡ every-task s (do-buffers-hold s (now (im .entry))) ⌝ }
+    ensures { λ r. ⌜ r ≡ (every-task s (do-buffers-hold s (now (im .entry))) && every-task s (are-characters s (now (im .entry)))) ⌝ }
 {
-    if !rows_queued(im, start_of(s, Part::InputBuffers), s.n, s.ci) {
+    if !characters_hold(s, im) {
         return false;
     }
-    if !rows_queued(im, start_of(s, Part::OutputBuffers), s.n, s.co) {
-        return false;
-    }
-    rows_queued(im, start_of(s, Part::MessageBuffers), s.n * s.n, s.cm)
-}
-
-// Whether the words held in the input and output buffer of task i are characters.
-fn characters(s: Shape, im: &[u16], i: Task) -> bool
-    requires { ⌜ Sized s (now im) ⌝ }
-    requires { ⌜ i .0 < s .n ⌝ }
-    requires { ⌜ do-buffers-hold s (now im) i ≡ true ⌝ }
-    ensures { λ r. ⌜ r ≡ are-characters s (now (im .entry)) i ⌝ }
-{
-    let typed = held_below(s, im, Queue::Input(i), CHARACTERS);
-    both(typed, held_below(s, im, Queue::Output(i), CHARACTERS))
-}
-
-// All bits that are set in the words from a place up to another.
-fn bits_of(im: &[u16], from: Place, end: Place) -> u16
-    requires { ⌜ end .0 ≤ length (now im) ⌝ }
-    ensures { λ r. ⌜ Covers (now (im .entry)) from end r ⌝ }
-{
-    let mut at = from;
-    let mut bits: u16 = 0;
-    while at.0 < end.0 {
-        bits = bits | load(im, at);
-        at = Place(at.0 + 1);
-    }
-    bits
-}
-
-// Whether the words held in input and output buffers are characters; free slots hold anything, but seldom do.
-pub fn characters_hold(s: Shape, im: &[u16]) -> bool
-    requires { ⌜ Sized s (now im) ⌝ }
-    requires { ⌜ every-task s (do-buffers-hold s (now im)) ≡ true ⌝ }
-    ensures { λ r. ⌜ r ≡ every-task s (are-characters s (now (im .entry))) ⌝ }
-{
-    let from = start_of(s, Part::InputBuffers);
-    let end = start_of(s, Part::MessageBuffers);
-    if wide(bits_of(im, from, end)) < CHARACTERS {
-        return true;
-    }
-    let mut k: usize = 0;
-    while k < s.n {
-        if !characters(s, im, Task(k as u16)) {
-            return false;
-        }
-        k += 1;
-    }
-    true
+    rows_right(
+        im,
+        start_of(s, Part::MessageBuffers),
+        start_of(s, Part::Ports),
+        s.cm,
+        false,
+    )
 }

@@ -1,56 +1,47 @@
--- The characters of the tasks before k are right.
-use mathlib.Core.Path.{_≡_, sym, _∙_}
-use mathlib.Core.Bool.{true}
-use Prim.Native.Nat.{_-_, _≤_}
-use native.Mathlib.Omega.{arith}
-use borrow.Author.Tests.{not-false}
-use Rattle.paper.specs.Image.{task}
-use Rattle.paper.specs.Tests.{every, characters}
-use Rattle.laws.specs.Every.{every-none, every-more, every-done}
-use Rattle.laws.specs.Sound.{sized-fit, sized-few}
-use Rattle.queue_rules.proofs.LowWords.{buffers-end, all-characters, buffers-each, characters-fail}
-use borrow.Author.Needs.{needs}
+-- The rows of both kinds, at once where they have one capacity.
+use Rattle.laws.specs.Sound.{sized-fit}
+use Rattle.queue_rules.proofs.Buffers.{inputs-fit, inputs-wrong, both-fit, both-decide, outputs-fit, outputs-decide}
 use Rattle.queue_rules.proofs.characters_hold.Statement.{statement}
 use Rattle.queue_rules.proofs.characters_hold.Tie as tie
 
-abbrev Inv-loop : tie.InvT-loop
-Inv-loop s im k₀ k = (every k (λ j. characters s im (task j)) ≡ true) × (k ≤ s .n)
+rows-right-requires : tie.Need-rows-right-requires
+rows-right-requires c κs =
+    let starts = c .before .before in
+    let first = starts .before .before in
+    both-fit _ _ (first .before .before .pre) _ (first .start-of .ensures) _ (starts .start-of3 .ensures) (c .if1 .taken)
 
-abbrev μ-loop : tie.MeasureT-loop
-μ-loop s im k₀ k = s .n - k
+returns : tie.Need-returns
+returns c =
+    let starts = c .before .before .before in
+    let first = starts .before .before in
+    both-decide _ _ (first .before .before .pre) _ (first .start-of .ensures) _ (starts .start-of3 .ensures) (c .before .if1 .taken) _ (c .rows-right .ensures)
 
-bits-of-requires : tie.Need-bits-of-requires Inv-loop μ-loop
-bits-of-requires c κs = search buffers-end
+rows-right-requires-2 : tie.Need-rows-right-requires-2
+rows-right-requires-2 c κs =
+    let second = c .before .before .before in
+    inputs-fit _ _ (second .before .before .before .pre) _ (second .before .start-of .ensures) _ (second .start-of2 .ensures)
 
-returns : tie.Need-returns Inv-loop μ-loop
-returns c = search all-characters
+returns-2 : tie.Need-returns-2
+returns-2 c =
+    let second = c .before .before .before .before .before in
+    inputs-wrong _ _ (second .before .before .before .pre) _ (second .before .start-of .ensures) _ (second .start-of2 .ensures) _ (c .before .rows-right2 .ensures) (c .if2 .taken)
 
-loop-holds : tie.Need-loop-holds Inv-loop μ-loop
-loop-holds c = (every-none _, omega arith)
+rows-right-requires-3 : tie.Need-rows-right-requires-3
+rows-right-requires-3 c κs =
+    let third = c .before .before .before .before in
+    let second = third .before in
+    outputs-fit _ _ (second .before .before .before .pre) _ _ (second .start-of2 .ensures) (third .start-of3 .ensures)
 
-cast-t11 : tie.Need-cast-t11 Inv-loop μ-loop
-cast-t11 c =
-    let c5 = c .before .before .before .before .before in
-    omega (arith, sized-few _ _ (c5 .before .before .before .before .pre .0))
-
-characters-requires : tie.Need-characters-requires Inv-loop μ-loop
-characters-requires c κs =
-    let c5 = c .before .before .before .before .before in
-    let p = c5 .before .before .before .before .pre in
-    (p .0, (c .if2 .taken, buffers-each _ _ (p .0) _ (c .if2 .taken) (p .1)))
-
-returns-2 : tie.Need-returns-2 Inv-loop μ-loop
-returns-2 c = search characters-fail
-
-loop-again : tie.Need-loop-again Inv-loop μ-loop
-loop-again c = (every-more _ _ (c .before .before .before .before .loop .inv .0) (sym (c .before .characters .ensures) ∙ not-false _ (c .if3 .left)), omega arith)
-
-returns-3 : tie.Need-returns-3 Inv-loop μ-loop
-returns-3 c = sym (every-done _ _ _ (c .before .before .loop .inv .0) (c .if2 .left) (c .before .before .loop .inv .1))
+returns-3 : tie.Need-returns-3
+returns-3 c =
+    let third = c .before .before .before .before .before in
+    let second = third .before in
+    outputs-decide _ _ (second .before .before .before .pre) _ _ (second .start-of2 .ensures) (third .start-of3 .ensures) _ (second .before .start-of .ensures) _ _
+    (c .before .before .rows-right2 .ensures) (c .before .if2 .left) (c .rows-right3 .ensures)
 
 pub characters-hold-spec : {M : Type 1} → statement M
 characters-hold-spec =
     tie.close
     (tie.spec
-    Inv-loop μ-loop (λ c κs. search sized-fit) (λ c κs. search sized-fit) bits-of-requires (λ c κs. search needs) returns loop-holds
-    cast-t11 characters-requires returns-2 (λ c. search needs) (λ c. search needs) loop-again returns-3)
+    (λ c κs. search sized-fit) (λ c κs. search sized-fit) (λ c κs. search sized-fit) rows-right-requires returns
+    rows-right-requires-2 returns-2 rows-right-requires-3 returns-3)

@@ -1,16 +1,21 @@
--- The row is right where its four leading words are those of a queue never used.
-use Rattle.queue_rules.proofs.Passing.{unused-tested}
+-- Four leading words as one number, and all slots.
+use native.Mathlib.Omega.{arith}
+use Rattle.queue_rules.proofs.Rows.{never, unused-row}
 use borrow.Author.Needs.{needs}
 use Rattle.queue_rules.proofs.row_unused.Statement.{statement}
 use Rattle.queue_rules.proofs.row_unused.Tie as tie
 
 returns : tie.Need-returns
-returns c = search unused-tested
+returns c = λ e. never _ e
+
+returns-2 : tie.Need-returns-2
+returns-2 c =
+    let four = c .before .before in
+    unused-row _ _ _ (four .before .before .pre .0 .0) (λ k. omega (arith, four .before .shared-slice-known .given k)) _ _ (four .four .ensures) (c .before .if1 .left) (c .slots-clear .ensures)
 
 pub row-unused-spec : {M : Type 1} → statement M
 row-unused-spec =
     tie.close
     (tie.spec
-    (λ c. search needs) (λ c. search needs) (λ c. search needs) (λ c. search needs) (λ c. search needs)
-    (λ c. search needs) (λ c. search needs) (λ c. search needs) (λ c. search needs) (λ c. search needs)
-    (λ c. search needs) (λ c κs. search needs) returns)
+    (λ c κs. search needs) (λ c. search needs) (λ c. search needs) (λ c. search needs) returns
+    (λ c. search needs) (λ c κs. search needs) returns-2)
