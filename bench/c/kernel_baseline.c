@@ -386,11 +386,14 @@ static inline void append(word *q, uint32_t capacity, word w) {
     q[LENGTH]++;
 }
 
+/* The slot of a taken word becomes 0. */
 static inline word take(word *q, uint32_t capacity) {
     uint32_t head = q[HEAD];
+    word taken = q[SLOTS + head];
+    q[SLOTS + head] = 0;
     q[HEAD] = (word)step(head, capacity);
     q[LENGTH]--;
-    return q[SLOTS + head];
+    return taken;
 }
 
 static inline struct told refused(word number) {
@@ -419,11 +422,12 @@ static inline void leave(const struct layout *l, word *im, uint32_t first, word 
     im[CLOCK] = (word)(ready[LENGTH] == 0 ? 0 : l->slice);
 }
 
-/* The first task is taken and appended, so that the length stays. */
+/* The first task is taken and appended, so that the length stays. In a full queue both slots are one. */
 static inline void pass_turn(const struct layout *l, word *im, uint32_t first) {
     word *ready = im + l->ready;
-    uint32_t tail = ready[TAIL];
-    ready[HEAD] = (word)step(ready[HEAD], l->tasks);
+    uint32_t head = ready[HEAD], tail = ready[TAIL];
+    ready[SLOTS + head] = 0;
+    ready[HEAD] = (word)step(head, l->tasks);
     ready[SLOTS + tail] = (word)first;
     ready[TAIL] = (word)step(tail, l->tasks);
     im[CLOCK] = (word)l->slice;

@@ -1,5 +1,7 @@
 //! Queues in place: head, tail, length, capacity, then the slots.
 
+use std::mem;
+
 pub const HEAD: usize = 0;
 pub const TAIL: usize = 1;
 pub const LENGTH: usize = 2;
@@ -55,19 +57,22 @@ impl<'a> Queue<'a> {
         self.words[LENGTH] += 1;
     }
 
-    /// Takes from a queue that is not empty.
+    /// Takes from a queue that is not empty, and leaves 0 in the slot.
     #[inline(always)]
     pub fn take(&mut self) -> u16 {
-        let word = self.first();
-        self.words[HEAD] = self.step(self.words[HEAD]);
+        let head = self.words[HEAD];
+        let word = mem::take(&mut self.slots[usize::from(head)]);
+        self.words[HEAD] = self.step(head);
         self.words[LENGTH] -= 1;
         word
     }
 
     /// Takes the first word, which is given, and appends it: the length stays.
+    /// The slots are one where the queue is full, so the store comes last.
     #[inline(always)]
     pub fn turn(&mut self, first: u16) {
         let [head, tail, ..] = *self.words;
+        self.slots[usize::from(head)] = 0;
         self.words[HEAD] = self.step(head);
         self.slots[usize::from(tail)] = first;
         self.words[TAIL] = self.step(tail);
