@@ -55,7 +55,7 @@ enum { ADDRESS_ERROR = 1, ORDER_ERROR, SERVICE_ERROR, DIVISOR_ERROR, TASK_ERROR,
 
 enum { GOOD_MARK = 19284, GOOD_EDITION = 1, MOST_TASKS = 16, MOST_CAPACITY = 32 };
 enum { LARGEST_TOTAL = 32768, LARGEST_CHARACTER = 255, ERROR_UNIT = 4, PENDING_UNIT = 32 };
-enum { EVENT_WORDS = 3, PLAN_WORDS = 5, MANY = 128, NO_ANSWER = 65535 };
+enum { EVENT_WORDS = 3, PLAN_WORDS = 5, NO_ANSWER = 65535 };
 
 /* Counts, capacities and the places of the parts. */
 struct layout {
@@ -111,71 +111,94 @@ static inline bool queue_stands(const word *q, uint32_t capacity) {
            (distance == 0 || distance == capacity);
 }
 
-/* The leading words of two queues, and the same as two numbers, the head lowest. */
+/* The leading words of a queue as one number, the head lowest. */
 _Static_assert(__BYTE_ORDER__ == __ORDER_LITTLE_ENDIAN__, "the low byte comes first");
+static inline uint64_t leading(const word *q) {
+    uint64_t words;
+    memcpy(&words, q, sizeof words);
+    return words;
+}
+
+/* Eight words, looked at together. */
 typedef word lanes __attribute__((vector_size(16)));
 typedef uint64_t halves __attribute__((vector_size(16)));
+enum { LANES = 8 };
 
-/* Whether an even count of queues stands, two at a time. */
-static inline bool pairs_stand(const word *q, uint32_t count, uint32_t capacity) {
-    const word c = (word)capacity, last = (word)(capacity - 1);
-    const lanes own = {0, 0, 0, c, 0, 0, 0, c}, limits = {last, last, c, 0, last, last, c, 0}, round = {c, 0, 0, 0, c};
-    lanes over = {0}, apart = {0};
+static inline lanes look(const word *w) {
+    lanes words;
+    memcpy(&words, w, sizeof words);
+    return words;
+}
+
+/*
+ * Whether queues of so many looks of slots stand, with 0 in free slots and no bits but these in words held.
+ * The last look may overlap the one before. As many marks are 0 as there are slots: those from MOST_CAPACITY less the
+ * head on, and those from there past the free slots on, differ where a slot is free.
+ */
+static always_inline bool looks_stand(const word *q, uint32_t count, uint32_t capacity, uint32_t looks, word bits) {
+    word marks[3 * MOST_CAPACITY];
+    memset(marks, 0xFF, MOST_CAPACITY * sizeof(word));
+    memset(marks + MOST_CAPACITY, 0, MOST_CAPACITY * sizeof(word));
+    memset(marks + MOST_CAPACITY + capacity, 0xFF, MOST_CAPACITY * sizeof(word));
+    const uint64_t unused = (uint64_t)capacity << 48;
     size_t width = SLOTS + capacity;
-    for (const word *end = q + count * width; q < end; q += 2 * width) {
-        lanes pair;
-        memcpy(&pair, q, SLOTS * sizeof(word));
-        memcpy((word *)&pair + SLOTS, q + width, SLOTS * sizeof(word));
-        pair ^= own;
-        over |= (lanes)(pair > limits);
-        halves both = (halves)pair;
-        lanes distance = (lanes)(both + (both >> 32)) - (lanes)(both >> 16);
-        apart |= (lanes)((distance != 0) & (distance != round));
-    }
-    halves faults = (halves)over | ((halves)apart & (halves){0xFFFF, 0xFFFF});
-    return (faults[0] | faults[1]) == 0;
-}
-
-static inline bool queues_stand(const word *q, uint32_t count, uint32_t capacity) {
-    uint32_t even = count & ~1u;
-    return (even == 0 || pairs_stand(q, even, capacity)) &&
-           (even == count || queue_stands(q + even * (SLOTS + capacity), capacity));
-}
-
-/* The bits that are set in any of so many words. */
-static inline word bits_of(const word *w, uint32_t count) {
-    word bits = 0;
-    for (uint32_t k = 0; k < count; k++)
-        bits |= w[k];
-    return bits;
-}
-
-/* Whether the words that a sound queue holds are characters. */
-static inline bool holds_characters(const word *q, uint32_t capacity) {
-    uint32_t head = q[HEAD], length = q[LENGTH], most = capacity - head;
-    if (length == 0)
-        return true;
-    uint32_t before = length < most ? length : most;
-    return (bits_of(q + SLOTS + head, before) | bits_of(q + SLOTS, length - before)) <= LARGEST_CHARACTER;
-}
-
-static bool all_hold_characters(const word *q, uint32_t count, uint32_t capacity) {
-    for (uint32_t k = 0; k < count; k++, q += SLOTS + capacity)
-        if (!holds_characters(q, capacity))
+    lanes faults = {0};
+    for (const word *end = q + count * width; q < end; q += width) {
+        const word *slots = q + SLOTS;
+        if (leading(q) == unused) {
+            for (uint32_t k = 0; k < looks; k++)
+                faults |= look(slots + (k + 1 < looks ? LANES * k : capacity - LANES));
+            continue;
+        }
+        if (!queue_stands(q, capacity))
             return false;
-    return true;
+        const word *heads = marks + MOST_CAPACITY - q[HEAD], *tails = heads + capacity - q[LENGTH];
+        for (uint32_t k = 0; k < looks; k++) {
+            uint32_t at = k + 1 < looks ? LANES * k : capacity - LANES;
+            faults |= look(slots + at) & ((look(heads + at) ^ look(tails + at)) | (word)~bits);
+        }
+    }
+    halves found = (halves)faults;
+    return (found[0] | found[1]) == 0;
 }
 
-/* Whether many words are characters all at once; few are looked at queue by queue. */
-static inline bool all_characters(const word *w, uint32_t count) {
-    return count >= MANY && bits_of(w, count) <= LARGEST_CHARACTER;
+/* The same for queues of fewer slots than a look has. */
+static always_inline bool few_stand(const word *q, uint32_t count, uint32_t capacity, word bits) {
+    const uint64_t unused = (uint64_t)capacity << 48;
+    size_t width = SLOTS + capacity;
+    uint32_t faults = 0;
+    for (const word *end = q + count * width; q < end; q += width) {
+        if (leading(q) == unused) {
+            for (uint32_t k = 0; k < capacity; k++)
+                faults |= q[SLOTS + k];
+            continue;
+        }
+        if (!queue_stands(q, capacity))
+            return false;
+        for (uint32_t k = 0, at = q[HEAD]; k < capacity; k++) {
+            faults |= q[SLOTS + at] & (k < q[LENGTH] ? (word)~bits : UINT16_MAX);
+            at = at + 1 == capacity ? 0 : at + 1;
+        }
+    }
+    return faults == 0;
 }
 
-/* Whether sound input and output buffers hold characters. Free slots hold anything, but seldom do. */
-static inline bool characters_held(const struct layout *l, const word *im) {
-    return all_characters(im + l->inputs, l->messages - l->inputs) ||
-           (all_hold_characters(im + l->inputs, l->tasks, l->input_capacity) &&
-            all_hold_characters(im + l->outputs, l->tasks, l->output_capacity));
+static bool many_stand(const word *q, uint32_t count, uint32_t capacity, word bits) {
+    switch ((capacity - 1) / LANES) {
+    case 0:
+        return looks_stand(q, count, capacity, 1, bits);
+    case 1:
+        return looks_stand(q, count, capacity, 2, bits);
+    case 2:
+        return looks_stand(q, count, capacity, 3, bits);
+    default:
+        return looks_stand(q, count, capacity, 4, bits);
+    }
+}
+
+/* Whether the queues of a part stand, with 0 in free slots and no bits but these in words held. */
+static inline bool queues_stand(const word *q, uint32_t count, uint32_t capacity, word bits) {
+    return capacity < LANES ? few_stand(q, count, capacity, bits) : many_stand(q, count, capacity, bits);
 }
 
 /* The tasks that a sound ready queue holds, a bit for each; ~0 where one is no task. */
@@ -189,6 +212,16 @@ static inline uint64_t held_tasks(const word *q, uint32_t tasks) {
         at = at + 1 == tasks ? 0 : at + 1;
     }
     return numbers < 64 ? held : ~UINT64_C(0);
+}
+
+/* Whether a sound ready queue has 0 in its free slots. */
+static inline bool ready_clear(const word *q, uint32_t tasks) {
+    uint32_t bits = 0;
+    for (uint32_t k = q[LENGTH], at = q[TAIL]; k < tasks; k++) {
+        bits |= q[SLOTS + at];
+        at = at + 1 == tasks ? 0 : at + 1;
+    }
+    return bits == 0;
 }
 
 /* cc, error and pending in range, and not both of the last two. */
@@ -265,8 +298,9 @@ static inline bool rules_hold(const struct layout *l, const word *im) {
     const word *ready = im + l->ready;
     uint32_t n = l->tasks;
     return queue_stands(ready, n) && im[CLOCK] <= (ready[LENGTH] == 0 ? 0 : l->slice) &&
-           queues_stand(im + l->inputs, n, l->input_capacity) && queues_stand(im + l->outputs, n, l->output_capacity) &&
-           queues_stand(im + l->messages, n * n, l->message_capacity) && characters_held(l, im) &&
+           queues_stand(im + l->inputs, n, l->input_capacity, LARGEST_CHARACTER) &&
+           queues_stand(im + l->outputs, n, l->output_capacity, LARGEST_CHARACTER) &&
+           queues_stand(im + l->messages, n * n, l->message_capacity, UINT16_MAX) && ready_clear(ready, n) &&
            tasks_stand(l, im, held_tasks(ready, n), ready[LENGTH]);
 }
 

@@ -1,8 +1,11 @@
 //! The check of an image: numbers 1 to 6.
 
+#[cfg(test)]
+mod tests;
+
 use crate::layout::*;
 use crate::numbers;
-use crate::queues::{HEAD, LENGTH, SLOTS};
+use crate::queues::{HEAD, LENGTH, SLOTS, TAIL};
 
 /// The number of any words, 0 for a good image.
 pub fn check(image: &[u16]) -> u16 {
@@ -66,10 +69,10 @@ fn rules_hold(image: &[u16], clock: u16, layout: &Layout) -> bool {
     }
     let most = if ready[LENGTH] == 0 { 0 } else { layout.slice };
     clock <= most
-        && queues_stand(inputs, layout.tasks, layout.input_capacity)
-        && queues_stand(outputs, layout.tasks, layout.output_capacity)
-        && queues_stand(messages, layout.tasks * layout.tasks, layout.message_capacity)
-        && characters_held(&image[layout.inputs..layout.messages], inputs, outputs, layout)
+        && queues_stand(inputs, layout.input_capacity, LARGEST_CHARACTER)
+        && queues_stand(outputs, layout.output_capacity, LARGEST_CHARACTER)
+        && queues_stand(messages, layout.message_capacity, u16::MAX)
+        && free_are_clear(ready, layout.tasks)
         && tasks_stand(image, layout, held_tasks(ready, layout.tasks), ready[LENGTH])
 }
 
@@ -90,75 +93,91 @@ fn queue_stands(queue: &[u16], capacity: usize) -> bool {
         && (distance == 0 || distance == capacity)
 }
 
-/// Whether every queue of a part stands, two queues in a turn.
+/// Slots that are looked at together.
+const LANES: usize = 8;
+
+/// Whether the queues of a part stand, with 0 in free slots and no bits but
+/// these in words held.
 #[inline(always)]
-fn queues_stand(part: &[u16], count: usize, capacity: usize) -> bool {
-    let (pairs, odd) = part.split_at((count & !1) * (SLOTS + capacity));
-    (pairs.is_empty() || pairs_stand(pairs, capacity)) && (odd.is_empty() || queue_stands(odd, capacity))
-}
-
-/// Whether an even count of queues stands.
-#[inline(never)]
-fn pairs_stand(part: &[u16], capacity: usize) -> bool {
-    let width = SLOTS + capacity;
-    let mut found = Found::new(capacity as u64);
-    let mut left = part;
-    while let Some((pair, later)) = left.split_at_checked(2 * width) {
-        let (one, other) = pair.split_at(width);
-        found.add(one);
-        found.add(other);
-        left = later;
+fn queues_stand(part: &[u16], capacity: usize, bits: u16) -> bool {
+    match capacity.div_ceil(LANES) {
+        1 => few_stand(part, capacity, bits),
+        2 => looks_stand::<2>(part, capacity, bits),
+        3 => looks_stand::<3>(part, capacity, bits),
+        _ => looks_stand::<4>(part, capacity, bits),
     }
-    found.nothing()
 }
 
-/// The bit that a lane within its limit keeps, in the three lower lanes.
-const GUARDS: u64 = 0x0000_8000_8000_8000;
-/// Bits that make a lane too large: any in the highest, 64 and up in others.
-const TOO_LARGE: u64 = 0xFFFF_FFC0_FFC0_FFC0;
-
-/// The faults of many queues of one capacity, gathered. The four leading words
-/// of a queue are lanes of one number.
-struct Found {
-    own: u64,
-    limits: u64,
-    distances: u64,
-    /// Bits of any lane: none is over 63, and the capacity is the header's.
-    large: u64,
-    /// The guard bits of lanes within their limits.
-    within: u64,
-    /// 1 while head + length - tail is 0 or the capacity.
-    near: u64,
-}
-
-impl Found {
-    #[inline(always)]
-    fn new(capacity: u64) -> Found {
-        let last = capacity - 1;
-        Found {
-            own: capacity << 48,
-            limits: GUARDS | capacity << 32 | last << 16 | last,
-            distances: 1 | 1 << capacity,
-            large: 0,
-            within: GUARDS,
-            near: 1,
+/// The same for queues of at most as many slots as a look has.
+#[inline(always)]
+fn few_stand(part: &[u16], capacity: usize, bits: u16) -> bool {
+    let mut left = part;
+    while let Some((queue, later)) = left.split_at_checked(SLOTS + capacity) {
+        left = later;
+        let slots = &queue[SLOTS..];
+        if leading(queue) == (capacity as u64) << 48 {
+            if slots.iter().any(|word| *word != 0) {
+                return false;
+            }
+        } else if !queue_stands(queue, capacity) || faults(queue, slots, bits) != 0 {
+            return false;
         }
     }
+    true
+}
 
-    #[inline(always)]
-    fn add(&mut self, queue: &[u16]) {
-        let lanes = leading(queue) ^ self.own;
-        let distance = lanes.wrapping_add(lanes >> 32).wrapping_sub(lanes >> 16);
-        self.large |= lanes;
-        self.within &= self.limits.wrapping_sub(lanes);
-        self.near &= self.distances >> (distance & 63);
+/// The bits of a sound queue's slots that must not be set, slot by slot.
+#[inline(always)]
+fn faults(queue: &[u16], slots: &[u16], bits: u16) -> u16 {
+    let mut found = 0;
+    let mut at = usize::from(queue[HEAD]);
+    for k in 0..slots.len() {
+        let held = k < usize::from(queue[LENGTH]);
+        found |= slots[at] & if held { !bits } else { u16::MAX };
+        at = if at + 1 == slots.len() { 0 } else { at + 1 };
     }
+    found
+}
 
-    /// Whether every queue stands.
-    #[inline(always)]
-    fn nothing(&self) -> bool {
-        self.large & TOO_LARGE == 0 && self.within & GUARDS == GUARDS && self.near == 1
+/// The same for queues of so many looks of slots, the last of which may overlap
+/// the one before. As many marks are 0 as there are slots: those from
+/// `MOST_CAPACITY` less the head on, and those from there past the free slots
+/// on, differ where a slot is free.
+#[inline(never)]
+fn looks_stand<const LOOKS: usize>(part: &[u16], capacity: usize, bits: u16) -> bool {
+    let mut marks = [u16::MAX; 3 * MOST_CAPACITY];
+    marks[MOST_CAPACITY..2 * MOST_CAPACITY].fill(0);
+    marks[MOST_CAPACITY + capacity..][..MOST_CAPACITY].fill(u16::MAX);
+    let mut found = [0; LANES];
+    let mut left = part;
+    while let Some((queue, later)) = left.split_at_checked(SLOTS + capacity) {
+        left = later;
+        let slots = &queue[SLOTS..];
+        if leading(queue) == (capacity as u64) << 48 {
+            for k in 0..LOOKS {
+                let words = look(slots, k, LOOKS);
+                (0..LANES).for_each(|lane| found[lane] |= words[lane]);
+            }
+            continue;
+        }
+        if !queue_stands(queue, capacity) {
+            return false;
+        }
+        let heads = &marks[MOST_CAPACITY - usize::from(queue[HEAD])..];
+        let tails = &heads[capacity - usize::from(queue[LENGTH])..][..capacity];
+        for k in 0..LOOKS {
+            let [words, head, tail] = [slots, &heads[..capacity], tails].map(|from| look(from, k, LOOKS));
+            (0..LANES).for_each(|lane| found[lane] |= words[lane] & (head[lane] ^ tail[lane] | !bits));
+        }
     }
+    found == [0; LANES]
+}
+
+/// The words of one look; the last looks at the last words.
+#[inline(always)]
+fn look(words: &[u16], k: usize, looks: usize) -> &[u16; LANES] {
+    let at = if k + 1 < looks { LANES * k } else { words.len() - LANES };
+    words[at..].first_chunk().expect("a look")
 }
 
 /// The four leading words of a queue in one.
@@ -166,44 +185,6 @@ impl Found {
 fn leading(queue: &[u16]) -> u64 {
     let [head, tail, length, own] = queue.first_chunk::<SLOTS>().expect("a queue").map(u64::from);
     head | tail << 16 | length << 32 | own << 48
-}
-
-/// From so many words on they are looked at all at once.
-const MANY: usize = 128;
-
-/// Whether sound input and output buffers hold characters. Free slots hold
-/// anything, but seldom do.
-#[inline(always)]
-fn characters_held(both: &[u16], inputs: &[u16], outputs: &[u16], layout: &Layout) -> bool {
-    both.len() >= MANY && bits_of(both) <= LARGEST_CHARACTER
-        || all_hold_characters(inputs, layout.input_capacity) && all_hold_characters(outputs, layout.output_capacity)
-}
-
-/// The bits that are set in any of some words.
-#[inline]
-fn bits_of(words: &[u16]) -> u16 {
-    words.iter().fold(0, |bits, word| bits | word)
-}
-
-/// Whether the words that sound queues hold are characters.
-#[inline(always)]
-fn all_hold_characters(part: &[u16], capacity: usize) -> bool {
-    let mut left = part;
-    while let Some((queue, later)) = left.split_at_checked(SLOTS + capacity) {
-        if queue[LENGTH] != 0 && !holds_characters(queue) {
-            return false;
-        }
-        left = later;
-    }
-    true
-}
-
-/// Whether the words that a sound queue holds are characters.
-fn holds_characters(queue: &[u16]) -> bool {
-    let (head, length) = (usize::from(queue[HEAD]), usize::from(queue[LENGTH]));
-    let (wrapped, straight) = queue[SLOTS..].split_at(head);
-    let before = length.min(straight.len());
-    bits_of(&straight[..before]) | bits_of(&wrapped[..length - before]) <= LARGEST_CHARACTER
 }
 
 /// The tasks that a sound ready queue holds, a bit for each, or all bits where
@@ -224,6 +205,19 @@ fn held_tasks(queue: &[u16], tasks: usize) -> u64 {
     } else {
         u64::MAX
     }
+}
+
+/// Whether the free slots of a sound ready queue are 0.
+#[inline(always)]
+fn free_are_clear(queue: &[u16], tasks: usize) -> bool {
+    let slots = &queue[SLOTS..];
+    let mut at = usize::from(queue[TAIL]);
+    let mut bits = 0;
+    for _ in usize::from(queue[LENGTH])..tasks {
+        bits |= slots[at];
+        at = if at + 1 == tasks { 0 } else { at + 1 };
+    }
+    bits == 0
 }
 
 /// The rules of every task, and that the tasks of status 0 are those held, of

@@ -3,6 +3,7 @@
 pub const HEADER_WORDS: usize = 18;
 pub const ROW_WORDS: usize = 9;
 pub const LARGEST_TOTAL: usize = 32768;
+pub const MOST_CAPACITY: usize = 32;
 pub const LARGEST_CHARACTER: u16 = 255;
 pub const MARK: u16 = 19284;
 pub const EDITION: u16 = 1;
