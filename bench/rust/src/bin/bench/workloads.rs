@@ -1,6 +1,7 @@
 //! The workloads: an image, and what is done with it.
 
 use crate::assembler::Program;
+use crate::chance::Chance;
 use crate::kernels::RUST;
 use crate::lists::program;
 use crate::programs::*;
@@ -201,6 +202,7 @@ fn calls() -> Vec<Workload> {
     vec![
         named(&format!("check, N 1, T {}", small.len()), &small, Work::Checks(10_000)),
         named("check, N 16, T 32768", &busy, Work::Checks(1_000)),
+        named("check, words in every buffer, N 16, T 32768", &crowded_ring(), Work::Checks(1_000)),
         named("build, N 16, T 32768", &busy, Work::Builds(100, plan)),
         named(&format!("event, N 1, T {}", small.len()), &small, Work::Ticks(10_000)),
         named("event, N 16, T 32768", &busy, Work::Ticks(1_000)),
@@ -213,6 +215,28 @@ fn busy_ring() -> Vec<u16> {
     let inputs = (0..16).flat_map(|device| [1, device, 65].repeat(32));
     let list: Vec<u16> = TICK.repeat(10_000).into_iter().chain(inputs).collect();
     assert_eq!((RUST.run)(&mut image, &list).number, 0);
+    image
+}
+
+/// The ring with words in every buffer: of any count, from any slot on, and each
+/// eighth buffer full. Its ports are busy.
+fn crowded_ring() -> Vec<u16> {
+    const N: usize = 16;
+    const CAPACITY: usize = 32;
+    let mut image = rings().image();
+    let mut chance = Chance(1);
+    let buffers = 2 * N + N * N;
+    let first = first_segment(N, CAPACITY) - 4 * N - buffers * (4 + CAPACITY);
+    let (parts, ports) = image[first..].split_at_mut(buffers * (4 + CAPACITY));
+    for (k, queue) in parts.chunks_exact_mut(4 + CAPACITY).enumerate() {
+        let head = chance.below(CAPACITY);
+        let count = if k % 8 == 7 { CAPACITY } else { 1 + chance.below(CAPACITY - 1) };
+        queue[..3].copy_from_slice(&[head, (head + count) % CAPACITY, count].map(|word| word as u16));
+        let largest = if k < 2 * N { 255 } else { 65535 };
+        (0..count).for_each(|word| queue[4 + (head + word) % CAPACITY] = 1 + chance.below(largest) as u16);
+    }
+    ports[..2 * N].copy_from_slice(&[1, 65].repeat(N));
+    assert_eq!((RUST.check)(&image), 0);
     image
 }
 
