@@ -8,7 +8,7 @@ use lib.Dec.{eqb, leb}
 use lib.ListN.{length}
 use Rattle.paper.specs.Image.{header-words, mark, edition, header-word, shape-of, at, clock, task}
 use Rattle.paper.specs.Queues.{held, empty}
-use Rattle.paper.specs.Tests.{implies, every-task, all-below, queued, buffers-hold, characters, readied-once, port-holds, flags-hold, status-holds, task-holds, clock-holds, readied-tasks, rules-hold}
+use Rattle.paper.specs.Tests.{implies, every-task, all-below, queued, queue-holds, buffers-hold, characters, readied-once, port-holds, flags-hold, status-holds, task-holds, clock-holds, readied-tasks, rules-hold}
 use Rattle.paper.specs.Numbers.{verdict-number, out-of-range, not-packed, wrong-segments, check}
 use Rattle.paper.specs.Promises.{Checks}
 use Rattle.paper.specs.declared.Task.{Task}
@@ -17,7 +17,7 @@ use Rattle.paper.specs.declared.Queue.{Queue}
 use Rattle.paper.specs.declared.Refusal.{Refusal}
 use Rattle.paper.specs.declared.Verdict.{Verdict}
 use Rattle.laws.specs.Every.{every-fails}
-use Rattle.laws.specs.Checked.{every-is, ranged-is, packed-is, segments-are}
+use Rattle.laws.specs.Checked.{every-is, ranged-is, packed-is, segments-are, queued-is, kept-is}
 use Rattle.laws.specs.Sound.{Sized}
 use Rattle.laws.specs.Layout.{Ranged}
 use Rattle.headers.specs.Shaped.{sized-by}
@@ -67,30 +67,33 @@ clock-tested s im c e p o ec ee ep eo = rw (eo, ep, ee, ec)
 
 -- all rules, in whatever order they are tested
 module _ (s : Shape) (im : List ℕ) where
-  parts : rules-hold s im ≡ true → (queued s im Queue.Ready ≡ true) × (all-below (s .n) (held s im Queue.Ready) ≡ true) × (clock-holds s im ≡ true) ×
+  parts : rules-hold s im ≡ true → (queue-holds s im Queue.Ready ≡ true) × (all-below (s .n) (held s im Queue.Ready) ≡ true) × (clock-holds s im ≡ true) ×
       (every-task s (task-holds s im) ≡ true)
   unfolding rules-hold readied-tasks
   parts h = let p = simp and-eq-true-iff at h in (p .0 .0 .0, p .0 .0 .1, p .0 .1, p .1)
 
-  pub ready-fails : (b : Bool) → b ≡ queued s im Queue.Ready → not b ≡ true → false ≡ rules-hold s im
+  pub ready-fails : (b : Bool) → b ≡ queue-holds s im Queue.Ready → not b ≡ true → false ≡ rules-hold s im
   ready-fails b e n = part-fails _ _ b (λ h. parts h .0) e n
 
   pub clock-fails : (b : Bool) → b ≡ clock-holds s im → not b ≡ true → false ≡ rules-hold s im
   clock-fails b e n = part-fails _ _ b (λ h. parts h .2) e n
 
-  pub buffers-fail : (b : Bool) → b ≡ every-task s (buffers-hold s im) → not b ≡ true → false ≡ rules-hold s im
-  buffers-fail b e n = part-fails _ _ b (λ h. every-is (s .n) _ .1 (λ k l. each-task s im k l (parts h .3) .0)) e n
-
-  pub characters-fail : (b : Bool) → b ≡ every-task s (characters s im) → not b ≡ true → false ≡ rules-hold s im
-  characters-fail b e n = part-fails _ _ b (λ h. every-is (s .n) _ .1 (λ k l. each-task s im k l (parts h .3) .1)) e n
+  pub buffers-fail : (b : Bool) → b ≡ (every-task s (buffers-hold s im) && every-task s (characters s im)) → not b ≡ true → false ≡ rules-hold s im
+  buffers-fail b e n =
+      part-fails _ _ b (λ h.
+      and-eq-true-iff _ _ .1 (every-is (s .n) _ .1 (λ k l. each-task s im k l (parts h .3) .0), every-is (s .n) _ .1 (λ k l. each-task s im k l (parts h .3) .1))) e n
 
   pub others-fail : (b : Bool) → b ≡ all-below (s .n) (held s im Queue.Ready) → not b ≡ true → false ≡ rules-hold s im
   others-fail b e n = part-fails _ _ b (λ h. parts h .1) e n
 
-  pub rules-tested : (q c h t : Bool) → q ≡ queued s im Queue.Ready → not q ≡ false → c ≡ clock-holds s im → not c ≡ false
+  pub rules-tested : (q c h t : Bool) → q ≡ queue-holds s im Queue.Ready → not q ≡ false → c ≡ clock-holds s im → not c ≡ false
       → h ≡ all-below (s .n) (held s im Queue.Ready) → not h ≡ false → t ≡ every-task s (task-holds s im) → t ≡ rules-hold s im
   unfolding rules-hold readied-tasks
   rules-tested q c h t eq nq ec nc eh nh et = rw (et, sym eq ∙ not-false q nq, sym ec ∙ not-false c nc, sym eh ∙ not-false h nh)
+
+  -- the ready queue is one where it obeys the rules
+  pub ready-queued : queue-holds s im Queue.Ready ≡ true → queued s im Queue.Ready ≡ true
+  ready-queued h = queued-is s im Queue.Ready .1 (kept-is s im Queue.Ready .0 h .0)
 
 -- a test that was passed
 pub passed-so : (b x : Bool) → b ≡ x → not b ≡ false → x ≡ true
