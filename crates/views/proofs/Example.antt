@@ -4,7 +4,7 @@ use mathlib.Core.List.{List, [], _∷_, _++_}
 use Prim.Native.Nat.{ℕ}
 use lib.ListN.{take}
 use Rattle.paper.specs.Image.{total, shape-of, place, at}
-use Rattle.paper.specs.Queues.{step, held, empty, full}
+use Rattle.paper.specs.Queues.{step, held, free, empty, full}
 use Rattle.paper.specs.Tests.{every, queued, cleared, queue-holds, buffers-hold, characters, readied-once, readied-tasks, clock-holds, port-holds, flags-hold, status-holds, task-holds, rules-hold}
 use Rattle.paper.specs.Numbers.{out-of-range, not-packed, segment-right, wrong-segments, check}
 use Rattle.paper.specs.declared.Refusal.{Refusal}
@@ -23,7 +23,7 @@ tasks =
     (10 ∷ 11 ∷ 1 ∷ 13 ∷ 14 ∷ 15 ∷ 16 ∷ 17 ∷ 65 ∷ []) ++ (20 ∷ 21 ∷ 22 ∷ 23 ∷ 24 ∷ 25 ∷ 26 ∷ 65535 ∷ 18 ∷ [])
 
 abbrev ready-and-statuses : List ℕ
-ready-and-statuses = (1 ∷ 0 ∷ 1 ∷ 2 ∷ 7 ∷ 1 ∷ []) ++ (2 ∷ 1 ∷ 0 ∷ 0 ∷ [])
+ready-and-statuses = (1 ∷ 0 ∷ 1 ∷ 2 ∷ 0 ∷ 1 ∷ []) ++ (2 ∷ 1 ∷ 0 ∷ 0 ∷ [])
 
 -- the input of task 1 holds 65 and 66, from slot 1 on; its output holds 67
 abbrev inputs-and-outputs : List ℕ
@@ -33,7 +33,7 @@ inputs-and-outputs =
 -- from 0 to 1 there are 400 and 500, from slot 1 on, and from 1 to itself 65535
 abbrev messages : List ℕ
 messages =
-    (0 ∷ 0 ∷ 0 ∷ 2 ∷ 9 ∷ 9 ∷ []) ++ (1 ∷ 1 ∷ 2 ∷ 2 ∷ 500 ∷ 400 ∷ []) ++ (1 ∷ 1 ∷ 0 ∷ 2 ∷ 8 ∷ 8 ∷ []) ++ (0 ∷ 1 ∷ 1 ∷ 2 ∷ 65535 ∷ 0 ∷ [])
+    (0 ∷ 0 ∷ 0 ∷ 2 ∷ 0 ∷ 0 ∷ []) ++ (1 ∷ 1 ∷ 2 ∷ 2 ∷ 500 ∷ 400 ∷ []) ++ (1 ∷ 1 ∷ 0 ∷ 2 ∷ 0 ∷ 0 ∷ []) ++ (0 ∷ 1 ∷ 1 ∷ 2 ∷ 65535 ∷ 0 ∷ [])
 
 -- port 1 is busy with 68; segments of 1 and 2 words
 abbrev ports-and-segments : List ℕ
@@ -62,7 +62,7 @@ pub record SeenOfTasks : Type 0 where
   pub no-task-to-have-it : register-view image 2 0 ≡ WordView.NotThere
 
 pub seen-of-tasks : SeenOfTasks
-unfolding total shape-of place at step held empty full every queued cleared queue-holds buffers-hold characters readied-once readied-tasks clock-holds port-holds flags-hold status-holds task-holds rules-hold out-of-range not-packed segment-right wrong-segments check named-queue task-seen port-seen register-seen length-seen word-seen task-view port-view register-view length-view word-view
+unfolding total shape-of place at step held free empty full every queued cleared queue-holds buffers-hold characters readied-once readied-tasks clock-holds port-holds flags-hold status-holds task-holds rules-hold out-of-range not-packed segment-right wrong-segments check named-queue task-seen port-seen register-seen length-seen word-seen task-view port-view register-view length-view word-view
 seen-of-tasks =
     record {
       waiting = refl;
@@ -96,7 +96,7 @@ pub record SeenOfQueues : Type 0 where
   pub queue-4 : word-view image 4 0 0 0 ≡ WordView.NotThere
 
 pub seen-of-queues : SeenOfQueues
-unfolding total shape-of place at step held empty full every queued cleared queue-holds buffers-hold characters readied-once readied-tasks clock-holds port-holds flags-hold status-holds task-holds rules-hold out-of-range not-packed segment-right wrong-segments check named-queue task-seen port-seen register-seen length-seen word-seen task-view port-view register-view length-view word-view
+unfolding total shape-of place at step held free empty full every queued cleared queue-holds buffers-hold characters readied-once readied-tasks clock-holds port-holds flags-hold status-holds task-holds rules-hold out-of-range not-packed segment-right wrong-segments check named-queue task-seen port-seen register-seen length-seen word-seen task-view port-view register-view length-view word-view
 seen-of-queues =
     record {
       ready-length = refl;
@@ -122,7 +122,7 @@ pub record NotSeen : Type 0 where
   pub no-words : word-view [] 4 0 0 0 ≡ WordView.Refused Refusal.TooShort
 
 pub not-seen : NotSeen
-unfolding total shape-of place at step held empty full every queued cleared queue-holds buffers-hold characters readied-once readied-tasks clock-holds port-holds flags-hold status-holds task-holds rules-hold out-of-range not-packed segment-right wrong-segments check named-queue task-seen port-seen register-seen length-seen word-seen task-view port-view register-view length-view word-view
+unfolding total shape-of place at step held free empty full every queued cleared queue-holds buffers-hold characters readied-once readied-tasks clock-holds port-holds flags-hold status-holds task-holds rules-hold out-of-range not-packed segment-right wrong-segments check named-queue task-seen port-seen register-seen length-seen word-seen task-view port-view register-view length-view word-view
 not-seen =
     record {
       cut = refl;
