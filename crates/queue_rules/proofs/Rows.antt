@@ -81,11 +81,12 @@ module _ (im : List ℕ) (p : Place) (given : ℕ) (ok : row-queued im p given �
   unfolding row-queued
   sounds = leads-is given _ _ _ _ .0 ok
 
-  pub head-in : word im p < given
-  head-in = omega (arith, sounds .headed, sounds .sized)
+  -- head and tail lie in it
+  pub ends-in : (word im p < given) × (getD im (p .0 + 1) 0 < given)
+  ends-in = (omega (arith, sounds .headed, sounds .sized), omega (arith, sounds .tailed, sounds .sized))
 
-  pub tail-in : getD im (p .0 + 1) 0 < given
-  tail-in = omega (arith, sounds .tailed, sounds .sized)
+  head-in : word im p < given
+  head-in = ends-in .0
 
   pub count-in : getD im (p .0 + 2) 0 ≤ given
   count-in = omega (arith, sounds .counted, sounds .sized)

@@ -1,7 +1,7 @@
 -- The marks of the slots, from two places on, differ where slots are free.
 use mathlib.Core.Path.{refl}
 use native.Mathlib.Omega.{arith}
-use Rattle.queue_rules.proofs.Rows.{head-in, count-in, sieved-cleared}
+use Rattle.queue_rules.proofs.Rows.{ends-in, count-in, sieved-cleared}
 use borrow.Author.Needs.{needs}
 use Rattle.queue_rules.proofs.free_clear.Statement.{statement}
 use Rattle.queue_rules.proofs.free_clear.Tie as tie
@@ -9,24 +9,24 @@ use Rattle.queue_rules.proofs.free_clear.Tie as tie
 sub-b : tie.Need-sub-b
 sub-b c =
     let p = c .before .before .before .pre in
-    omega (arith, c .wide .ensures, head-in _ _ _ (p .1 .1 .0))
+    omega (arith, c .wide .ensures, ends-in _ _ _ (p .1 .1 .0))
 
 sub-a : tie.Need-sub-a
 sub-a c =
     let p = c .before .before .before .before .before .pre in
-    omega (arith, c .wide2 .ensures, c .before .before .wide .ensures, head-in _ _ _ (p .1 .1 .0), count-in _ _ _ (p .1 .1 .0))
+    omega (arith, c .wide2 .ensures, c .before .before .wide .ensures, ends-in _ _ _ (p .1 .1 .0), count-in _ _ _ (p .1 .1 .0))
 
 sixteen-free-requires : tie.Need-sixteen-free-requires
 sixteen-free-requires c κs =
     let p = c .before .before .before .before .before .pre in
-    let h = head-in _ _ _ (p .1 .1 .0) in
+    let h = ends-in _ _ _ (p .1 .1 .0) in
     let n = count-in _ _ _ (p .1 .1 .0) in
     (omega arith, ((omega (arith, c .wide2 .ensures, c .before .before .wide .ensures, h, n), omega (arith, c .before .before .wide .ensures, h)), p .1 .1 .1 .all))
 
 sixteen-free-requires-2 : tie.Need-sixteen-free-requires-2
 sixteen-free-requires-2 c κs =
     let p = c .before .before .before .before .before .before .pre in
-    let h = head-in _ _ _ (p .1 .1 .0) in
+    let h = ends-in _ _ _ (p .1 .1 .0) in
     let n = count-in _ _ _ (p .1 .1 .0) in
     (omega arith, ((omega (arith, c .before .wide2 .ensures, c .before .before .before .wide .ensures, h, n), omega (arith, c .before .before .before .wide .ensures, h)), p .1 .1 .1 .all))
 

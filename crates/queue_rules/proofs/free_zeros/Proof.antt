@@ -1,7 +1,7 @@
 -- As many from the tail on as the length leaves.
 use mathlib.Core.Path.{_∙_}
 use native.Mathlib.Omega.{arith}
-use Rattle.queue_rules.proofs.Rows.{tail-in, count-in}
+use Rattle.queue_rules.proofs.Rows.{ends-in, count-in}
 use borrow.Author.Needs.{needs}
 use Rattle.queue_rules.proofs.free_zeros.Statement.{statement}
 use Rattle.queue_rules.proofs.free_zeros.Tie as tie
@@ -14,7 +14,7 @@ sub-free c =
 slots-below-requires : tie.Need-slots-below-requires
 slots-below-requires c κs =
     let p = c .before .before .before .before .before .pre in
-    ((omega (arith, c .wide2 .ensures, tail-in _ _ _ (p .1 .1)), p .0), p .1 .0)
+    ((omega (arith, c .wide2 .ensures, ends-in _ _ _ (p .1 .1)), p .0), p .1 .0)
 
 returns : tie.Need-returns
 returns c = c .slots-below .ensures ∙ rw (c .before .wide2 .ensures, c .before .before .before .wide .ensures)

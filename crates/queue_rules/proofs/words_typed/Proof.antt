@@ -1,6 +1,6 @@
 -- As many from the head on as the length says.
 use native.Mathlib.Omega.{arith}
-use Rattle.queue_rules.proofs.Rows.{head-in, untyped-implies, typed-implies}
+use Rattle.queue_rules.proofs.Rows.{ends-in, untyped-implies, typed-implies}
 use borrow.Author.Needs.{needs}
 use Rattle.queue_rules.proofs.words_typed.Statement.{statement}
 use Rattle.queue_rules.proofs.words_typed.Tie as tie
@@ -11,7 +11,7 @@ returns c = search untyped-implies
 slots-below-requires : tie.Need-slots-below-requires
 slots-below-requires c κs =
     let p = c .before .before .before .before .before .before .pre in
-    ((omega (arith, c .before .before .wide .ensures, head-in _ _ _ (p .1 .1)), p .0), p .1 .0)
+    ((omega (arith, c .before .before .wide .ensures, ends-in _ _ _ (p .1 .1)), p .0), p .1 .0)
 
 returns-2 : tie.Need-returns-2
 returns-2 c =
