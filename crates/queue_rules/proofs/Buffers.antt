@@ -12,14 +12,15 @@ use lib.Dec.{ltb}
 use lib.ListN.{length, getD}
 use Rattle.paper.specs.Image.{lead, most-character, most-words, most-capacity, begin, start, total, place-at, place, at, task}
 use Rattle.paper.specs.Queues.{Has, header-capacity, queue-word, head, tail, count, capacity, slot, words-from, held, free}
-use Rattle.paper.specs.Rules.{Queued, Zeros}
-use Rattle.paper.specs.Tests.{every, every-task, all-below, implies, queued, cleared, queue-holds, buffers-hold, characters}
+use Rattle.paper.specs.Rules.{Queued}
+use Rattle.paper.specs.Tests.{every-task, all-below, implies, queued, cleared, queue-holds, buffers-hold, characters}
 use Rattle.paper.specs.declared.Place.{Place}
 use Rattle.paper.specs.declared.Shape.{Shape}
 use Rattle.paper.specs.declared.Part.{Part}
 use Rattle.paper.specs.declared.Queue.{Queue}
-use Rattle.laws.specs.Places.{begins-later, row-below}
+use Rattle.laws.specs.Places.{begins-later, below, row-below}
 use Rattle.laws.specs.Steps.{steps}
+use Rattle.laws.specs.Queues.{word-valid}
 use Rattle.laws.specs.Sound.{Sized, sized-fit, sized-words}
 use Rattle.laws.specs.Checked.{all-three, implied, every-is, slots-below, queued-is, cleared-is, Kept, kept-is, buffers-are}
 use Rattle.queue_rules.specs.BufferRows.{row-queued, slot-at, row-words-below, row-cleared, row-typed, row-right, row-at, RowsBetween, AllRight, typed-hold}
@@ -84,6 +85,19 @@ module _ (s : Shape) (im : List ℕ) (z : Sized s im) where
                 typing .1 (λ t. below-is r _ _ _ .1 (rw (head-is, word-is 2) (b .1 t))),
               ),
         )
+
+    pub words-below : queued s im q ≡ true → (h n m g : ℕ) → g ≡ header-capacity s q → (o : Bool) → o ≡ row-words-below im (place-at p) g h n m
+        → o ≡ all-below m (words-from s im q h n)
+    words-below ok h n m g eg o eo =
+        let i = below-is (queued-is s im q .0 ok) h n m in
+        let same : o ≡ row-words-below im (place-at p) (header-capacity s q) h n m = eo ∙ rw eg in
+        together o _ (λ t. i .0 (sym same ∙ t)) (λ a. same ∙ i .1 a)
+
+    pub row-inside : p + lead + header-capacity s q ≤ length im
+    unfolding place
+    row-inside =
+        let last = below s (queue-word s q (3 + header-capacity s q)) (word-valid s q (3 + header-capacity s q) has (omega arith)) in
+        omega (arith, e, last, sized-words s im z)
 
     row-as : (given : ℕ) → given ≡ header-capacity s q → (typed : Bool) → So (row-right im (place-at p) given typed) ↔ Right q typed
     row-as given same typed = rw same (row-is typed)

@@ -7,18 +7,18 @@ use native.Mathlib.Nat.{mod-lt}
 use native.Mathlib.Omega.{arith}
 use borrow.Author.Tests.{lt-ltb, le-ltb}
 use lib.Dec.{eqb, leb, ltb}
-use Rattle.paper.specs.Image.{lead, most-capacity, most-character, cell, Valid, at}
+use Rattle.paper.specs.Image.{lead, most-capacity, cell, Valid, place, at}
 use Rattle.paper.specs.Queues.{Has, header-capacity, queue-word, head, tail, count, capacity, slot, step, words-from, held, free}
 use Rattle.paper.specs.Rules.{Queued}
-use Rattle.paper.specs.Tests.{all-below, queued, cleared, buffers-hold, characters}
-use Rattle.paper.specs.declared.Task.{Task}
+use Rattle.paper.specs.Tests.{all-below, queued, cleared}
 use Rattle.paper.specs.declared.Shape.{Shape}
+use Rattle.paper.specs.declared.Place.{Place}
 use Rattle.paper.specs.declared.Cell.{Cell}
 use Rattle.paper.specs.declared.Queue.{Queue}
 use Rattle.laws.specs.Sound.{Sized, sized-fit}
 use Rattle.laws.specs.Steps.{step-mod}
 use Rattle.laws.specs.Queues.{word-valid}
-use Rattle.laws.specs.Checked.{queued-is, buffers-are}
+use Rattle.laws.specs.Checked.{queued-is}
 
 -- word k of a queue, in the row of its first word
 module _ (s : Shape) (im : List ℕ) (q : Queue) (c : Cell) (k : ℕ) (e : c ≡ head s q) where
@@ -27,6 +27,13 @@ module _ (s : Shape) (im : List ℕ) (q : Queue) (c : Cell) (k : ℕ) (e : c ≡
 
   pub word-got : (r : ℕ) → r ≡ at s im (cell (c .part) (c .row) k) → r ≡ at s im (queue-word s q k)
   word-got r er = rw (er, e)
+
+-- the first word of a queue, and where it lies
+pub head-found : (s : Shape) (q : Queue) (c : Cell) → c ≡ head s q → Has s q → Valid s c
+head-found s q c e h = rw e (word-valid s q 0 h (omega arith))
+
+pub head-placed : (s : Shape) (q : Queue) (c : Cell) (p : Place) → c ≡ head s q → p ≡ place s c → p .0 ≡ place s (head s q) .0
+head-placed s q c p ec ep = rw (ep, ec)
 
 -- the leading words as they are tested
 pub queued-tested : (s : Shape) (im : List ℕ) (q : Queue) (given h t n c : ℕ) (r : Bool) → h ≡ at s im (head s q) → t ≡ at s im (tail s q)

@@ -9,7 +9,6 @@ use native.Mathlib.Decide.{decLt}
 use native.Mathlib.Omega.{arith}
 use lib.ListN.{getD}
 use Rattle.paper.specs.Image.{lead, word, place-at}
-use Rattle.paper.specs.Tests.{every}
 use Rattle.paper.specs.declared.Place.{Place}
 use Rattle.laws.specs.Every.{every-none, every-more, every-fails, every-done}
 use Rattle.laws.specs.Checked.{every-is}

@@ -26,6 +26,7 @@ use paper::Shape;
 use paper::TAIL;
 use paper::WORD_END;
 use places::head_of;
+use places::place_of;
 use places::start_of;
 use places::wide;
 use places::word_of;
@@ -255,7 +256,7 @@ fn free_zeros(im: &[u16], p: Place, given: usize) -> bool
 {
     let at = p.0;
     let free = given - wide(im[at + COUNT]);
-    slots_below(im, p, given, wide(im[at + TAIL]), free, 1)
+    slots_below(im, p, given, wide(im[at + TAIL]), free, ABOVE_ZERO)
 }
 
 // Whether the row at a place is right; where it is typed, its words are characters.
@@ -479,17 +480,8 @@ fn words_below(s: Shape, im: &[u16], q: Queue, from: usize, n: usize, m: usize) 
     requires { ⌜ from < header-capacity s q ⌝ }
     ensures { λ r. ⌜ r ≡ all-below m (words-from s (now (im .entry)) q from n) ⌝ }
 {
-    let capacity = capacity_of(s, q);
-    let mut slot = from;
-    let mut left = n;
-    while 0 < left {
-        if m <= wide(queue_word(s, im, q, LEAD_WORDS + slot)) {
-            return false;
-        }
-        slot = wrapped(slot + 1, capacity);
-        left -= 1;
-    }
-    true
+    let p = place_of(s, head_of(s, q));
+    slots_below(im, p, capacity_of(s, q), from, n, m)
 }
 
 // Whether each word that a queue holds is below m.

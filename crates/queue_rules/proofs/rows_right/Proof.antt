@@ -1,5 +1,4 @@
 -- The rows up to the first that is used are right, and those from there on decide.
-use native.Mathlib.Omega.{arith}
 use Rattle.queue_rules.proofs.Passing.{rows-right, rows-left}
 use borrow.Author.Needs.{needs}
 use Rattle.queue_rules.proofs.rows_right.Statement.{statement}
