@@ -4,11 +4,11 @@ use mathlib.Core.List.{List}
 use mathlib.Core.Bool.{Bool, true, false, not, _&&_, So, and-eq-true-iff, true≢false, false≢true}
 use mathlib.Core.Logic.{_↔_, dite}
 use Prim.Native.Nat.{ℕ, _+_, _-_, _*_, _/_, _%_, _<_, _≤_}
-use native.Mathlib.Nat.{mod-lt, div-add-mod', div-lt-iff-lt-mul}
+use native.Mathlib.Nat.{mul-le-mul-right, mod-lt, div-add-mod', div-lt-iff-lt-mul}
 use native.Mathlib.Decide.{decLt}
 use native.Mathlib.Omega.{arith}
-use borrow.Author.Tests.{lt-ltb, ltb-true, not-true, not-false}
-use lib.Dec.{ltb}
+use borrow.Author.Tests.{eqb-true, lt-ltb, le-ltb, ltb-true, not-true, not-false}
+use lib.Dec.{eqb, ltb}
 use lib.ListN.{length, getD}
 use Rattle.paper.specs.Image.{lead, most-character, most-words, most-capacity, begin, start, total, place-at, place, at, task}
 use Rattle.paper.specs.Queues.{Has, header-capacity, queue-word, head, tail, count, capacity, slot, words-from, held, free}
@@ -18,13 +18,17 @@ use Rattle.paper.specs.declared.Place.{Place}
 use Rattle.paper.specs.declared.Shape.{Shape}
 use Rattle.paper.specs.declared.Part.{Part}
 use Rattle.paper.specs.declared.Queue.{Queue}
-use Rattle.laws.specs.Places.{begins-later, below, row-below}
+use Rattle.laws.specs.Places.{begins-later, below, row-below, row-same, column-same}
 use Rattle.laws.specs.Steps.{steps}
 use Rattle.laws.specs.Queues.{word-valid}
 use Rattle.laws.specs.Sound.{Sized, sized-fit, sized-words}
 use Rattle.laws.specs.Checked.{all-three, implied, every-is, slots-below, queued-is, cleared-is, Kept, kept-is, buffers-are}
-use Rattle.queue_rules.specs.BufferRows.{row-queued, slot-at, row-words-below, row-cleared, row-typed, row-right, row-at, RowsBetween, AllRight, typed-hold}
+use Rattle.queue_rules.specs.BufferRows.{row-queued, slot-at, row-words-below, row-cleared, row-typed, row-right, row-fine, row-at, RowsBetween, AllRight}
 use Rattle.queue_rules.specs.Failing.{refuted, together}
+
+-- two numbers that are tested to be a third
+pub both-same : (a b c : ℕ) (r : Bool) → r ≡ (eqb a c && eqb b c) → r ≡ true → (a ≡ c) × (b ≡ c)
+both-same a b c r e t = let h = and-eq-true-iff (eqb a c) (eqb b c) .0 (sym e ∙ t) in (eqb-true a c (h .0), eqb-true b c (h .1))
 
 module _ (s : Shape) (im : List ℕ) (z : Sized s im) where
   inside : (k : ℕ) → k ≤ 10 → (begin s k ≤ length im) × (length im ≤ most-words)
@@ -102,20 +106,61 @@ module _ (s : Shape) (im : List ℕ) (z : Sized s im) where
     row-as : (given : ℕ) → given ≡ header-capacity s q → (typed : Bool) → So (row-right im (place-at p) given typed) ↔ Right q typed
     row-as given same typed = rw same (row-is typed)
 
-  -- the rows from a place on are the input buffers, the output buffers, the message buffers
-  module _ (p : Place) where
-    input-is : p .0 ≡ start s Part.InputBuffers → (k : ℕ) → k < s .n → So (row-right im (row-at p (s .ci) k) (s .ci) true) ↔ Right (Queue.Input (task k)) true
+  -- the buffers, where messages is the place where those of messages start
+  module _ (messages : Place) (em : messages .0 ≡ start s Part.MessageBuffers) where
+    -- row k of rows that lie as the buffers of a part do
+    input-is : (p : ℕ) (given k : ℕ) → p ≡ start s Part.InputBuffers + k * (lead + s .ci) → given ≡ s .ci → k < s .n
+        → So (row-fine im (place-at p) given messages) ↔ Right (Queue.Input (task k)) true
     unfolding place
-    input-is e k l = row-is (Queue.Input (task k)) l _ (omega (arith, e)) true
+    input-is p given k e same l =
+        rw (lt-ltb p (messages .0) (omega (arith, em, mul-le-mul-right (lead + s .ci) l))) (row-as (Queue.Input (task k)) l p (omega (arith, e)) given same true)
 
-    output-is : p .0 ≡ start s Part.OutputBuffers → (k : ℕ) → k < s .n → So (row-right im (row-at p (s .co) k) (s .co) true) ↔ Right (Queue.Output (task k)) true
+    output-is : (p : ℕ) (given k : ℕ) → p ≡ start s Part.OutputBuffers + k * (lead + s .co) → given ≡ s .co → k < s .n
+        → So (row-fine im (place-at p) given messages) ↔ Right (Queue.Output (task k)) true
     unfolding place
-    output-is e k l = row-is (Queue.Output (task k)) l _ (omega (arith, e)) true
+    output-is p given k e same l =
+        rw (lt-ltb p (messages .0) (omega (arith, em, mul-le-mul-right (lead + s .co) l))) (row-as (Queue.Output (task k)) l p (omega (arith, e)) given same true)
 
-    message-is : p .0 ≡ start s Part.MessageBuffers → (i j : ℕ) → i < s .n → j < s .n
-        → So (row-right im (row-at p (s .cm) (i * s .n + j)) (s .cm) false) ↔ Right (Queue.Message (task i) (task j)) false
+    message-is : (p : ℕ) (given i j : ℕ) → p ≡ start s Part.MessageBuffers + (i * s .n + j) * (lead + s .cm) → given ≡ s .cm → i < s .n → j < s .n
+        → So (row-fine im (place-at p) given messages) ↔ Right (Queue.Message (task i) (task j)) false
     unfolding place
-    message-is e i j hi hj = row-is (Queue.Message (task i) (task j)) (hi, hj) _ (omega (arith, e)) false
+    message-is p given i j e same li lj =
+        rw (le-ltb p (messages .0) (omega (arith, em))) (row-as (Queue.Message (task i) (task j)) (li, lj) p (omega (arith, e)) given same false)
+
+    -- rows that are right where something holds of each
+    rows-are : (p end : Place) (given rows : ℕ) (Q : ℕ → Type 0) → end .0 ≡ row-at p given rows .0
+        → ((j : ℕ) → j < rows → So (row-fine im (row-at p given j) given messages) ↔ Q j) → (r : Bool) → AllRight im p end given messages r
+        → So r ↔ ((j : ℕ) → j < rows → Q j)
+    unfolding AllRight
+    rows-are p end given rows Q e is r a =
+        let er = a rows e in
+        (λ t j l. is j l .0 (every-is rows _ .0 (sym er ∙ t) j l), λ f. er ∙ every-is rows _ .1 (λ j l. is j l .1 (f j l)))
+
+    -- those of input, of output and of messages, from a place up to another
+    module _ (p end : Place) where
+      inputs-are : p .0 ≡ start s Part.InputBuffers → end .0 ≡ start s Part.OutputBuffers → (r : Bool) → AllRight im p end (s .ci) messages r
+          → So r ↔ ((k : ℕ) → k < s .n → Right (Queue.Input (task k)) true)
+      inputs-are e ee = rows-are p end (s .ci) (s .n) (λ k. Right (Queue.Input (task k)) true) (omega (arith, e, ee)) (λ k l. input-is _ (s .ci) k (omega (arith, e)) refl l)
+
+      outputs-are : p .0 ≡ start s Part.OutputBuffers → end .0 ≡ start s Part.MessageBuffers → (r : Bool) → AllRight im p end (s .co) messages r
+          → So r ↔ ((k : ℕ) → k < s .n → Right (Queue.Output (task k)) true)
+      outputs-are e ee = rows-are p end (s .co) (s .n) (λ k. Right (Queue.Output (task k)) true) (omega (arith, e, ee)) (λ k l. output-is _ (s .co) k (omega (arith, e)) refl l)
+
+  -- message k, of those from task 0 on
+  abbrev Sent : ℕ → Type 0
+  Sent k = Right (Queue.Message (task (k / s .n)) (task (k % s .n))) false
+
+  some : 0 < s .n
+  some = sized-fit s im z .tasks .0
+
+  pair-is : (k : ℕ) → k < s .n * s .n → (k / s .n < s .n) × (k % s .n < s .n) × ((k / s .n) * s .n + k % s .n ≡ k)
+  pair-is k l = (div-lt-iff-lt-mul some .1 l, mod-lt k some, div-add-mod' k (s .n))
+
+  sent-all : ((k : ℕ) → k < s .n * s .n → Sent k) → (i j : ℕ) → i < s .n → j < s .n → Right (Queue.Message (task i) (task j)) false
+  sent-all f i j li lj =
+      let d : (i * s .n + j) / s .n ≡ i = row-same (s .n) ((i * s .n + j) / s .n) i ((i * s .n + j) % s .n) j (mod-lt (i * s .n + j) some) lj (div-add-mod' (i * s .n + j) (s .n)) in
+      let m : (i * s .n + j) % s .n ≡ j = column-same (s .n) ((i * s .n + j) / s .n) i ((i * s .n + j) % s .n) j (mod-lt (i * s .n + j) some) lj (div-add-mod' (i * s .n + j) (s .n)) in
+      rw (d, m) at (f (i * s .n + j) (row-below (s .n) li lj))
 
   -- the ready queue
   module _ (p : Place) (e : p .0 ≡ start s Part.ReadyQueue) where
@@ -128,79 +173,14 @@ module _ (s : Shape) (im : List ℕ) (z : Sized s im) where
         let i = row-is Queue.Ready tt (p .0) (omega (arith, e)) false in
         together r _ (λ t. kept-is s im Queue.Ready .1 (i .0 (sym er ∙ t) .0)) (λ h. er ∙ i .1 (kept-is s im Queue.Ready .0 h, λ f. absurd (false≢true f)))
 
-  -- the input and output buffers
-  typed-is : So (typed-hold s im) ↔ ((k : ℕ) → k < s .n → Right (Queue.Input (task k)) true × Right (Queue.Output (task k)) true)
-  unfolding characters
-  typed-is =
-      simp (every-is, all-three, and-eq-true-iff, kept-is) (
-        λ f k l. let h = f k l in ((h .0, λ _. h .2 .0), (h .1, λ _. h .2 .1)),
-        λ f k l. let h = f k l in (h .0 .0, h .1 .0, (h .0 .1 refl, h .1 .1 refl)),
-      )
-
-  -- those of input, from a place on
-  module _ (p : Place) (e : p .0 ≡ start s Part.InputBuffers) where
-    some-inputs : (0 < s .ci) × (s .ci ≤ most-capacity)
-    some-inputs = sized-fit s im z .inputs
-
-    -- up to those of output
-    module _ (end : Place) (ee : end .0 ≡ start s Part.OutputBuffers) where
-      pub inputs-fit : ((0 < s .ci) × (s .ci ≤ most-capacity)) × (RowsBetween p end (s .ci) × ((end .0 ≤ length im) × (length im ≤ most-words)))
-      inputs-fit = let i = inside 5 (omega arith) in (some-inputs, (record { rows = s .n; ends = omega (arith, e, ee) }, (omega (arith, ee, i), i .1)))
-
-      inputs-are : (r : Bool) → AllRight im p end (s .ci) true r → So r ↔ ((k : ℕ) → k < s .n → Right (Queue.Input (task k)) true)
-      unfolding AllRight
-      inputs-are r a =
-          let er = a (s .n) (omega (arith, e, ee)) in
-          (λ t k l. input-is p e k l .0 (every-is (s .n) _ .0 (sym er ∙ t) k l), λ f. er ∙ every-is (s .n) _ .1 (λ k l. input-is p e k l .1 (f k l)))
-
-      pub inputs-wrong : (r : Bool) → AllRight im p end (s .ci) true r → not r ≡ true → false ≡ typed-hold s im
-      inputs-wrong r a n = refuted _ (λ h. true≢false (sym (inputs-are r a .1 (λ k l. typed-is .0 h k l .0)) ∙ not-true r n))
-
-    -- up to those of messages, where both have one capacity
-    module _ (end : Place) (ee : end .0 ≡ start s Part.MessageBuffers) (same : s .ci ≡ s .co) where
-      both-end : end .0 ≡ row-at p (s .ci) (s .n + s .n) .0
-      both-end = let m : s .n * s .co ≡ s .n * s .ci = rw same in omega (arith, e, ee)
-
-      pub both-fit : ((0 < s .ci) × (s .ci ≤ most-capacity)) × (RowsBetween p end (s .ci) × ((end .0 ≤ length im) × (length im ≤ most-words)))
-      both-fit = let i = inside 6 (omega arith) in (some-inputs, (record { rows = s .n + s .n; ends = both-end }, (omega (arith, ee, i), i .1)))
-
-      second : (k : ℕ) → k < s .n → So (row-right im (row-at p (s .ci) (s .n + k)) (s .ci) true) ↔ Right (Queue.Output (task k)) true
-      unfolding place
-      second k l = let m : k * s .co ≡ k * s .ci = rw same in row-as (Queue.Output (task k)) l _ (omega (arith, e)) (s .ci) same true
-
-      pub both-decide : (r : Bool) → AllRight im p end (s .ci) true r → r ≡ typed-hold s im
-      unfolding AllRight
-      both-decide r a =
-          let er = a (s .n + s .n) both-end in
-          together r _
-          (λ t. let f = every-is (s .n + s .n) _ .0 (sym er ∙ t) in
-          typed-is .1 (λ k l. (input-is p e k l .0 (f k (omega arith)), second k l .0 (f (s .n + k) (omega arith)))))
-          (λ h. er ∙ every-is (s .n + s .n) _ .1 (λ j l.
-          dite (decLt j (s .n)) (λ b. input-is p e j b .1 (typed-is .0 h j b .0))
-          (λ o. let ij : j ≡ s .n + (j - s .n) = omega (arith, o) in
-          let lj : j - s .n < s .n = omega (arith, o) in
-          rw ij (second (j - s .n) lj .1 (typed-is .0 h (j - s .n) lj .1)))))
-
-  -- those of output
-  module _ (p end : Place) (e : p .0 ≡ start s Part.OutputBuffers) (ee : end .0 ≡ start s Part.MessageBuffers) where
-    pub outputs-fit : ((0 < s .co) × (s .co ≤ most-capacity)) × (RowsBetween p end (s .co) × ((end .0 ≤ length im) × (length im ≤ most-words)))
-    outputs-fit = let i = inside 6 (omega arith) in (sized-fit s im z .outputs, (record { rows = s .n; ends = omega (arith, e, ee) }, (omega (arith, ee, i), i .1)))
-
-    pub outputs-decide : (q : Place) (eq : q .0 ≡ start s Part.InputBuffers) (a r : Bool) → AllRight im q p (s .ci) true a → not a ≡ false → AllRight im p end (s .co) true r
-        → r ≡ typed-hold s im
-    unfolding AllRight
-    outputs-decide q eq a r ea na ar =
-        let er = ar (s .n) (omega (arith, e, ee)) in
-        together r _
-        (λ t. typed-is .1 (λ k l. (inputs-are q eq p e a ea .0 (not-false a na) k l, output-is p e k l .0 (every-is (s .n) _ .0 (sym er ∙ t) k l))))
-        (λ h. er ∙ every-is (s .n) _ .1 (λ k l. output-is p e k l .1 (typed-is .0 h k l .1)))
-
   -- all buffers
   abbrev all : Bool
   all = every-task s (buffers-hold s im) && every-task s (characters s im)
 
-  all-is : So all ↔ (((k : ℕ) → k < s .n → Right (Queue.Input (task k)) true × Right (Queue.Output (task k)) true) ×
-      ((i j : ℕ) → i < s .n → j < s .n → Right (Queue.Message (task i) (task j)) false))
+  abbrev Typed : ℕ → Type 0
+  Typed k = Right (Queue.Input (task k)) true × Right (Queue.Output (task k)) true
+
+  all-is : So all ↔ (((k : ℕ) → k < s .n → Typed k) × ((i j : ℕ) → i < s .n → j < s .n → Right (Queue.Message (task i) (task j)) false))
   unfolding characters
   all-is =
       simp (and-eq-true-iff, every-is, buffers-are) (
@@ -208,25 +188,84 @@ module _ (s : Shape) (im : List ℕ) (z : Sized s im) where
         λ h. (λ k l. let b = h .0 k l in (b .0 .0, b .1 .0, λ j lj. h .1 k j l lj .0), λ k l. let b = h .0 k l in (b .0 .1 refl, b .1 .1 refl)),
       )
 
-  pub typed-wrong : (r : Bool) → r ≡ typed-hold s im → not r ≡ true → false ≡ all
-  typed-wrong r er n = refuted _ (λ h. true≢false (sym (typed-is .1 (all-is .0 h .0)) ∙ sym er ∙ not-true r n))
+  -- what the rows of all buffers must be
+  fits : (p end : Place) (given rows k : ℕ) → (0 < given) × (given ≤ most-capacity) → end .0 ≡ row-at p given rows .0 → k ≤ 10 → end .0 ≡ begin s k
+      → ((0 < given) × (given ≤ most-capacity)) × (RowsBetween p end given × ((end .0 ≤ length im) × (length im ≤ most-words)))
+  fits p end given rows k g e hk ee = let i = inside k hk in (g, (record { rows = rows; ends = e }, (omega (arith, ee, i), i .1)))
 
-  -- where those of input and output are right, the rows of messages decide
-  module _ (p end : Place) (e : p .0 ≡ start s Part.MessageBuffers) (ee : end .0 ≡ start s Part.Ports) where
-    pub messages-fit : ((0 < s .cm) × (s .cm ≤ most-capacity)) × (RowsBetween p end (s .cm) × ((end .0 ≤ length im) × (length im ≤ most-words)))
-    messages-fit = let i = inside 7 (omega arith) in (sized-fit s im z .messages, (record { rows = s .n * s .n; ends = omega (arith, e, ee) }, (omega (arith, ee, i), i .1)))
+  module _ (p q m end : Place) (ep : p .0 ≡ start s Part.InputBuffers) (eq : q .0 ≡ start s Part.OutputBuffers) (em : m .0 ≡ start s Part.MessageBuffers)
+      (ee : end .0 ≡ start s Part.Ports) where
+    pub inputs-fit : ((0 < s .ci) × (s .ci ≤ most-capacity)) × (RowsBetween p q (s .ci) × ((q .0 ≤ length im) × (length im ≤ most-words)))
+    inputs-fit = fits p q (s .ci) (s .n) 5 (sized-fit s im z .inputs) (omega (arith, ep, eq)) (omega arith) eq
 
-    pub messages-decide : (t r : Bool) → t ≡ typed-hold s im → not t ≡ false → AllRight im p end (s .cm) false r → r ≡ all
-    unfolding AllRight
-    messages-decide t r et nt ar =
-        let er = ar (s .n * s .n) (omega (arith, e, ee)) in
+    pub outputs-fit : ((0 < s .co) × (s .co ≤ most-capacity)) × (RowsBetween q m (s .co) × ((m .0 ≤ length im) × (length im ≤ most-words)))
+    outputs-fit = fits q m (s .co) (s .n) 6 (sized-fit s im z .outputs) (omega (arith, eq, em)) (omega arith) em
+
+    pub messages-fit : ((0 < s .cm) × (s .cm ≤ most-capacity)) × (RowsBetween m end (s .cm) × ((end .0 ≤ length im) × (length im ≤ most-words)))
+    messages-fit = fits m end (s .cm) (s .n * s .n) 7 (sized-fit s im z .messages) (omega (arith, em, ee)) (omega arith) ee
+
+    pub inputs-wrong : (r : Bool) → AllRight im p q (s .ci) m r → not r ≡ true → false ≡ all
+    inputs-wrong r a n = refuted _ (λ h. true≢false (sym (inputs-are m em p q ep eq r a .1 (λ k l. all-is .0 h .0 k l .0)) ∙ not-true r n))
+
+    pub outputs-wrong : (r : Bool) → AllRight im q m (s .co) m r → not r ≡ true → false ≡ all
+    outputs-wrong r a n = refuted _ (λ h. true≢false (sym (outputs-are m em q m eq em r a .1 (λ k l. all-is .0 h .0 k l .1)) ∙ not-true r n))
+
+    sent-is : (x given : ℕ) → given ≡ s .cm → (k : ℕ) → k < s .n * s .n → x ≡ start s Part.MessageBuffers + k * (lead + s .cm)
+        → So (row-fine im (place-at x) given m) ↔ Sent k
+    sent-is x given same k l e =
+        let i = pair-is k l in
+        message-is m em x given (k / s .n) (k % s .n) (rw (i .2) e) same (i .0) (i .1)
+
+    pub messages-decide : (a b r : Bool) → AllRight im p q (s .ci) m a → not a ≡ false → AllRight im q m (s .co) m b → not b ≡ false → AllRight im m end (s .cm) m r → r ≡ all
+    messages-decide a b r ra na rb nb rr =
+        let is = rows-are m em m end (s .cm) (s .n * s .n) Sent (omega (arith, em, ee)) (λ k l. sent-is _ (s .cm) refl k l (omega (arith, em))) r rr in
         together r _
-        (λ a. all-is .1 (typed-is .0 (sym et ∙ not-false t nt), λ i j li lj. message-is p e i j li lj .0 (every-is (s .n * s .n) _ .0 (sym er ∙ a) (i * s .n + j) (row-below (s .n) li lj))))
-        (λ h. er ∙ every-is (s .n * s .n) _ .1 (λ k l.
-        let some : 0 < s .n = sized-fit s im z .tasks .0 in
-        let i = k / s .n in
-        let j = k % s .n in
-        let hi : i < s .n = div-lt-iff-lt-mul some .1 l in
-        let hj : j < s .n = mod-lt k some in
-        let whole : i * s .n + j ≡ k = div-add-mod' k (s .n) in
-        rw whole at (message-is p e i j hi hj .1 (all-is .0 h .1 i j hi hj))))
+        (λ t. all-is .1 (λ k l. (inputs-are m em p q ep eq a ra .0 (not-false a na) k l, outputs-are m em q m eq em b rb .0 (not-false b nb) k l), sent-all (is .0 t)))
+        (λ h. is .1 (λ k l. let i = pair-is k l in all-is .0 h .1 _ _ (i .0) (i .1)))
+
+    -- all of them at once, where they have one capacity
+    module _ (ci : s .ci ≡ s .cm) (co : s .co ≡ s .cm) where
+      times-ci : (k : ℕ) → k * s .ci ≡ k * s .cm
+      times-ci k = rw ci
+
+      times-co : (k : ℕ) → k * s .co ≡ k * s .cm
+      times-co k = rw co
+
+      abbrev rows : ℕ
+      rows = s .n + s .n + s .n * s .n
+
+      ends : end .0 ≡ row-at p (s .cm) rows .0
+      ends = omega (arith, ep, ee, times-ci (s .n), times-co (s .n))
+
+      pub joined-fit : ((0 < s .cm) × (s .cm ≤ most-capacity)) × (RowsBetween p end (s .cm) × ((end .0 ≤ length im) × (length im ≤ most-words)))
+      joined-fit = fits p end (s .cm) rows 7 (sized-fit s im z .messages) ends (omega arith) ee
+
+      first-rows : (k : ℕ) → k < s .n → So (row-fine im (row-at p (s .cm) k) (s .cm) m) ↔ Right (Queue.Input (task k)) true
+      first-rows k l = input-is m em _ (s .cm) k (omega (arith, ep, times-ci k)) (sym ci) l
+
+      second-rows : (k : ℕ) → k < s .n → So (row-fine im (row-at p (s .cm) (s .n + k)) (s .cm) m) ↔ Right (Queue.Output (task k)) true
+      second-rows k l = output-is m em _ (s .cm) k (omega (arith, ep, times-ci (s .n), times-co k)) (sym co) l
+
+      third-rows : (k : ℕ) → k < s .n * s .n → So (row-fine im (row-at p (s .cm) (s .n + s .n + k)) (s .cm) m) ↔ Sent k
+      third-rows k l = sent-is _ (s .cm) refl k l (omega (arith, ep, times-ci (s .n), times-co (s .n)))
+
+      pub joined-decide : (r : Bool) → AllRight im p end (s .cm) m r → r ≡ all
+      unfolding AllRight
+      joined-decide r a =
+          let er = a rows ends in
+          together r _
+          (λ t.
+          let f = every-is rows _ .0 (sym er ∙ t) in
+          all-is .1 (λ k l. (first-rows k l .0 (f k (omega arith)), second-rows k l .0 (f (s .n + k) (omega arith))), sent-all (λ k l. third-rows k l .0 (f (s .n + s .n + k) (omega arith)))))
+          (λ h. er ∙ every-is rows _ .1 (λ j l.
+          dite (decLt j (s .n)) (λ b. first-rows j b .1 (all-is .0 h .0 j b .0))
+          (λ o. dite (decLt j (s .n + s .n))
+          (λ b.
+          let ij : j ≡ s .n + (j - s .n) = omega (arith, o) in
+          let lj : j - s .n < s .n = omega (arith, o) in
+          rw ij (second-rows (j - s .n) lj .1 (all-is .0 h .0 (j - s .n) lj .1)))
+          (λ o2.
+          let ij : j ≡ s .n + s .n + (j - (s .n + s .n)) = omega (arith, o2) in
+          let lj : j - (s .n + s .n) < s .n * s .n = omega (arith, o2) in
+          let i = pair-is (j - (s .n + s .n)) lj in
+          rw ij (third-rows (j - (s .n + s .n)) lj .1 (all-is .0 h .1 _ _ (i .0) (i .1)))))))

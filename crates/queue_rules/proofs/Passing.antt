@@ -13,7 +13,7 @@ use Rattle.paper.specs.declared.Place.{Place}
 use Rattle.laws.specs.Every.{every-none, every-more, every-fails, every-done}
 use Rattle.laws.specs.Checked.{every-is}
 use Rattle.queue_rules.specs.Failing.{together}
-use Rattle.queue_rules.specs.BufferRows.{leads, row-queued, row-right, row-at, RowsBetween, RightUpTo, AllRight}
+use Rattle.queue_rules.specs.BufferRows.{leads, row-queued, row-fine, row-at, RowsBetween, RightUpTo, AllRight}
 
 -- the four words, read
 pub row-tested : (im : List ℕ) (p : Place) (given : ℕ) (r : Bool)
@@ -38,12 +38,12 @@ module _ (from end : Place) (given : ℕ) (r : RowsBetween from end given) (l : 
             omega arith;
       }
 
-module _ (im : List ℕ) (from end : Place) (given : ℕ) (typed : Bool) where
+module _ (im : List ℕ) (from end : Place) (given : ℕ) (messages : Place) where
   -- no row passed yet; rows passed one part after another; one row
-  pub passed-none : RowsBetween from end given → RightUpTo im from end given typed from
+  pub passed-none : RowsBetween from end given → RightUpTo im from end given messages from
   passed-none r = record { k = 0; here = omega arith; right = every-none _; left = r }
 
-  pub passed-both : (at next : Place) → RightUpTo im from end given typed at → RightUpTo im at end given typed next → RightUpTo im from end given typed next
+  pub passed-both : (at next : Place) → RightUpTo im from end given messages at → RightUpTo im at end given messages next → RightUpTo im from end given messages next
   passed-both at next p q =
       record {
         k = p .k + q .k;
@@ -56,33 +56,33 @@ module _ (im : List ℕ) (from end : Place) (given : ℕ) (typed : Bool) where
         left = q .left;
       }
 
-  module _ (at : Place) (p : RightUpTo im from end given typed at) (l : at .0 < end .0) where
-    pub passed-one : row-right im at given typed ≡ true → RightUpTo im from end given typed (place-at (at .0 + (lead + given)))
+  module _ (at : Place) (p : RightUpTo im from end given messages at) (l : at .0 < end .0) where
+    pub passed-one : row-fine im at given messages ≡ true → RightUpTo im from end given messages (place-at (at .0 + (lead + given)))
     passed-one right =
         let here : row-at at given 0 .0 ≡ at .0 = omega arith in
-        let one = every-more 0 (λ j. row-right im (row-at at given j) given typed) (every-none _) (rw here right) in
+        let one = every-more 0 (λ j. row-fine im (row-at at given j) given messages) (every-none _) (rw here right) in
         passed-both at _ p record { k = 1; here = omega arith; right = one; left = rows-after at end given (p .left) l }
 
   -- all rows, or one that is wrong
-  module _ (at : Place) (p : RightUpTo im from end given typed at) where
+  module _ (at : Place) (p : RightUpTo im from end given messages at) where
     upto : (rows : ℕ) → end .0 ≡ row-at from given rows .0 → p .k ≤ rows
     upto rows e =
         dite (decLt rows (p .k)) (λ h. absurd (omega (arith, e, p .here, p .left .ends, mul-le-mul-right (lead + given) h))) (λ g. omega (arith, g))
 
-    pub rows-right : end .0 ≤ at .0 → AllRight im from end given typed true
+    pub rows-right : end .0 ≤ at .0 → AllRight im from end given messages true
     unfolding AllRight
     rows-right l rows e =
         let over : rows ≤ p .k = dite (decLt (p .k) rows) (λ h. absurd (omega (arith, e, p .here, l, mul-le-mul-right (lead + given) h))) (λ g. omega (arith, g)) in
         sym (every-done rows (p .k) _ (p .right) over (upto rows e))
 
-    pub rows-wrong : at .0 < end .0 → row-right im at given typed ≡ false → AllRight im from end given typed false
+    pub rows-wrong : at .0 < end .0 → row-fine im at given messages ≡ false → AllRight im from end given messages false
     unfolding AllRight
     rows-wrong l wrong rows e =
         let inside : p .k < rows = dite (decLt (p .k) rows) (λ h. h) (λ g. let m : rows ≤ p .k = omega (arith, g) in absurd (omega (arith, e, p .here, l, mul-le-mul-right (lead + given) m))) in
         sym (every-fails rows (p .k) _ inside (rw (← p .here) wrong))
 
   -- those that are left decide
-  pub rows-left : (at : Place) → RightUpTo im from end given typed at → (r : Bool) → AllRight im at end given typed r → AllRight im from end given typed r
+  pub rows-left : (at : Place) → RightUpTo im from end given messages at → (r : Bool) → AllRight im at end given messages r → AllRight im from end given messages r
   unfolding AllRight
   rows-left at p r f rows e =
       let more : p .k + (rows - p .k) ≡ rows = omega (arith, upto at p rows e) in

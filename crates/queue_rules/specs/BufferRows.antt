@@ -7,10 +7,8 @@ use Prim.Native.Nat.{ℕ, _+_, _-_, _*_, _%_, _<_}
 use lib.Dec.{eqb, leb, ltb}
 use lib.ListN.{getD}
 use Rattle.paper.specs.Image.{most-character, lead, word, place-at}
-use Rattle.paper.specs.Tests.{every, every-task, implies, queue-holds, characters}
+use Rattle.paper.specs.Tests.{every, implies}
 use Rattle.paper.specs.declared.Place.{Place}
-use Rattle.paper.specs.declared.Queue.{Queue}
-use Rattle.paper.specs.declared.Shape.{Shape}
 use Rattle.laws.specs.Steps.{steps}
 use Rattle.queue_rules.specs.FourWords.{Clear}
 
@@ -46,6 +44,10 @@ SlotsTyped im p given typed r = (r ≡ true) ↔ (typed ≡ true → (k : ℕ) �
 unfoldable pub row-right : List ℕ → Place → ℕ → Bool → Bool
 row-right im p given typed = row-queued im p given && row-cleared im p given && implies typed (row-typed im p given)
 
+-- a row before a place, where the message buffers start, is typed
+abbrev pub row-fine : List ℕ → Place → ℕ → Place → Bool
+row-fine im p given messages = row-right im p given (ltb (p .0) (messages .0))
+
 -- a row never used: it holds nothing, and all its slots are 0
 pub record Unused (im : List ℕ) (p : Place) (given : ℕ) : Type 0 where
   pub queued : row-queued im p given ≡ true
@@ -61,18 +63,13 @@ pub record RowsBetween (from end : Place) (given : ℕ) : Type 0 where
   pub ends : end .0 ≡ row-at from given rows .0
 
 -- the rows from one place up to another are right, and at that place a row starts, or it is the end
-pub record RightUpTo (im : List ℕ) (from end : Place) (given : ℕ) (typed : Bool) (at : Place) : Type 0 where
+pub record RightUpTo (im : List ℕ) (from end : Place) (given : ℕ) (messages at : Place) : Type 0 where
   pub k : ℕ
   pub here : at .0 ≡ row-at from given k .0
-  pub right : every k (λ j. row-right im (row-at from given j) given typed) ≡ true
+  pub right : every k (λ j. row-fine im (row-at from given j) given messages) ≡ true
   pub left : RowsBetween at end given
 
 -- whether all rows from one place up to another are right
-unfoldable pub AllRight : List ℕ → Place → Place → ℕ → Bool → Bool → Type 0
-AllRight im from end given typed r =
-    (rows : ℕ) → end .0 ≡ row-at from given rows .0 → r ≡ every rows (λ j. row-right im (row-at from given j) given typed)
-
--- the input and output buffers are queues with 0 in their free slots, and hold characters
-abbrev pub typed-hold : Shape → List ℕ → Bool
-typed-hold s im =
-    every-task s (λ i. queue-holds s im (Queue.Input i) && queue-holds s im (Queue.Output i) && characters s im i)
+unfoldable pub AllRight : List ℕ → Place → Place → ℕ → Place → Bool → Type 0
+AllRight im from end given messages r =
+    (rows : ℕ) → end .0 ≡ row-at from given rows .0 → r ≡ every rows (λ j. row-fine im (row-at from given j) given messages)

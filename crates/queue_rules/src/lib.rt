@@ -1,16 +1,18 @@
 // The rules of an image's queues, tested.
 ghost use mathlib.Core.Path.{_≡_};
-ghost use mathlib.Core.Bool.{Bool, true, _&&_};
+ghost use mathlib.Core.Bool.{true, _&&_};
 ghost use Prim.Native.Nat.{_+_, _%_, _<_, _≤_};
 ghost use lib.ListN.{length};
 ghost use Rattle.paper.specs.Image.{lead, most-capacity, most-words, at as word-at};
 ghost use Rattle.paper.specs.Queues.{Has, header-capacity, queue-word, words-from, held};
 ghost use Rattle.paper.specs.Tests.{all-below, every-task, implies, queued as is-queued, cleared as is-cleared, queue-holds as does-queue-hold, buffers-hold as do-buffers-hold, characters as are-characters};
+ghost use Rattle.paper.specs.declared.Place.{Place};
 ghost use Rattle.paper.specs.declared.Queue.the-variants.{Ready};
 ghost use Rattle.laws.specs.Sound.{Sized};
 ghost use Rattle.queue_rules.specs.FourWords.{lanes, four-at, Gathers, Clear, AllOrNone, Sieves, MarkedFrom, Marks};
-ghost use Rattle.queue_rules.specs.BufferRows.{leads, row-queued, row-words-below, row-cleared, row-typed, SlotsTyped, row-right as is-right, Unused, RowsBetween, RightUpTo, AllRight, typed-hold};
+ghost use Rattle.queue_rules.specs.BufferRows.{leads, row-queued, row-words-below, row-cleared, row-typed, SlotsTyped, row-right as is-right, Unused, RowsBetween, RightUpTo, AllRight};
 ghost use Rattle.queue_rules.specs.ReadyCounts.{None-found, All-found};
+use connectives::both;
 use paper::CAPACITY;
 use paper::COUNT;
 use paper::Cell;
@@ -186,7 +188,7 @@ fn first_used(im: &[u16], from: Place, end: Place, given: usize) -> Place
     requires { ⌜ (0 < given) × (given ≤ most-capacity) ⌝ }
     requires { ⌜ RowsBetween from end given ⌝ }
     requires { ⌜ (end .0 ≤ length (now im)) × (length (now im) ≤ most-words) ⌝ }
-    ensures { λ r. ⌜ ((typed : Bool) → RightUpTo (now (im .entry)) from end given typed r) ⌝ }
+    ensures { λ r. ⌜ ((messages : Place) → RightUpTo (now (im .entry)) from end given messages r) ⌝ }
 {
     let width = LEAD_WORDS + given;
     let mut at = from;
@@ -377,7 +379,7 @@ fn next_used(im: &[u16], from: Place, end: Place, given: usize) -> Place
     requires { ⌜ (0 < given) × (given ≤ most-capacity) ⌝ }
     requires { ⌜ RowsBetween from end given ⌝ }
     requires { ⌜ (end .0 ≤ length (now im)) × (length (now im) ≤ most-words) ⌝ }
-    ensures { λ r. ⌜ ((typed : Bool) → RightUpTo (now (im .entry)) from end given typed r) ⌝ }
+    ensures { λ r. ⌜ ((messages : Place) → RightUpTo (now (im .entry)) from end given messages r) ⌝ }
 {
     if used_at(im, from, end) {
         return from;
@@ -391,19 +393,19 @@ fn marked_rows(
     from: Place,
     end: Place,
     given: usize,
-    typed: bool,
+    messages: Place,
     marks: &[u16; MARKS],
 ) -> bool
     requires { ⌜ (16 ≤ given) × (given ≤ most-capacity) ⌝ }
     requires { ⌜ RowsBetween from end given ⌝ }
     requires { ⌜ (end .0 ≤ length (now im)) × (length (now im) ≤ most-words) ⌝ }
     requires { ⌜ Marks (now marks) given ⌝ }
-    ensures { λ r. ⌜ AllRight (now (im .entry)) from end given typed r ⌝ }
+    ensures { λ r. ⌜ AllRight (now (im .entry)) from end given messages r ⌝ }
 {
     let width = LEAD_WORDS + given;
     let mut at = from;
     while at.0 < end.0 {
-        if !long_right(im, at, given, typed, marks) {
+        if !long_right(im, at, given, at.0 < messages.0, marks) {
             return false;
         }
         at = next_used(im, Place(at.0 + width), end, given);
@@ -412,29 +414,29 @@ fn marked_rows(
 }
 
 // Whether the rows from a place on are right, of sixteen slots or more.
-fn long_rows(im: &[u16], from: Place, end: Place, given: usize, typed: bool) -> bool
+fn long_rows(im: &[u16], from: Place, end: Place, given: usize, messages: Place) -> bool
     requires { ⌜ (16 ≤ given) × (given ≤ most-capacity) ⌝ }
     requires { ⌜ RowsBetween from end given ⌝ }
     requires { ⌜ (end .0 ≤ length (now im)) × (length (now im) ≤ most-words) ⌝ }
-    ensures { λ r. ⌜ AllRight (now (im .entry)) from end given typed r ⌝ }
+    ensures { λ r. ⌜ AllRight (now (im .entry)) from end given messages r ⌝ }
 {
     let mut marks: [u16; MARKS] = [0; MARKS];
     mark(&mut marks, 0);
     mark(&mut marks, MOST_CAPACITY + given);
-    marked_rows(im, from, end, given, typed, &marks)
+    marked_rows(im, from, end, given, messages, &marks)
 }
 
 // Whether the rows from a place on are right, of fewer slots.
-fn short_rows(im: &[u16], from: Place, end: Place, given: usize, typed: bool) -> bool
+fn short_rows(im: &[u16], from: Place, end: Place, given: usize, messages: Place) -> bool
     requires { ⌜ (0 < given) × (given ≤ most-capacity) ⌝ }
     requires { ⌜ RowsBetween from end given ⌝ }
     requires { ⌜ (end .0 ≤ length (now im)) × (length (now im) ≤ most-words) ⌝ }
-    ensures { λ r. ⌜ AllRight (now (im .entry)) from end given typed r ⌝ }
+    ensures { λ r. ⌜ AllRight (now (im .entry)) from end given messages r ⌝ }
 {
     let width = LEAD_WORDS + given;
     let mut at = from;
     while at.0 < end.0 {
-        if !row_right(im, at, given, typed) {
+        if !row_right(im, at, given, at.0 < messages.0) {
             return false;
         }
         at = Place(at.0 + width);
@@ -443,20 +445,20 @@ fn short_rows(im: &[u16], from: Place, end: Place, given: usize, typed: bool) ->
 }
 
 // Whether the rows from a place up to another are right; those never used, which are most, are told at a look.
-fn rows_right(im: &[u16], from: Place, end: Place, given: usize, typed: bool) -> bool
+fn rows_right(im: &[u16], from: Place, end: Place, given: usize, messages: Place) -> bool
     requires { ⌜ (0 < given) × (given ≤ most-capacity) ⌝ }
     requires { ⌜ RowsBetween from end given ⌝ }
     requires { ⌜ (end .0 ≤ length (now im)) × (length (now im) ≤ most-words) ⌝ }
-    ensures { λ r. ⌜ AllRight (now (im .entry)) from end given typed r ⌝ }
+    ensures { λ r. ⌜ AllRight (now (im .entry)) from end given messages r ⌝ }
 {
     let used = first_used(im, from, end, given);
     if end.0 <= used.0 {
         return true;
     }
     if given < SIXTEEN {
-        return short_rows(im, used, end, given, typed);
+        return short_rows(im, used, end, given, messages);
     }
-    long_rows(im, used, end, given, typed)
+    long_rows(im, used, end, given, messages)
 }
 
 // Whether a queue obeys the rules of queues.
@@ -538,36 +540,23 @@ pub fn ready_holds(s: Shape, im: &[u16]) -> bool
     row_right(im, start_of(s, Part::ReadyQueue), s.n, false)
 }
 
-// Whether the input and output buffers obey the rules of queues, and hold characters.
-fn characters_hold(s: Shape, im: &[u16]) -> bool
-    requires { ⌜ Sized s (now im) ⌝ }
-    ensures { λ r. ⌜ r ≡ typed-hold s (now (im .entry)) ⌝ }
-{
-    let inputs = start_of(s, Part::InputBuffers);
-    let outputs = start_of(s, Part::OutputBuffers);
-    let end = start_of(s, Part::MessageBuffers);
-    if s.ci == s.co {
-        return rows_right(im, inputs, end, s.ci, true);
-    }
-    if !rows_right(im, inputs, outputs, s.ci, true) {
-        return false;
-    }
-    rows_right(im, outputs, end, s.co, true)
-}
-
-// Whether all buffers obey the rules of queues, and those of input and output hold characters.
+// Whether all buffers obey the rules of queues, and those of input and output hold characters; at once where all have one capacity.
 pub fn buffers_hold(s: Shape, im: &[u16]) -> bool
     requires { ⌜ Sized s (now im) ⌝ }
     ensures { λ r. ⌜ r ≡ (every-task s (do-buffers-hold s (now (im .entry))) && every-task s (are-characters s (now (im .entry)))) ⌝ }
 {
-    if !characters_hold(s, im) {
+    let inputs = start_of(s, Part::InputBuffers);
+    let outputs = start_of(s, Part::OutputBuffers);
+    let messages = start_of(s, Part::MessageBuffers);
+    let end = start_of(s, Part::Ports);
+    if both(s.ci == s.cm, s.co == s.cm) {
+        return rows_right(im, inputs, end, s.cm, messages);
+    }
+    if !rows_right(im, inputs, outputs, s.ci, messages) {
         return false;
     }
-    rows_right(
-        im,
-        start_of(s, Part::MessageBuffers),
-        start_of(s, Part::Ports),
-        s.cm,
-        false,
-    )
+    if !rows_right(im, outputs, messages, s.co, messages) {
+        return false;
+    }
+    rows_right(im, messages, end, s.cm, messages)
 }

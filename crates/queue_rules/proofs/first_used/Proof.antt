@@ -1,8 +1,8 @@
 -- The rows before that at at were never used.
-use mathlib.Core.Bool.{Bool, true}
 use Prim.Native.Nat.{_-_}
 use native.Mathlib.Omega.{arith}
 use borrow.Author.Tests.{not-false}
+use Rattle.paper.specs.declared.Place.{Place}
 use Rattle.queue_rules.specs.BufferRows.{RightUpTo}
 use Rattle.queue_rules.proofs.Passing.{row-fits, passed-none, passed-one}
 use Rattle.queue_rules.proofs.Rows.{unused-is-right}
@@ -10,19 +10,19 @@ use Rattle.queue_rules.proofs.first_used.Statement.{statement}
 use Rattle.queue_rules.proofs.first_used.Tie as tie
 
 abbrev Inv-loop : tie.InvT-loop
-Inv-loop im end given width first at = (typed : Bool) → RightUpTo im first end given typed at
+Inv-loop im end given width first at = (messages : Place) → RightUpTo im first end given messages at
 
 abbrev μ-loop : tie.MeasureT-loop
 μ-loop im end given width first at = end .0 - at .0
 
 loop-holds : tie.Need-loop-holds Inv-loop μ-loop
-loop-holds c = λ typed. passed-none _ _ _ _ typed (c .before .pre .1 .0)
+loop-holds c = λ messages. passed-none _ _ _ _ messages (c .before .pre .1 .0)
 
 row-unused-requires : tie.Need-row-unused-requires Inv-loop μ-loop
 row-unused-requires c κs =
     let loop = c .before .before .before in
     let p = loop .before .before .pre in
-    (p .0, omega (arith, row-fits _ _ _ (loop .loop .inv true .left) (c .if1 .taken), p .1 .1))
+    (p .0, omega (arith, row-fits _ _ _ (loop .loop .inv (loop .before .before .args .end) .left) (c .if1 .taken), p .1 .1))
 
 returns : tie.Need-returns Inv-loop μ-loop
 returns c = c .before .before .before .before .before .loop .inv
@@ -31,19 +31,19 @@ add-t9 : tie.Need-add-t9 Inv-loop μ-loop
 add-t9 c =
     let test = c .before .before .before in
     let loop = test .before .before .before in
-    omega (arith, row-fits _ _ _ (loop .loop .inv true .left) (test .if1 .taken), loop .before .before .pre)
+    omega (arith, row-fits _ _ _ (loop .loop .inv (loop .before .before .args .end) .left) (test .if1 .taken), loop .before .before .pre)
 
 loop-less : tie.Need-loop-less Inv-loop μ-loop
 loop-less c =
     let test = c .before .before .before in
-    omega (arith, row-fits _ _ _ (test .before .before .before .loop .inv true .left) (test .if1 .taken))
+    omega (arith, row-fits _ _ _ (test .before .before .before .loop .inv (test .before .before .before .before .before .args .end) .left) (test .if1 .taken))
 
 loop-again : tie.Need-loop-again Inv-loop μ-loop
 loop-again c =
     let test = c .before .before .before in
     let loop = test .before .before .before in
-    λ typed. passed-one _ _ _ _ typed _ (loop .loop .inv typed) (test .if1 .taken)
-    (unused-is-right _ _ _ (loop .before .before .pre .0 .0) (c .before .before .row-unused .ensures (not-false _ (c .before .if2 .left))) typed)
+    λ messages. passed-one _ _ _ _ messages _ (loop .loop .inv messages) (test .if1 .taken)
+    (unused-is-right _ _ _ (loop .before .before .pre .0 .0) (c .before .before .row-unused .ensures (not-false _ (c .before .if2 .left))) _)
 
 returns-2 : tie.Need-returns-2 Inv-loop μ-loop
 returns-2 c = c .before .before .before .loop .inv
