@@ -363,17 +363,6 @@ fn mark(marks: &mut [u16; MARKS], from: usize)
     }
 }
 
-// Whether there is a row at a place that holds a word.
-fn used_at(im: &[u16], p: Place, end: Place) -> bool
-    requires { ⌜ (p .0 < end .0 → p .0 + lead ≤ length (now im)) ⌝ }
-{
-    let at = p.0;
-    if end.0 <= at {
-        return false;
-    }
-    im[at + COUNT] != 0
-}
-
 // The first row from a place on that is not a queue never used, or the end; a row that holds a word is told at a look.
 fn next_used(im: &[u16], from: Place, end: Place, given: usize) -> Place
     requires { ⌜ (0 < given) × (given ≤ most-capacity) ⌝ }
@@ -381,8 +370,11 @@ fn next_used(im: &[u16], from: Place, end: Place, given: usize) -> Place
     requires { ⌜ (end .0 ≤ length (now im)) × (length (now im) ≤ most-words) ⌝ }
     ensures { λ r. ⌜ ((messages : Place) → RightUpTo (now (im .entry)) from end given messages r) ⌝ }
 {
-    if used_at(im, from, end) {
-        return from;
+    let at = from.0;
+    if at < end.0 {
+        if im[at + COUNT] != 0 {
+            return from;
+        }
     }
     first_used(im, from, end, given)
 }
