@@ -1,10 +1,10 @@
 -- The four leading words of a queue, as code tests them: the remainder without a division, a queue never used at a look. Assumes nothing.
 use mathlib.Core.Path.{_≡_, refl, sym, _∙_}
-use mathlib.Core.Bool.{Bool, true, false, _&&_, and-false}
+use mathlib.Core.Bool.{Bool, true, false, _&&_, _||_, and-false, or-false}
 use mathlib.Core.Logic.{_≢_, dite}
 use Prim.Native.Nat.{ℕ, _+_, _-_, _*_, _%_, _<_, _≤_}
 use native.Mathlib.Nat.{mod-lt}
-use native.Mathlib.Decide.{ℕ-discrete}
+use native.Mathlib.Decide.{ℕ-discrete, decLt}
 use native.Mathlib.Omega.{arith}
 use borrow.Author.Tests.{lt-ltb, le-ltb, le-leb, lt-leb, eqb-true, eq-eqb, ne-eqb}
 use lib.Dec.{eqb}
@@ -21,31 +21,37 @@ wrapped-high x c h l = sym (mod-high h l)
 five : (a b c d e : Bool) → a ≡ true → b ≡ true → c ≡ true → d ≡ true → true ≡ e → true ≡ (a && b && c && d && e)
 five a b c d e ea eb ec ed ee = rw (ea, eb, ec, ed) ee
 
-module _ (given h t n c g : ℕ) (ec : g ≡ c) where
+-- where head and tail are slots and no more words are held than there are slots: the remainder is the tail just where the sum is, or once past the end
+round-or-not : (given h t n : ℕ) → h < given → t < given → n ≤ given → (eqb (h + n) t || eqb (h + n) (t + given)) ≡ eqb ((h + n) % given) t
+round-or-not given h t n low below short =
+    dite (decLt (h + n) given) (λ l. rw (mod-low l, ne-eqb (h + n) (t + given) (λ e. omega arith)) (or-false _))
+    (λ o.
+    let high : given ≤ h + n = omega (arith, o) in
+    let once : h + n < given + given = omega arith in
+    rw (mod-high high once, ne-eqb (h + n) t (λ e. omega arith))
+    (dite (ℕ-discrete (h + n) (t + given)) (λ e. eq-eqb _ _ e ∙ sym (eq-eqb (h + n - given) t (omega arith)))
+    (λ ne. ne-eqb _ _ ne ∙ sym (ne-eqb (h + n - given) t (λ e. ne (omega arith))))))
+
+-- the words as code has them, and as numbers
+module _ (given h t n c g h1 t1 n1 : ℕ) (ec : g ≡ c) (eh : h1 ≡ h) (et : t1 ≡ t) (en : n1 ≡ n) where
   pub leads-other : g ≢ given → false ≡ leads given h t n c
   leads-other ne = rw (ne-eqb c given (λ e. ne (ec ∙ e)))
 
-  pub leads-high : c ≤ h → false ≡ leads given h t n c
-  leads-high l = rw (le-ltb h c l, and-false)
+  module _ (same : g ≡ given) where
+    pub leads-high : given ≤ h1 → false ≡ leads given h t n c
+    leads-high l = rw (le-ltb h c (omega arith), and-false)
 
-  pub leads-long : c < n → false ≡ leads given h t n c
-  leads-long l = rw (lt-leb n c l, and-false)
+    pub leads-past : given ≤ t1 → false ≡ leads given h t n c
+    leads-past l = rw (le-ltb t c (omega arith), and-false)
 
-  module _ (same : g ≡ given) (low : h < c) (short : n ≤ c) (h1 n1 : ℕ) (eh : h1 ≡ h) (en : n1 ≡ n) where
-    -- the sum is at most once past the end
-    pub end-fits : h1 + n1 < given + given
-    end-fits = omega arith
+    pub leads-long : given < n1 → false ≡ leads given h t n c
+    leads-long l = rw (lt-leb n c (omega arith), and-false)
 
-    pub leads-done : (r t1 : ℕ) → r ≡ (h1 + n1) % given → t1 ≡ t → eqb r t1 ≡ leads given h t n c
-    leads-done r t1 er et =
+    pub leads-done : h1 < given → t1 < given → n1 ≤ given → (r : Bool) → r ≡ (eqb (h1 + n1) t1 || eqb (h1 + n1) (t1 + given)) → r ≡ leads given h t n c
+    leads-done low below short r e =
         let ic : c ≡ given = sym ec ∙ same in
-        let sum : h1 + n1 ≡ h + n = omega arith in
-        let e : r ≡ (h + n) % c = er ∙ rw (sum, ic) refl in
-        let below : (h + n) % c < c = mod-lt (h + n) (omega arith) in
-        rw (e, et, eq-eqb c given ic, lt-ltb h c low, le-leb n c short)
-        (dite (ℕ-discrete ((h + n) % c) t)
-        (λ z. let tc : t < c = omega arith in rw (eq-eqb _ _ z, lt-ltb t c tc) refl)
-        (λ ne. rw (ne-eqb _ _ ne, and-false) refl))
+        e ∙ rw (eh, et, en, ic, eq-eqb given given refl, lt-ltb h given (omega arith), lt-ltb t given (omega arith), le-leb n given (omega arith))
+        (round-or-not given h t n (omega arith) (omega arith) (omega arith))
 
 -- the lowest word of a number that has none
 lowest-none : (x y z : ℕ) → x < 65536 → x + 65536 * y ≡ 65536 * z → (x ≡ 0) × (y ≡ z)

@@ -13,6 +13,7 @@ ghost use Rattle.queue_rules.specs.FourWords.{lanes, four-at, Gathers, C
 ghost use Rattle.queue_rules.specs.BufferRows.{leads, row-queued, row-words-below, row-cleared, row-typed, SlotsTyped, row-right as is-right, Unused, RowsBetween, RightUpTo, AllRight};
 ghost use Rattle.queue_rules.specs.ReadyCounts.{None-found, All-found};
 use connectives::both;
+use connectives::either;
 use paper::CAPACITY;
 use paper::COUNT;
 use paper::Cell;
@@ -98,16 +99,22 @@ fn wrapped(slots: usize, capacity: usize) -> usize
 fn leads_right(given: usize, head: u16, tail: u16, count: u16, capacity: u16) -> bool
     ensures { λ r. ⌜ r ≡ leads given head tail count capacity ⌝ }
 {
+    let first = wide(head);
+    let end = wide(tail);
+    let words = wide(count);
     if wide(capacity) != given {
         return false;
     }
-    if capacity <= head {
+    if given <= first {
         return false;
     }
-    if capacity < count {
+    if given <= end {
         return false;
     }
-    wrapped(wide(head) + wide(count), given) == wide(tail)
+    if given < words {
+        return false;
+    }
+    either(first + words == end, first + words == end + given)
 }
 
 // Four words as one number, the first the lowest.
