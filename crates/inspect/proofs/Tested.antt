@@ -21,7 +21,7 @@ use Rattle.laws.specs.Checked.{every-is, ranged-is, packed-is, segments-are, qu
 use Rattle.laws.specs.Sound.{Sized}
 use Rattle.laws.specs.Layout.{Ranged}
 use Rattle.headers.specs.Shaped.{sized-by}
-use Rattle.queue_rules.specs.Failing.{part-fails}
+use Rattle.connectives.specs.Failing.{part-fails}
 
 -- the rules of a task, in whatever order they are tested
 module _ (s : Shape) (im : List ℕ) (i : Task) where

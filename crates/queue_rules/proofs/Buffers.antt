@@ -23,8 +23,8 @@ use Rattle.laws.specs.Steps.{steps}
 use Rattle.laws.specs.Queues.{word-valid}
 use Rattle.laws.specs.Sound.{Sized, sized-fit, sized-words}
 use Rattle.laws.specs.Checked.{all-three, implied, every-is, slots-below, queued-is, cleared-is, Kept, kept-is, buffers-are}
-use Rattle.queue_rules.specs.BufferRows.{row-queued, slot-at, row-words-below, row-cleared, row-typed, row-right, row-fine, row-at, RowsBetween, AllRight}
-use Rattle.queue_rules.specs.Failing.{refuted, together}
+use Rattle.queue_rows.specs.BufferRows.{row-queued, slot-at, row-words-below, row-cleared, row-typed, row-right, row-fine, row-at, RowsBetween, AllRight}
+use Rattle.connectives.specs.Failing.{refuted, together}
 
 -- two numbers that are tested to be a third
 pub both-same : (a b c : ℕ) (r : Bool) → r ≡ (eqb a c && eqb b c) → r ≡ true → (a ≡ c) × (b ≡ c)

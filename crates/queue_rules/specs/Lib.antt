@@ -1,4 +1,1 @@
-pub mod FourWords
-pub mod BufferRows
-pub mod Failing
 pub mod ReadyCounts

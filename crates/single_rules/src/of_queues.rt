@@ -11,7 +11,7 @@ use paper::Queue;
 use paper::Shape;
 use paper::TAIL;
 use places::wide;
-use queue_rules::CHARACTERS;
+use queue_rows::CHARACTERS;
 use queue_rules::capacity_of;
 use queue_rules::cleared;
 use queue_rules::held_below;
