@@ -19,7 +19,7 @@ const RULES: usize = 21;
 pub const RULE_BROKEN: u16 = 6;
 
 // What breaks a rule.
-#[derive(Drop)]
+#[derive(Clone, Copy)]
 pub enum Subject {
     Clock,
     Task(Task),
@@ -27,7 +27,7 @@ pub enum Subject {
 }
 
 // The first broken rule and what breaks it; that the image is good; or the refusal of one that is no image.
-#[derive(Drop)]
+#[derive(Clone, Copy)]
 pub enum Broken {
     Rule(Rule, Subject),
     Nothing,
@@ -35,7 +35,7 @@ pub enum Broken {
 }
 
 // Where a test fails first.
-#[derive(Drop)]
+#[derive(Clone, Copy)]
 enum Failing {
     At(usize),
     Nowhere,

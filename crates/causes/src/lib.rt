@@ -9,7 +9,7 @@ use paper::{
 use plans::{length_of, program_of};
 
 // Why a plan is refused; a task is told by its number.
-#[derive(Drop)]
+#[derive(Clone, Copy)]
 pub enum PlanCause {
     OddBytes,
     FewWords,
@@ -27,7 +27,7 @@ pub enum PlanCause {
 }
 
 // Why an event is malformed.
-#[derive(Drop)]
+#[derive(Clone, Copy)]
 pub enum EventCause {
     Short,
     Kind,
@@ -38,7 +38,7 @@ pub enum EventCause {
 }
 
 // What is wrong with a part of a plan: the cause, or that it is right.
-#[derive(Drop)]
+#[derive(Clone, Copy)]
 enum Wrong {
     Is(PlanCause),
     Nothing,

@@ -10,7 +10,7 @@ pub use reading::{
 pub use saving::{save, save_at};
 
 // What became of a run: its output is written, its input was refused, or could not be had, or its output could not be written.
-#[derive(Drop)]
+#[derive(Clone, Copy)]
 pub enum Outcome {
     Done,
     Refused,
@@ -19,7 +19,7 @@ pub enum Outcome {
 }
 
 // A file that was read: its count of bytes, or that it could not be had whole.
-#[derive(Drop)]
+#[derive(Clone, Copy)]
 pub enum Loaded {
     Bytes(usize),
     Nothing,
@@ -27,14 +27,14 @@ pub enum Loaded {
 
 // The start of a file that was read to its end: its count of bytes, and whether an odd count of bytes follows; or that the file
 // could not be had.
-#[derive(Drop)]
+#[derive(Clone, Copy)]
 pub enum Start {
     Bytes(usize, bool),
     Nothing,
 }
 
 // The words of a file that was read: their count, or that they could not be had.
-#[derive(Drop)]
+#[derive(Clone, Copy)]
 pub enum Words {
     Count(usize),
     Nothing,
@@ -49,7 +49,7 @@ pub enum Source {
 }
 
 // A file that is written piece by piece, and whether all pieces so far are written.
-#[derive(Drop)]
+#[derive(Clone, Copy)]
 pub struct Output {
     pub file: i32,
     pub whole: bool,

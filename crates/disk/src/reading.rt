@@ -16,7 +16,7 @@ pub const IMAGE_BYTES: usize = WORD_BYTES * IMAGE_WORDS;
 const BUFFERS_END: u64 = 1125899906842624;
 
 // What follows in a file: an odd count of bytes or an even one, or that it could not be read.
-#[derive(Drop)]
+#[derive(Clone, Copy)]
 enum Rest {
     Odd(bool),
     Nothing,

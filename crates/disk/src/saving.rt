@@ -19,7 +19,7 @@ const MOST_PATH: usize = 4088;
 const BESIDE_BYTES: usize = 4095;
 
 // What a path leads to: a plain file, there or yet to be made; or what else words can be written to; or nothing.
-#[derive(Drop)]
+#[derive(Clone, Copy)]
 enum Target {
     Plain,
     Other(i32),

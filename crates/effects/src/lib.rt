@@ -21,29 +21,29 @@ use results::{both_bits, compared, difference, either_bit, one_bit, product, sum
 const LAST_WORD: u16 = (WORD_END - 1) as u16;
 
 // Where an address leads, counted from the part's first word: in the segment or past it.
-#[derive(Drop)]
+#[derive(Clone, Copy)]
 pub struct Aim(pub usize);
 
 // A place of the part that holds a word of the segment: counted apart from addresses, and from places of the image.
-#[derive(Drop)]
+#[derive(Clone, Copy)]
 pub struct PartPlace(pub usize);
 
 // Where the segment lies in the part.
-#[derive(Drop)]
+#[derive(Clone, Copy)]
 pub struct Segment {
     pub from: usize,
     pub to: usize,
 }
 
 // What is reached: a word of the segment, at its place, or none.
-#[derive(Drop)]
+#[derive(Clone, Copy)]
 pub enum Reach {
     At(PartPlace),
     Outside,
 }
 
 // What became of an order: R0 is in hand, and another may follow; or the row of orders ends, and R0 stands in the part; or it names R0 and is left.
-#[derive(Drop)]
+#[derive(Clone, Copy)]
 pub enum Went {
     On(Aim),
     Off,

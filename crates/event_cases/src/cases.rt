@@ -28,7 +28,7 @@ const ANSWER_AT: usize = 3;
 const TASK_AT: usize = 4;
 
 // What a record of an event says before its changes: the event, what is expected, and how many changes follow.
-#[derive(Drop)]
+#[derive(Clone, Copy)]
 struct Case {
     event: EventWords,
     expected: ReplyNumbers,
@@ -36,7 +36,7 @@ struct Case {
 }
 
 // The case of a record, or that its words end too early.
-#[derive(Drop)]
+#[derive(Clone, Copy)]
 enum Asked {
     Replay(Case),
     Bad,

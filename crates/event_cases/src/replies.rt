@@ -4,7 +4,7 @@ ghost use Rattle.std.specs.Prelude.{◌≡◌, true};
 use kernel_c::{ReplyNumbers, kernel_event};
 
 // The three words of an event.
-#[derive(Drop)]
+#[derive(Clone, Copy)]
 pub struct EventWords {
     pub kind: u16,
     pub device: u16,

@@ -16,7 +16,7 @@ pub const PLAN_WORDS: usize = 32806;
 pub const PLAN_BYTES: usize = WORD_BYTES * PLAN_WORDS;
 
 // What a plan's file comes to: how many words were read, and the verdict.
-#[derive(Drop)]
+#[derive(Clone, Copy)]
 pub struct PlanRead {
     pub words: usize,
     pub verdict: Verdict,

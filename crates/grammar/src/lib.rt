@@ -1,7 +1,7 @@
 // The types that the definitions of the text form name, and the numbers of the grammar that stand in more than one crate.
 
 // What a sum, or a part of one, comes to: a value, or that a name in it is not given, or that a value in it lies out of range.
-#[derive(Drop)]
+#[derive(Clone, Copy)]
 pub enum Worked {
     Is(u16),
     Missing,
@@ -24,14 +24,14 @@ pub const FIRST_LETTER: u8 = 97;
 pub const LAST_LETTER: u8 = 122;
 
 // How a product is joined to the sum before it.
-#[derive(Drop)]
+#[derive(Clone, Copy)]
 pub enum Sign {
     Plus,
     Minus,
 }
 
 // The operands of an order.
-#[derive(Drop)]
+#[derive(Clone, Copy)]
 pub enum Operands {
     Nothing,
     Sum,
@@ -40,7 +40,7 @@ pub enum Operands {
 }
 
 // What a word is: free to be a name, a register, an order with its operands and its first word, or an order of a later edition.
-#[derive(Drop)]
+#[derive(Clone, Copy)]
 pub enum Kept {
     Free,
     Register(u16),
@@ -49,14 +49,14 @@ pub enum Kept {
 }
 
 // What is found of a name: that it is not given, or its value, where 65536 stands for all past the range.
-#[derive(Drop)]
+#[derive(Clone, Copy)]
 pub enum Found {
     Nothing,
     Value(u32),
 }
 
 // What the order or the sum of a line gives: no word, a word, or a fixed word and one that is worked.
-#[derive(Drop)]
+#[derive(Clone, Copy)]
 pub enum Given {
     Outside,
     Nothing,
@@ -65,7 +65,7 @@ pub enum Given {
 }
 
 // Why a text is refused.
-#[derive(Drop)]
+#[derive(Clone, Copy)]
 pub enum Refusal {
     OutsideGrammar,
     NameFault,
@@ -74,21 +74,21 @@ pub enum Refusal {
 }
 
 // What is wrong with a line.
-#[derive(Drop)]
+#[derive(Clone, Copy)]
 pub enum Flaw {
     Nothing,
     Is(Refusal),
 }
 
 // The two texts.
-#[derive(Drop)]
+#[derive(Clone, Copy)]
 pub enum Text {
     Names,
     Script,
 }
 
 // A line of one of the texts: its first byte and its count of bytes.
-#[derive(Drop)]
+#[derive(Clone, Copy)]
 pub struct Line {
     pub text: Text,
     pub from: usize,
@@ -96,28 +96,28 @@ pub struct Line {
 }
 
 // The fault that the texts are refused for, as far as they were read.
-#[derive(Drop)]
+#[derive(Clone, Copy)]
 pub enum Fault {
     Nothing,
     At(Refusal, Line),
 }
 
 // What two texts come to: a count of words, or a refusal with the line that it names.
-#[derive(Drop)]
+#[derive(Clone, Copy)]
 pub enum Judged {
     Fine(usize),
     Refused(Refusal, Line),
 }
 
 // What a translation answers: a count of words, or a refusal and the text that its line stands in.
-#[derive(Drop)]
+#[derive(Clone, Copy)]
 pub enum Translation {
     Words(usize),
     Refused(Refusal, Text),
 }
 
 // What printing a list of words answers: a count of bytes, or a refusal.
-#[derive(Drop)]
+#[derive(Clone, Copy)]
 pub enum Printing {
     Bytes(usize),
     Refused(Refusal),

@@ -26,14 +26,14 @@ const LONG_LOOK: usize = 8;
 pub const NO_COUNTS: usize = 0;
 
 // How many events were passed over, and the reply of the last, or of the one that was refused.
-#[derive(Drop)]
+#[derive(Clone, Copy)]
 struct Past {
     taken: usize,
     last: Reply,
 }
 
 // The kinds of answers.
-#[derive(Drop)]
+#[derive(Clone, Copy)]
 pub enum Kind {
     Idle,
     ErrorStop,
@@ -48,7 +48,7 @@ pub enum Kind {
 }
 
 // The same in parts, each of which is read as it was written: what stopped the events, and where nothing did, the kind and the task of the last answer.
-#[derive(Drop)]
+#[derive(Clone, Copy)]
 pub struct Took {
     pub taken: usize,
     pub stop: Verdict,

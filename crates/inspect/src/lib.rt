@@ -26,7 +26,7 @@ const WIDE_MARK: usize = MARK as usize;
 const WIDE_EDITION: usize = EDITION as usize;
 
 // What one inspection of an image tells: the verdict, and the shape that its header gives.
-#[derive(Drop)]
+#[derive(Clone, Copy)]
 pub struct Inspected {
     pub verdict: Verdict,
     pub shape: Shape,

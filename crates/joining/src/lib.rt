@@ -6,14 +6,14 @@ use tokens::{LABEL, Token, next_token};
 use values::number;
 
 // A number that is asked for, or that a text is none.
-#[derive(Drop)]
+#[derive(Clone, Copy)]
 pub enum Asked {
     Word(u16),
     Nothing,
 }
 
 // A task that is asked for: the words of its segment, and where the name of its program begins; or that a text asks for none.
-#[derive(Drop)]
+#[derive(Clone, Copy)]
 pub enum Task {
     Of(u16, usize),
     Nothing,

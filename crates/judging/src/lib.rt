@@ -15,7 +15,7 @@ use reader::line_count;
 use tables::MOST_NAMES;
 
 // How far the script was judged: the count of entries that are given above, the fault, and the count of words.
-#[derive(Drop)]
+#[derive(Clone, Copy)]
 pub struct ScriptPast {
     pub above: usize,
     pub fault: Fault,

@@ -11,7 +11,7 @@ use views::{INPUT_BUFFER, MESSAGE_BUFFER, OUTPUT_BUFFER, READY_QUEUE};
 
 // The number of the check; where it is 6, the first broken rule, and the task or queue that breaks it.
 #[repr(C)]
-#[derive(Drop)]
+#[derive(Clone, Copy)]
 pub struct BrokenNumbers {
     pub number: u16,
     pub rule: u16,

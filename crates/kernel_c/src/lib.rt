@@ -20,7 +20,7 @@ const NO_ANSWER: u16 = 65535;
 
 // How many words a plan's image has, and 0; or 0, and the number of the refusal.
 #[repr(C)]
-#[derive(Drop)]
+#[derive(Clone, Copy)]
 pub struct Measured {
     pub words: u64,
     pub number: u16,
@@ -28,7 +28,7 @@ pub struct Measured {
 
 // 0, and the kind and the task of an answer; or the number of the refusal.
 #[repr(C)]
-#[derive(Drop)]
+#[derive(Clone, Copy)]
 pub struct ReplyNumbers {
     pub number: u16,
     pub kind: u16,
@@ -37,7 +37,7 @@ pub struct ReplyNumbers {
 
 // How many events a run took, and the number of the refusal that stopped it, 0 if none did.
 #[repr(C)]
-#[derive(Drop)]
+#[derive(Clone, Copy)]
 pub struct RunNumbers {
     pub taken: u64,
     pub number: u16,

@@ -12,7 +12,7 @@ pub const NOT_THERE: u16 = 65535;
 
 // 0 and what a task stands in; or the number of the refusal or of what is not there.
 #[repr(C)]
-#[derive(Drop)]
+#[derive(Clone, Copy)]
 pub struct TaskNumbers {
     pub number: u16,
     pub status: u16,
@@ -24,7 +24,7 @@ pub struct TaskNumbers {
 
 // 0 and what a port stands in; or the number of the refusal or of what is not there.
 #[repr(C)]
-#[derive(Drop)]
+#[derive(Clone, Copy)]
 pub struct PortNumbers {
     pub number: u16,
     pub busy: u16,
@@ -33,7 +33,7 @@ pub struct PortNumbers {
 
 // 0 and a word; or the number of the refusal or of what is not there.
 #[repr(C)]
-#[derive(Drop)]
+#[derive(Clone, Copy)]
 pub struct WordNumbers {
     pub number: u16,
     pub word: u16,

@@ -18,7 +18,7 @@ const NO_TEXT: u16 = 65535;
 
 // How many words a script has, or 0; the number of the refusal, 0 if there is none; and the text of the refused line.
 #[repr(C)]
-#[derive(Drop)]
+#[derive(Clone, Copy)]
 pub struct Translated {
     pub words: u64,
     pub number: u16,
@@ -27,7 +27,7 @@ pub struct Translated {
 
 // Where the refused line begins in its text, and how many bytes it has; 0 and 0 where no line is refused.
 #[repr(C)]
-#[derive(Drop)]
+#[derive(Clone, Copy)]
 pub struct RefusedLine {
     pub start: u64,
     pub bytes: u64,

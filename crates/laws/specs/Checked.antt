@@ -3,7 +3,8 @@ use Rattle.std.specs.Prelude.{◌≡◌, refl, List, [], ◌∷◌, Bool, true, 
 use Rattle.std.proofs.Common.{sym, ap, ◌∙◌, true≢false, arith, ltb-false, le-ltb, leb-true, le-leb, eqb-true, eq-eqb, ne_eqb, lit<, ext_get_or}
 use Rattle.std.proofs.Math.Bool.{So, and-eq-true_iff}
 use Rattle.std.proofs.lemmas.Bool.{false≢true}
-use Rattle.std.proofs.Math.Logic.{Iff·rfl, dite}
+use Rattle.std.proofs.Math.Logic.{dite}
+use Rattle.std.proofs.Math.Logic.Iff
 use Rattle.std.proofs.Math.Decide.{ℕ_discrete, dec_lt}
 use Rattle.paper.specs.Image.{task, header_words, mark, edition, most_tasks, most_slice, most_capacity, most_words, most_character, offsets, total, header, header_word, shape_of, segment_start, at, clock, base, len}
 use Rattle.paper.specs.Queues.{Has, capacity, slot, step, words_from, held, free, empty, full}
@@ -132,23 +133,23 @@ module _ (s : Shape) (im : List ℕ) where
 
   pub kept_is : (q : Queue) → So (queue_holds s im q) ↔ Kept q
   unfolding queue_holds
-  kept_is q = simp (tests, queued_is, cleared_is) Iff·rfl
+  kept_is q = simp (tests, queued_is, cleared_is) Iff.rfl
 
   -- the clock
   clock_is : So (clock_holds s im) ↔ ((at s im clock ≤ s.slice) × (Empty s im Queue.Ready → at s im clock ≡ 0))
   unfolding clock_holds empty
-  clock_is = simp tests Iff·rfl
+  clock_is = simp tests Iff.rfl
 
   -- the buffers of task i
   pub buffers_are : (i : Task) → So (buffers_hold s im i) ↔
       (Kept (Queue.Input i) × Kept (Queue.Output i) × ((k : ℕ) → k < s.n → Kept (Queue.Message i (task k))))
   unfolding buffers_hold
-  buffers_are i = simp (tests, kept_is) Iff·rfl
+  buffers_are i = simp (tests, kept_is) Iff.rfl
 
   -- the input and output buffer of task i hold characters
   held_are : (i : Task) → So (characters s im i) ↔ (Characters (held s im (Queue.Input i)) × Characters (held s im (Queue.Output i)))
   unfolding characters
-  held_are i = simp (tests, characters_are) Iff·rfl
+  held_are i = simp (tests, characters_are) Iff.rfl
 
   -- the port of task i
   ported_is : (i : Task) → So (port_holds s im i) ↔ Ported s im i
@@ -244,7 +245,7 @@ long_is im = (ltb-false (length im) header_words, le-ltb (length im) header_word
 
 -- 2: mark and edition
 pub marked_is : (im : List ℕ) → (not_marked im ≡ false) ↔ ((header_word im 0 ≡ mark) × (header_word im 1 ≡ edition))
-marked_is im = simp (no_fault, tests) Iff·rfl
+marked_is im = simp (no_fault, tests) Iff.rfl
 
 -- 3: N, S and the capacities in range
 pub ranged_is : (s : Shape) → (out_of_range s ≡ false) ↔

@@ -11,7 +11,7 @@ use reader::line_count;
 use tables::MOST_NAMES;
 
 // How far the labels were read: the count of entries, and the count of words.
-#[derive(Drop)]
+#[derive(Clone, Copy)]
 pub struct LabelsPast {
     pub filled: usize,
     pub place: usize,

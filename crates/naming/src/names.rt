@@ -12,7 +12,7 @@ use reader::line_count;
 use tables::MOST_NAMES;
 
 // How far the names were read: the count of entries, and the fault.
-#[derive(Drop)]
+#[derive(Clone, Copy)]
 pub struct NamesPast {
     pub filled: usize,
     pub fault: Fault,

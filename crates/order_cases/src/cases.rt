@@ -22,7 +22,7 @@ const FIRST_AT: usize = 1;
 const CHANGES_AT: usize = 2;
 
 // What a record of orders says before its changes: the outcome, the span, its place and first word, and how many changes follow.
-#[derive(Drop)]
+#[derive(Clone, Copy)]
 struct Case {
     number: u16,
     span: usize,
@@ -32,7 +32,7 @@ struct Case {
 }
 
 // The case of a record, or that its words end too early.
-#[derive(Drop)]
+#[derive(Clone, Copy)]
 enum Asked {
     Replay(Case),
     Bad,

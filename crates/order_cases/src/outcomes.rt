@@ -19,7 +19,7 @@ const DONE: u16 = 0;
 const OTHER: u16 = 65535;
 
 // The number that an order comes to, or that the image allows none.
-#[derive(Drop)]
+#[derive(Clone, Copy)]
 pub enum Outcome {
     Number(u16),
     Bad,

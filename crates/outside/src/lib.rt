@@ -8,7 +8,7 @@ use kept::kept;
 use tokens::{CLOSE, EQUALS, LABEL, MINUS, Marked, OPEN, PLUS, TIMES, Token, mark_of, next_token};
 
 // Why a line is refused. A word is told by its first byte in the line and the place after it.
-#[derive(Drop)]
+#[derive(Clone, Copy)]
 pub enum Reason {
     NinthBracket,
     TooManyNames,
@@ -24,14 +24,14 @@ pub enum Reason {
 
 // How a line goes on after a token of a sum: it stops, or goes on at a place, with so many brackets open, and a term wanted
 // there or not.
-#[derive(Drop)]
+#[derive(Clone, Copy)]
 enum Step {
     Stops(Reason),
     Goes(usize, usize, bool),
 }
 
 // How a line goes on after a register.
-#[derive(Drop)]
+#[derive(Clone, Copy)]
 enum Operand {
     Stops(Reason),
     Goes(usize),

@@ -5,7 +5,7 @@ ghost use Rattle.writes.specs.Written.{written};
 ghost use Rattle.packing.specs.Packed.{unpacked, bytes_of, five, above, Placed};
 
 // Bytes in one number, and how many they are.
-#[derive(Drop)]
+#[derive(Clone, Copy)]
 pub struct Packed {
     pub value: u64,
     pub bytes: usize,

@@ -1,13 +1,13 @@
 // The types that the definitions and the promises name, and beside each the numbers of the paper that code uses.
 
 // A task's number, an address in a task's segment and a place in the image are counted apart; 0 is a good value of each.
-#[derive(Drop)]
+#[derive(Clone, Copy)]
 pub struct Task(pub u16);
 
-#[derive(Drop)]
+#[derive(Clone, Copy)]
 pub struct Address(pub u16);
 
-#[derive(Drop)]
+#[derive(Clone, Copy)]
 pub struct Place(pub usize);
 
 // A word is below this, and is two bytes in a file, each below this; a character is at most this.
@@ -72,7 +72,7 @@ pub const SEGMENT_TABLE_AT: usize = 14;
 pub const SEGMENTS_AT: usize = 15;
 
 // What the header fixes: N, S, CI, CO, CM, the nine offsets, and how many words the segments have together.
-#[derive(Drop)]
+#[derive(Clone, Copy)]
 pub struct Shape {
     pub n: usize,
     pub slice: u16,
@@ -120,7 +120,7 @@ pub const LEADING_WORDS: usize = 5;
 pub const PAIR_WORDS: usize = 2;
 
 // The parts of an image, in their order.
-#[derive(Drop)]
+#[derive(Clone, Copy)]
 pub enum Part {
     Header,
     TaskTable,
@@ -135,7 +135,7 @@ pub enum Part {
 }
 
 // A word of an image by its name: each part is a table of rows of one width.
-#[derive(Drop)]
+#[derive(Clone, Copy)]
 pub struct Cell {
     pub part: Part,
     pub row: usize,
@@ -219,7 +219,7 @@ pub const IDLE: u16 = 0;
 pub const BUSY: u16 = 1;
 
 // The queues of an image: the ready queue, a task's input and output buffer, and the message buffer from one task to another.
-#[derive(Drop)]
+#[derive(Clone, Copy)]
 pub enum Queue {
     Ready,
     Input(Task),
@@ -239,7 +239,7 @@ pub const CAPACITY: usize = 3;
 pub const LEAD_WORDS: usize = 4;
 
 // The services.
-#[derive(Drop)]
+#[derive(Clone, Copy)]
 pub enum Service {
     Send,
     Receive,
@@ -259,14 +259,14 @@ pub const ASK_INPUT: u16 = 3;
 pub const ASK_OUTPUT: u16 = 4;
 
 // What the pending field of a task's flags asks for.
-#[derive(Drop)]
+#[derive(Clone, Copy)]
 pub enum Asked {
     Nothing,
     For(Service),
 }
 
 // What is wrong with a service that is asked for.
-#[derive(Drop)]
+#[derive(Clone, Copy)]
 pub enum Fault {
     Nothing,
     Error(u16),
@@ -288,14 +288,14 @@ pub const NO_SUCH_TASK: u16 = 5;
 pub const NO_CHARACTER: u16 = 6;
 
 // Whom an event wakes.
-#[derive(Drop)]
+#[derive(Clone, Copy)]
 pub enum Woken {
     Nobody,
     One(Task),
 }
 
 // An event that is well formed, or that it is not.
-#[derive(Drop)]
+#[derive(Clone, Copy)]
 pub enum Event {
     Tick,
     Input(Task, u16),
@@ -313,7 +313,7 @@ pub const INPUT: u16 = 1;
 pub const OUTPUT_DONE: u16 = 2;
 
 // What an accepted event answers.
-#[derive(Drop)]
+#[derive(Clone, Copy)]
 pub enum Answer {
     Idle,
     ErrorStop(Task),
@@ -328,7 +328,7 @@ pub enum Answer {
 }
 
 // Why an image, an event or a plan is refused.
-#[derive(Drop)]
+#[derive(Clone, Copy)]
 pub enum Refusal {
     TooShort,
     NotMarked,
@@ -345,7 +345,7 @@ pub enum Refusal {
 }
 
 // What a check or a build comes to.
-#[derive(Drop)]
+#[derive(Clone, Copy)]
 pub enum Verdict {
     Fine,
     Refused(Refusal),
@@ -355,28 +355,28 @@ pub enum Verdict {
 pub const NOT_REFUSED: u16 = 0;
 
 // How many words an accepted plan needs, or why it is refused.
-#[derive(Drop)]
+#[derive(Clone, Copy)]
 pub enum Size {
     Words(usize),
     Refused(Refusal),
 }
 
 // What an event comes to.
-#[derive(Drop)]
+#[derive(Clone, Copy)]
 pub enum Reply {
     Accepted(Answer),
     Refused(Refusal),
 }
 
 // How a run ended: how many events were taken, and whether one was refused.
-#[derive(Drop)]
+#[derive(Clone, Copy)]
 pub struct Ended {
     pub taken: usize,
     pub stop: Verdict,
 }
 
 // What a task's ticks are counted under, in the order of its row of counts.
-#[derive(Drop)]
+#[derive(Clone, Copy)]
 pub enum Heading {
     Orders,
     Services,
@@ -387,7 +387,7 @@ pub enum Heading {
 }
 
 // Where an answer is counted: nowhere, among the idle ticks of the whole, under a heading of a task.
-#[derive(Drop)]
+#[derive(Clone, Copy)]
 pub enum Tally {
     Nowhere,
     Idle,
@@ -404,14 +404,14 @@ pub const COUNTS: usize = 97;
 pub const MOST_COUNT: u32 = 4294967295;
 
 // A task's share of all ticks, or the word that none were counted.
-#[derive(Drop)]
+#[derive(Clone, Copy)]
 pub enum Share {
     Of(f64),
     NoTicks,
 }
 
 // The orders of the order code, and any other op.
-#[derive(Drop)]
+#[derive(Clone, Copy)]
 pub enum Op {
     Unknown,
     Load,
@@ -442,7 +442,7 @@ pub const JUMP: u16 = 14;
 pub const SERVICE: u16 = 18;
 
 // What a field of an order's first word holds.
-#[derive(Drop)]
+#[derive(Clone, Copy)]
 pub enum Field {
     Unused,
     Register,
@@ -458,7 +458,7 @@ pub const FIELD: u16 = 16;
 pub const REGISTERS: u16 = 8;
 
 // The shape of an order: how many words it has, and what its fields hold.
-#[derive(Drop)]
+#[derive(Clone, Copy)]
 pub enum OrderShape {
     Unknown,
     Known(u8, Field, Field),
@@ -468,14 +468,14 @@ pub enum OrderShape {
 pub const HIGH_BYTES: usize = 256;
 
 // The word at an address of a task's segment.
-#[derive(Drop)]
+#[derive(Clone, Copy)]
 pub enum Found {
     Word(u16),
     Outside,
 }
 
 // What an order changes of its task's own machine, beside that R0 is moved past it.
-#[derive(Drop)]
+#[derive(Clone, Copy)]
 pub enum Change {
     // a register becomes a word
     Register(usize, u16),
@@ -490,7 +490,7 @@ pub enum Change {
 }
 
 // What an order comes to: R0 is moved to a word and something changes, or it faults with an error.
-#[derive(Drop)]
+#[derive(Clone, Copy)]
 pub enum Effect {
     Does(u16, Change),
     Faults(u16),

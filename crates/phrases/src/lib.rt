@@ -16,7 +16,7 @@ use tokens::{EQUALS, LABEL, Marked, Token, ends, mark_of, next_token};
 
 // What a line of the names comes to: outside the grammar, blank, or a name with its first byte and the place after it, and
 // what its sum comes to.
-#[derive(Drop)]
+#[derive(Clone, Copy)]
 pub enum NamesLine {
     Outside,
     Blank,
@@ -24,21 +24,21 @@ pub enum NamesLine {
 }
 
 // A line's label, with its first byte and the place after it.
-#[derive(Drop)]
+#[derive(Clone, Copy)]
 pub enum Label {
     Nothing,
     At(usize, usize),
 }
 
 // How a line of the script starts: its label, and the first token of its body.
-#[derive(Drop)]
+#[derive(Clone, Copy)]
 pub struct Start {
     pub label: Label,
     pub body: Token,
 }
 
 // A register as an operand, and the token after it.
-#[derive(Drop)]
+#[derive(Clone, Copy)]
 pub enum Operand {
     Missing,
     At(u16, Token),

@@ -21,7 +21,7 @@ const PROGRAM_BYTES: usize = 65430;
 const PLAN_WORDS: usize = 523477;
 
 // Where the next program goes, or that one could not be had.
-#[derive(Drop)]
+#[derive(Clone, Copy)]
 enum Joined {
     End(usize),
     Nothing,

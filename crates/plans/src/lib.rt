@@ -17,7 +17,7 @@ use paper::{
 };
 
 // What the pairs of a plan add up to: whether each is right, the words of all segments, and where the last program ends.
-#[derive(Drop)]
+#[derive(Clone, Copy)]
 struct Sums {
     right: bool,
     words: usize,

@@ -5,7 +5,7 @@ ghost use Rattle.grammar.specs.Tokens.{first_line};
 use grammar::LINE_END;
 
 // A text, and the place in it that is read next.
-#[derive(Drop)]
+#[derive(Clone, Copy)]
 pub struct Reader<'a> {
     pub text: &'a [u8],
     pub at: usize,

@@ -16,14 +16,14 @@ use texts::read_texts;
 use tokens::{Token, next_token};
 
 // A word of a line, with its first byte and the place after it.
-#[derive(Drop)]
+#[derive(Clone, Copy)]
 enum Word {
     Nothing,
     At(usize, usize),
 }
 
 // The next token of a line: none, a name that is not given, or another, with the place after it.
-#[derive(Drop)]
+#[derive(Clone, Copy)]
 enum Step {
     Ends,
     Missing(usize, usize),

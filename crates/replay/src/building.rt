@@ -30,7 +30,7 @@ const SIZE_LOW_AT: usize = 4;
 const SIZE_HIGH_AT: usize = 5;
 
 // What a record of a build says before its plan: counts of words, and what is expected.
-#[derive(Drop)]
+#[derive(Clone, Copy)]
 struct Case {
     number: u16,
     plan: usize,
@@ -41,7 +41,7 @@ struct Case {
 }
 
 // The case of a record, or that its words end too early.
-#[derive(Drop)]
+#[derive(Clone, Copy)]
 enum Asked {
     Replay(Case),
     Bad,

@@ -18,7 +18,7 @@ const KIND_CHECK: u16 = 1;
 const KIND_BUILD: u16 = 2;
 
 // What the records of a file test.
-#[derive(Drop)]
+#[derive(Clone, Copy)]
 enum Kind {
     Check,
     Build,

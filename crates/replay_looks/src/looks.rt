@@ -46,7 +46,7 @@ const THIRD_AT: usize = 2;
 const FOURTH_AT: usize = 3;
 
 // What a look gives: its number, and its fields, 0 for those that its call does not have.
-#[derive(Drop)]
+#[derive(Clone, Copy)]
 struct Seen {
     number: u16,
     fields: [u16; FIELDS],

@@ -23,7 +23,7 @@ const KIND_REPORT: u16 = 11;
 const KIND_SHARE: u16 = 12;
 
 // The records replayed so far: how many words the image to go by has, how many counts there are to go by, none before the first, and the tally.
-#[derive(Drop)]
+#[derive(Clone, Copy)]
 struct Stands {
     words: usize,
     entries: usize,

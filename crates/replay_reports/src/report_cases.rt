@@ -32,7 +32,7 @@ const CHANGES_AT: usize = 2;
 const GROWN_AT: usize = 4;
 
 // What a record of a report says before its list: the words of the list, how the run ends, and how many changes of the image and of the counts follow the list.
-#[derive(Drop)]
+#[derive(Clone, Copy)]
 struct Case {
     words: usize,
     ended: RunNumbers,
@@ -41,7 +41,7 @@ struct Case {
 }
 
 // The case of a record, or that its words end too early.
-#[derive(Drop)]
+#[derive(Clone, Copy)]
 enum Asked {
     Replay(Case),
     Bad,

@@ -47,7 +47,7 @@ const PART_LOW_AT: usize = 10;
 const PART_HIGH_AT: usize = 11;
 
 // What a record of a print says before its list: the words of the list and how many of them are stored, the same of the text's bytes, the buffer's bytes and their salt, and what is expected.
-#[derive(Drop)]
+#[derive(Clone, Copy)]
 struct Case {
     list: usize,
     stored: usize,
@@ -60,7 +60,7 @@ struct Case {
 }
 
 // The case of a record, or that its words end too early.
-#[derive(Drop)]
+#[derive(Clone, Copy)]
 enum Asked {
     Replay(Case),
     Bad,

@@ -47,7 +47,7 @@ const WORDS_LOW_AT: usize = 10;
 const WORDS_HIGH_AT: usize = 11;
 
 // A line of a text, or none: the text, where the line begins in it, and its count of bytes.
-#[derive(Drop)]
+#[derive(Clone, Copy)]
 struct Named {
     text: u16,
     start: usize,
@@ -55,7 +55,7 @@ struct Named {
 }
 
 // What a record of a translation says before its names: counts of bytes and words, and what is expected.
-#[derive(Drop)]
+#[derive(Clone, Copy)]
 struct Case {
     names: usize,
     script: usize,
@@ -67,7 +67,7 @@ struct Case {
 }
 
 // The case of a record, or that its words end too early.
-#[derive(Drop)]
+#[derive(Clone, Copy)]
 enum Asked {
     Replay(Case),
     Bad,

@@ -25,7 +25,7 @@ const PIECES_END: u64 = 281474976710656;
 const FIRST_EVENT: u64 = 1;
 
 // What came of a piece: its events were taken and more may come, or how the list ended.
-#[derive(Drop)]
+#[derive(Clone, Copy)]
 enum Turn {
     On,
     Ended(Outcome),

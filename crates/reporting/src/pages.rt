@@ -9,7 +9,7 @@ const TEN: u64 = 10;
 const MOST_DIGITS: usize = 20;
 
 // How much of a room is written, and whether all pieces so far had their room.
-#[derive(Drop)]
+#[derive(Clone, Copy)]
 pub struct Page {
     pub end: usize,
     pub whole: bool,

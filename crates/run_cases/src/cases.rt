@@ -26,7 +26,7 @@ const CHANGES_LOW_AT: usize = 2;
 const CHANGES_HIGH_AT: usize = 3;
 
 // What a record of a run says before its list: the words of the list, how the run ends, and how many changes follow the list.
-#[derive(Drop)]
+#[derive(Clone, Copy)]
 struct Case {
     words: usize,
     ended: RunNumbers,
@@ -34,7 +34,7 @@ struct Case {
 }
 
 // The case of a record, or that its words end too early.
-#[derive(Drop)]
+#[derive(Clone, Copy)]
 enum Asked {
     Replay(Case),
     Bad,

@@ -16,7 +16,7 @@ use runner_lines::put_line;
 pub const EVENT_BYTES: usize = WORD_BYTES * EVENT_WORDS;
 
 // What came of the events of a buffer: how many bytes of text were written, how many events were taken, and whether one was refused.
-#[derive(Drop)]
+#[derive(Clone, Copy)]
 pub struct Fed {
     pub text: usize,
     pub taken: usize,

@@ -28,7 +28,7 @@ const BUFFERS_END: u64 = 1125899906842624;
 const FIRST_EVENT: u64 = 1;
 
 // What a buffer holds after a read: so many bytes, with more to come or not; or that the file could not be read.
-#[derive(Drop)]
+#[derive(Clone, Copy)]
 pub enum Held {
     Bytes(usize),
     Last(usize),
@@ -36,14 +36,14 @@ pub enum Held {
 }
 
 // What came of the events of a buffer: how many were taken, or how the run ended.
-#[derive(Drop)]
+#[derive(Clone, Copy)]
 pub enum Took {
     Events(usize),
     Ended(Outcome),
 }
 
 // What came of a turn: how many events were taken, and how many bytes of the next one are kept; or how the run ended.
-#[derive(Drop)]
+#[derive(Clone, Copy)]
 pub enum Turn {
     On(usize, usize),
     Ended(Outcome),

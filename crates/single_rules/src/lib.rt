@@ -23,7 +23,7 @@ use places::word_of;
 use task_rules::is_empty;
 
 // The rules of an image, in the paper's order, and last that of request 6.
-#[derive(Drop)]
+#[derive(Clone, Copy)]
 pub enum Rule {
     Flags,
     Both,
@@ -49,7 +49,7 @@ pub enum Rule {
 }
 
 // What a rule is of: each task, each queue, or the clock.
-#[derive(Drop)]
+#[derive(Clone, Copy)]
 pub enum Kind {
     Task,
     Queue,

@@ -14,14 +14,14 @@ use tokens::{CLOSE, MINUS, Marked, OPEN, PLUS, TIMES, Token, ends, mark_of, next
 use values::{in_range, joined, number, times};
 
 // What reading comes to: tokens outside the grammar, or a value and the token after it.
-#[derive(Drop)]
+#[derive(Clone, Copy)]
 pub enum Reading {
     Outside,
     Read(Worked, Token),
 }
 
 // What a sum to the end of a line comes to.
-#[derive(Drop)]
+#[derive(Clone, Copy)]
 pub enum Total {
     Outside,
     Comes(Worked),

@@ -12,7 +12,7 @@ use storing::store_words;
 use tables::{MOST_NAMES, NO_ENTRY};
 
 // Both texts as they were read: how many entries the names have, how many there are, and the fault of the names.
-#[derive(Drop)]
+#[derive(Clone, Copy)]
 pub struct TextsPast {
     pub split: usize,
     pub filled: usize,

@@ -31,21 +31,21 @@ use results::error_of;
 use words::{Row, Spot, empty, entry, first, get, own, put, row_of};
 
 // A task's row, and where its segment lies from there.
-#[derive(Drop)]
+#[derive(Clone, Copy)]
 pub struct Seat {
     pub row: Row,
     pub segment: Segment,
 }
 
 // What a tick came to: an order, whose answer the flags of its task tell; or an answer.
-#[derive(Drop)]
+#[derive(Clone, Copy)]
 pub enum Came {
     Ordered,
     Answered(Answer),
 }
 
 // How many ticks were taken at once, and what the last of them came to.
-#[derive(Drop)]
+#[derive(Clone, Copy)]
 pub struct Gone {
     pub taken: usize,
     pub came: Came,

@@ -8,7 +8,7 @@ use grammar::{FIRST_DIGIT, FIRST_LETTER, LAST_LETTER};
 
 // What stands next in a line: nothing more, a number or a word with its first byte and the place after it, a mark, or a byte
 // that never stands there, each with the place after it.
-#[derive(Drop)]
+#[derive(Clone, Copy)]
 pub enum Token {
     End,
     Number(usize, usize),
@@ -18,7 +18,7 @@ pub enum Token {
 }
 
 // Whether a mark stands next, and the place after it.
-#[derive(Drop)]
+#[derive(Clone, Copy)]
 pub enum Marked {
     No,
     At(usize),

@@ -48,7 +48,7 @@ pub fn number(digits: &[u8]) -> Worked
 }
 
 // Two values together: both are numbers, or what comes of them where one or both are none.
-#[derive(Drop)]
+#[derive(Clone, Copy)]
 enum Pair {
     Both(u16, u16),
     NotBoth(Worked),

@@ -8,7 +8,7 @@ use crate::tally::{Tally, empty, spoiled};
 pub const KIND_IMAGE: u16 = 3;
 
 // The records replayed so far: how many words the image to go by has, none before the first, and the tally.
-#[derive(Drop)]
+#[derive(Clone, Copy)]
 pub struct Replayed {
     pub held: usize,
     pub tally: Tally,

@@ -32,7 +32,7 @@ const WRONG: u16 = 256;
 pub const RECORDS_END: u64 = 4294967296;
 
 // How much of what was asked for a read found.
-#[derive(Drop)]
+#[derive(Clone, Copy)]
 pub enum Found {
     All,
     Part,
@@ -40,7 +40,7 @@ pub enum Found {
 }
 
 // The words that each record starts with: the kind, whether it is wrong on purpose, the expected number, and the count of the words under test.
-#[derive(Drop)]
+#[derive(Clone, Copy)]
 pub struct Head {
     pub kind: u16,
     pub wrong: bool,
@@ -49,7 +49,7 @@ pub struct Head {
 }
 
 // What comes next in a file.
-#[derive(Drop)]
+#[derive(Clone, Copy)]
 pub enum Next {
     Record(Head),
     End,

@@ -62,7 +62,7 @@ pub const LOOK_COUNT: usize = 8;
 pub const LOOK_NUMBERS: [u16; LOOK_COUNT] = [0, 1, 2, 3, 4, 5, 6, 65535];
 
 // How what the code under test says compares with a record, or that the record is bad.
-#[derive(Drop)]
+#[derive(Clone, Copy)]
 pub enum Answer {
     Same,
     Differs,
@@ -70,7 +70,7 @@ pub enum Answer {
 }
 
 // The cases replayed so far, by expected number; those that differ; the records that are wrong on purpose, and those of them that were told to differ; whether a record was bad.
-#[derive(Drop)]
+#[derive(Clone, Copy)]
 pub struct Tally {
     pub cases: [u64; COUNTS],
     pub differ: u64,

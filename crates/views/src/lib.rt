@@ -17,7 +17,7 @@ use results::error_of;
 use words::{Spot, count, get, own, row_of};
 
 // What a task stands in: its status and peer, and the fields of its flags.
-#[derive(Drop)]
+#[derive(Clone, Copy)]
 pub struct TaskState {
     pub status: u16,
     pub peer: u16,
@@ -27,7 +27,7 @@ pub struct TaskState {
 }
 
 // A task's state; or it is not there, or the image is refused.
-#[derive(Drop)]
+#[derive(Clone, Copy)]
 pub enum TaskView {
     Is(TaskState),
     NotThere,
@@ -35,14 +35,14 @@ pub enum TaskView {
 }
 
 // What a port stands in.
-#[derive(Drop)]
+#[derive(Clone, Copy)]
 pub struct PortState {
     pub busy: u16,
     pub character: u16,
 }
 
 // A port's state; or it is not there, or the image is refused.
-#[derive(Drop)]
+#[derive(Clone, Copy)]
 pub enum PortView {
     Is(PortState),
     NotThere,
@@ -50,7 +50,7 @@ pub enum PortView {
 }
 
 // A word; or it is not there, or the image is refused.
-#[derive(Drop)]
+#[derive(Clone, Copy)]
 pub enum WordView {
     Is(u16),
     NotThere,
@@ -58,7 +58,7 @@ pub enum WordView {
 }
 
 // The queue that numbers name, if there is one.
-#[derive(Drop)]
+#[derive(Clone, Copy)]
 pub enum Named {
     Queue(Queue),
     NotThere,

@@ -12,7 +12,7 @@ use places::{head_of, place_of, store, word_of};
 use rings::{append_at, count_at, first_at, full_at, take_at};
 
 // The words that may be written one by one: all but the header's, the task table's, the queues', the segment table's and the segments'.
-#[derive(Drop)]
+#[derive(Clone, Copy)]
 pub enum Spot {
     Clock,
     Status(Task),
@@ -22,7 +22,7 @@ pub enum Spot {
 }
 
 // A task's row of the task table: the task, and the place of the row's first word.
-#[derive(Drop)]
+#[derive(Clone, Copy)]
 pub struct Row {
     pub task: Task,
     pub place: Place,
