@@ -103,6 +103,8 @@ module _ {s : Shape} {im : List ℕ} {i : Task} (l : Leads s im i) where
       (asks, ltb-false most_character _ (error_none _ 6 right), rw (c.0, c.1) (eqb-true _ _ stuck))
 
   alone_peer : (v : Service) → Alone v → at s (with_status s im i (waits v) (awaited s im i v)) (peer i) ≡ 0
+  alone_peer Service.Send a = elim a [ ]
+  alone_peer Service.Receive a = elim a [ ]
   alone_peer Service.Input a = entry_peer 3 0
   alone_peer Service.Output a = entry_peer 4 0
 
