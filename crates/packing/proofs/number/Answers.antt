@@ -14,7 +14,8 @@ overflow_add-result c = omega (arith, word_short c.args.n _ (omega arith) c.digi
 pub returns : goal.returns
 unfolding bytes_of
 returns c =
-    let n = c.args.n in (
-      number_bytes n _ _ (omega arith) c.digits-count.ensures c.five_digits.ensures,
-      omega (arith, word_short n _ (omega arith) c.digits-count.ensures),
-    )
+    let n = c.args.n in
+    record {
+      result_value = number_bytes n _ _ (omega arith) c.digits-count.ensures c.five_digits.ensures;
+      bytes_bound = omega (arith, word_short n _ (omega arith) c.digits-count.ensures);
+    }

@@ -8,10 +8,12 @@ pub returns-then-at-end : goal.returns-then-at-end
 unfolding bytes_of
 returns-then-at-end c =
     let a = c.args in
-    first_placed _ _ a.at a.end a.p.bytes 8 a.p.value c.put_eight.ensures (omega arith) c.if-at-end.true (omega arith)
+    let w = first_placed _ _ a.at a.end a.p.bytes 8 a.p.value c.put_eight.ensures (omega arith) c.if-at-end.true (omega arith) in
+    record { value = w.0; placed = w.1 }
 
 pub returns : goal.returns
 unfolding bytes_of
 returns c =
     let a = c.args in
-    first_placed _ _ a.at a.end a.p.bytes a.p.bytes a.p.value c.put_few.ensures (omega arith) (omega arith) (omega arith)
+    let w = first_placed _ _ a.at a.end a.p.bytes a.p.bytes a.p.value c.put_few.ensures (omega arith) (omega arith) (omega arith) in
+    record { value = w.0; placed = w.1 }
