@@ -1,13 +1,15 @@
 // Shows that the bound on turns is reached: for each k from 1 to 15, an image on which a task with k others ahead is first after exactly as many ticks.
+#![tactic(auto)]
+
 ghost use Rattle.std.specs.Prelude.{◌≡◌, ◌≤◌, length};
 
 use kernel::{build, event, size};
-use libc::STDOUT_FILENO;
 use numbers::task_of;
 use paper::{
     LEADING_WORDS, MOST_TASKS, MOST_WORDS, PAIR_WORDS, PLAN_CI_AT, PLAN_CM_AT, PLAN_CO_AT,
     PLAN_SLICE_AT, PLAN_TASKS_AT, Reply, Size, TICK,
 };
+use std::io;
 
 // The most others that can be ahead.
 const MOST_AHEAD: usize = MOST_TASKS - 1;
@@ -118,20 +120,14 @@ fn ticks_of(k: usize) -> usize
     ticks_in(&plan[..words], &mut room, k)
 }
 
-// Prints a number after a text.
-fn print(text: &[u8], n: usize) {
-    io::write_all(STDOUT_FILENO, text);
-    io::print_decimal(STDOUT_FILENO, n as u64);
-}
-
 // Prints the bound and how many ticks passed, for each k.
-fn main() {
+fn main(rt: HostRuntime) -> io::Result<()> {
     let slice = SLICE as usize;
     for i in 0..MOST_AHEAD {
         let k = i + 1;
-        print(b"k ", k);
-        print(b": bound ", CLOCK + 1 + i * (slice + 1));
-        print(b", first after ", ticks_of(k));
-        io::write_all(STDOUT_FILENO, b" ticks\n");
+        let bound = CLOCK + 1 + i * (slice + 1);
+        let ticks = ticks_of(k);
+        println!(rt; "k {k}: bound {bound}, first after {ticks} ticks")?;
     }
+    Ok(())
 }

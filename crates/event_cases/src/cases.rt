@@ -4,6 +4,7 @@ ghost use Rattle.std.specs.Prelude.{◌≡◌, length};
 use crate::replies::{EventWords, are_same, said_to};
 use kernel_c::ReplyNumbers;
 use paper::NOT_REFUSED;
+use std::io::Read;
 use vectors::changes::changed_answer;
 use vectors::images::lay_out;
 use vectors::records::{Found, Head, read_words};
@@ -43,9 +44,9 @@ enum Asked {
 }
 
 // Reads what a record of an event says before its changes.
-fn read_case(fd: i32, head: Head) -> Asked {
+fn read_case<R: Read>(source: &mut R, head: Head) -> Asked {
     let mut words = [0u16; MORE_WORDS];
-    let found = read_words(fd, &mut words, MORE_WORDS);
+    let found = read_words(source, &mut words, MORE_WORDS);
     let Found::All = found else {
         return Asked::Bad;
     };
@@ -73,7 +74,13 @@ fn is_right(case: Case) -> bool {
 }
 
 // The tally with a case, unless the record is bad. The image takes the changes that follow in the file.
-fn case_tally(fd: i32, trial: &mut [u16], image: &mut [u16], case: Case, tally: Tally) -> Tally
+fn case_tally<R: Read>(
+    source: &mut R,
+    trial: &mut [u16],
+    image: &mut [u16],
+    case: Case,
+    tally: Tally,
+) -> Tally
     requires { length trial.old ≡ length image.old }
 {
     if !is_right(case) {
@@ -81,17 +88,23 @@ fn case_tally(fd: i32, trial: &mut [u16], image: &mut [u16], case: Case, tally: 
     }
     lay_out(trial, image);
     let same = are_same(said_to(trial, case.event), case.expected);
-    let answer = changed_answer(fd, trial, image, case.changes, same);
+    let answer = changed_answer(source, trial, image, case.changes, same);
     answered(tally, case.expected.number, answer)
 }
 
 // The tally with a record of an event on the image that stands.
-pub fn event_tally(fd: i32, trial: &mut [u16], image: &mut [u16], head: Head, tally: Tally) -> Tally
+pub fn event_tally<R: Read>(
+    source: &mut R,
+    trial: &mut [u16],
+    image: &mut [u16],
+    head: Head,
+    tally: Tally,
+) -> Tally
     requires { length trial.old ≡ length image.old }
 {
-    let asked = read_case(fd, head);
+    let asked = read_case(source, head);
     match asked {
-        Asked::Replay(case) => case_tally(fd, trial, image, case, tally),
+        Asked::Replay(case) => case_tally(source, trial, image, case, tally),
         Asked::Bad => spoiled(tally),
     }
 }

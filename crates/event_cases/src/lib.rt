@@ -1,3 +1,5 @@
 // The model's events, made to happen and compared.
+#![tactic(auto)]
+
 pub mod cases;
 mod replies;

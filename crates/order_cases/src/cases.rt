@@ -4,6 +4,7 @@ ghost use Rattle.order_table.specs.Entries.{OrderTable};
 
 use crate::outcomes::{Outcome, outcome_of};
 use paper::{HIGH_BYTES, WORD_END};
+use std::io::Read;
 use vectors::changes::{CHANGE_WORDS, MOST_CHANGES, are_places, as_count, read_changes, take_back};
 use vectors::images::{are_same, lay_out};
 use vectors::records::{Found, Head, read_words};
@@ -39,9 +40,9 @@ enum Asked {
 }
 
 // Reads what a record of orders says before its changes.
-fn read_case(fd: i32, head: Head) -> Asked {
+fn read_case<R: Read>(source: &mut R, head: Head) -> Asked {
     let mut words = [0u16; MORE_WORDS];
-    let found = read_words(fd, &mut words, MORE_WORDS);
+    let found = read_words(source, &mut words, MORE_WORDS);
     let Found::All = found else {
         return Asked::Bad;
     };
@@ -155,8 +156,8 @@ fn checked_tally(
 }
 
 // The tally with a case, its changes read from the file.
-fn case_tally(
-    fd: i32,
+fn case_tally<R: Read>(
+    source: &mut R,
     table: &[u16; HIGH_BYTES],
     trial: &mut [u16],
     image: &mut [u16],
@@ -170,7 +171,7 @@ fn case_tally(
         return spoiled(tally);
     }
     let mut changes = [0u16; CHANGE_WORDS];
-    let found = read_changes(fd, &mut changes, case.changes);
+    let found = read_changes(source, &mut changes, case.changes);
     let Found::All = found else {
         return spoiled(tally);
     };
@@ -178,8 +179,8 @@ fn case_tally(
 }
 
 // The tally with a record of orders on an image.
-pub fn orders_tally(
-    fd: i32,
+pub fn orders_tally<R: Read>(
+    source: &mut R,
     table: &[u16; HIGH_BYTES],
     trial: &mut [u16],
     image: &mut [u16],
@@ -189,9 +190,9 @@ pub fn orders_tally(
     requires order_table { OrderTable table.now }
     requires trial_len { length trial.old ≡ length image.old }
 {
-    let asked = read_case(fd, head);
+    let asked = read_case(source, head);
     match asked {
-        Asked::Replay(case) => case_tally(fd, table, trial, image, case, tally),
+        Asked::Replay(case) => case_tally(source, table, trial, image, case, tally),
         Asked::Bad => spoiled(tally),
     }
 }

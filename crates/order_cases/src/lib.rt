@@ -1,3 +1,5 @@
 // The model's orders, carried out and compared.
+#![tactic(auto)]
+
 pub mod cases;
 mod outcomes;

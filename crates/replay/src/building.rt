@@ -4,6 +4,7 @@ ghost use Rattle.paper.specs.Calls.{size-number, size_value};
 
 use numbers::number_of;
 use paper::{NOT_REFUSED, Size};
+use std::io::Read;
 use vectors::records::{Found, Head, read_words, wide};
 use vectors::tally::{Answer, compared, worse};
 use vectors::targets::{is_salted, salt_words, stored_answer};
@@ -48,9 +49,9 @@ enum Asked {
 }
 
 // Reads what a record of a build says between its head and its plan.
-fn read_case(fd: i32, head: Head) -> Asked {
+fn read_case<R: Read>(source: &mut R, head: Head) -> Asked {
     let mut words = [0u16; MORE_WORDS];
-    let found = read_words(fd, &mut words, MORE_WORDS);
+    let found = read_words(source, &mut words, MORE_WORDS);
     let Found::All = found else {
         return Asked::Bad;
     };
@@ -65,9 +66,9 @@ fn read_case(fd: i32, head: Head) -> Asked {
 }
 
 // Compares a target after the build with what it must hold.
-fn target_answer(fd: i32, target: &[u16], case: Case) -> Answer {
+fn target_answer<R: Read>(source: &mut R, target: &[u16], case: Case) -> Answer {
     if case.number == NOT_REFUSED {
-        return stored_answer(fd, target);
+        return stored_answer(source, target);
     }
     compared(is_salted(target, 0, case.salt))
 }
@@ -103,33 +104,43 @@ fn is_sized(size: Size, case: Case) -> bool
 }
 
 // The answer to a plan and a target of the lengths that the record gives.
-fn built_answer(fd: i32, plan: &[u16], target: &mut [u16], case: Case) -> Answer {
+fn built_answer<R: Read>(source: &mut R, plan: &[u16], target: &mut [u16], case: Case) -> Answer {
     salt_words(target, case.salt);
     let number = builds::build(plan, target);
-    let left = target_answer(fd, target, case);
+    let left = target_answer(source, target, case);
     let sized = is_sized(plans::size(plan), case);
     worse(left, compared(number == case.number && sized))
 }
 
 // The answer to a case, its plan read from the file.
-fn case_answer(fd: i32, plan: &mut [u16], target: &mut [u16], case: Case) -> Answer {
+fn case_answer<R: Read>(
+    source: &mut R,
+    plan: &mut [u16],
+    target: &mut [u16],
+    case: Case,
+) -> Answer {
     let count = case.plan;
     let room = case.target;
     if count > plan.len() || room > target.len() {
         return Answer::Bad;
     }
-    let found = read_words(fd, plan, count);
+    let found = read_words(source, plan, count);
     let Found::All = found else {
         return Answer::Bad;
     };
-    built_answer(fd, &plan[..count], &mut target[..room], case)
+    built_answer(source, &plan[..count], &mut target[..room], case)
 }
 
 // The answer to the record of a build.
-pub fn build_answer(fd: i32, plan: &mut [u16], target: &mut [u16], head: Head) -> Answer {
-    let asked = read_case(fd, head);
+pub fn build_answer<R: Read>(
+    source: &mut R,
+    plan: &mut [u16],
+    target: &mut [u16],
+    head: Head,
+) -> Answer {
+    let asked = read_case(source, head);
     match asked {
-        Asked::Replay(case) => case_answer(fd, plan, target, case),
+        Asked::Replay(case) => case_answer(source, plan, target, case),
         Asked::Bad => Answer::Bad,
     }
 }

@@ -1,7 +1,11 @@
 // Replays the stored test vectors and prints how many cases each number has, how many differ, and how many of those that are wrong on purpose were told.
+#![tactic(auto)]
+
 mod building;
 
 use building::build_answer;
+use std::fs::File;
+use std::io::{self, BufReader, Read};
 use vectors::records::{Found, Head, Next, RECORDS_END, read_head, read_words};
 use vectors::tally::{
     Answer, BUILD_NUMBERS, CHECK_NUMBERS, Tally, answered, compared, empty, listed, print_tally,
@@ -25,12 +29,12 @@ enum Kind {
 }
 
 // The answer to the record of a check.
-fn check_answer(fd: i32, im: &mut [u16], head: Head) -> Answer {
+fn check_answer<R: Read>(source: &mut R, im: &mut [u16], head: Head) -> Answer {
     let count = head.count;
     if count > im.len() {
         return Answer::Bad;
     }
-    let found = read_words(fd, im, count);
+    let found = read_words(source, im, count);
     let Found::All = found else {
         return Answer::Bad;
     };
@@ -54,16 +58,22 @@ fn may_expect(kind: Kind, number: u16) -> bool {
 }
 
 // The answer to a record of a kind.
-fn answer_to(fd: i32, kind: Kind, words: &mut [u16], target: &mut [u16], head: Head) -> Answer {
+fn answer_to<R: Read>(
+    source: &mut R,
+    kind: Kind,
+    words: &mut [u16],
+    target: &mut [u16],
+    head: Head,
+) -> Answer {
     match kind {
-        Kind::Check => check_answer(fd, words, head),
-        Kind::Build => build_answer(fd, words, target, head),
+        Kind::Check => check_answer(source, words, head),
+        Kind::Build => build_answer(source, words, target, head),
     }
 }
 
 // The tally with one more record, as it stands.
-fn record_tally(
-    fd: i32,
+fn record_tally<R: Read>(
+    source: &mut R,
     kind: Kind,
     words: &mut [u16],
     target: &mut [u16],
@@ -73,13 +83,13 @@ fn record_tally(
     if head.kind != first_word(kind) || !may_expect(kind, head.number) {
         return spoiled(tally);
     }
-    let answer = answer_to(fd, kind, words, target, head);
+    let answer = answer_to(source, kind, words, target, head);
     answered(tally, head.number, answer)
 }
 
 // The tally with one more record replayed: alone where it is wrong on purpose.
-fn replay_one(
-    fd: i32,
+fn replay_one<R: Read>(
+    source: &mut R,
     kind: Kind,
     words: &mut [u16],
     target: &mut [u16],
@@ -87,52 +97,62 @@ fn replay_one(
     tally: Tally,
 ) -> Tally {
     if !head.wrong {
-        return record_tally(fd, kind, words, target, head, tally);
+        return record_tally(source, kind, words, target, head, tally);
     }
-    let alone = record_tally(fd, kind, words, target, head, empty());
+    let alone = record_tally(source, kind, words, target, head, empty());
     with_wrong(tally, alone)
 }
 
 // The tally of a file's records up to its end or a bad one.
-fn replay_file(fd: i32, kind: Kind, words: &mut [u16], target: &mut [u16]) -> Tally {
+fn replay_file<R: Read>(
+    source: &mut R,
+    kind: Kind,
+    words: &mut [u16],
+    target: &mut [u16],
+) -> Tally {
     let mut tally = empty();
-    let mut turns = RECORDS_END;
-    while turns > 0 && !tally.bad {
-        let next = read_head(fd);
-        match next {
-            Next::Record(head) => tally = replay_one(fd, kind, words, target, head, tally),
+    for _ in 0..RECORDS_END {
+        if tally.bad {
+            return tally;
+        }
+        match read_head(source) {
+            Next::Record(head) => tally = replay_one(source, kind, words, target, head, tally),
             Next::End => return tally,
             Next::Bad => return spoiled(tally),
         }
-        turns -= 1;
     }
     spoiled(tally)
 }
 
 // Prints the tally of a kind.
-fn print_kind(kind: Kind, tally: Tally) {
+fn print_kind(rt: &HostRuntime, kind: Kind, tally: Tally) -> io::Result<()> {
     match kind {
-        Kind::Check => print_tally(b"check ", &CHECK_NUMBERS, tally),
-        Kind::Build => print_tally(b"build ", &BUILD_NUMBERS, tally),
+        Kind::Check => print_tally(rt, "check ", &CHECK_NUMBERS, tally),
+        Kind::Build => print_tally(rt, "build ", &BUILD_NUMBERS, tally),
     }
 }
 
 // Replays the file of a path and prints its tally, or why there is none.
-fn replay_path(path: &[u8], kind: Kind, words: &mut [u16], target: &mut [u16]) {
-    let fd = os::open_read(path);
-    if fd < 0 {
-        os::fail(path);
-        return;
-    }
-    let tally = replay_file(fd, kind, words, target);
-    libc::close(fd);
-    print_kind(kind, tally);
+fn replay_path(
+    rt: &HostRuntime,
+    path: &str,
+    kind: Kind,
+    words: &mut [u16],
+    target: &mut [u16],
+) -> io::Result<()> {
+    let file = match File::open(rt, path) {
+        Ok(file) => file,
+        Err(error) => return eprintln!(rt; "{path}: {error}"),
+    };
+    let mut source = BufReader::new(rt.alloc(), file)?;
+    let tally = replay_file(&mut source, kind, words, target);
+    print_kind(rt, kind, tally)
 }
 
 // Replays each file of vectors.
-fn main() {
+fn main(rt: HostRuntime) -> io::Result<()> {
     let mut words = [0u16; MOST_WORDS];
     let mut target = [0u16; MOST_WORDS];
-    replay_path(b"check.bin", Kind::Check, &mut words, &mut target);
-    replay_path(b"build.bin", Kind::Build, &mut words, &mut target);
+    replay_path(&rt, "check.bin", Kind::Check, &mut words, &mut target)?;
+    replay_path(&rt, "build.bin", Kind::Build, &mut words, &mut target)
 }

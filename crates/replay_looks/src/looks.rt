@@ -5,6 +5,7 @@ use kernel_c::broken::kernel_broken_rule;
 use kernel_c::looks::{
     kernel_port, kernel_queue_length, kernel_queue_word, kernel_register, kernel_task,
 };
+use std::io::Read;
 use vectors::images::are_same;
 use vectors::records::{Found, Head, read_words};
 use vectors::tally::{Answer, compared};
@@ -146,14 +147,14 @@ fn seen_answer(seen: Seen, number: u16, fields: &[u16; FIELDS]) -> Answer {
 }
 
 // The answer to a record of a look into an image.
-pub fn look_answer(fd: i32, im: &[u16], head: Head) -> Answer {
+pub fn look_answer<R: Read>(source: &mut R, im: &[u16], head: Head) -> Answer {
     let mut asked = [0u16; ASKED];
     let mut fields = [0u16; FIELDS];
-    let found = read_words(fd, &mut asked, ASKED);
+    let found = read_words(source, &mut asked, ASKED);
     let Found::All = found else {
         return Answer::Bad;
     };
-    let rest = read_words(fd, &mut fields, FIELDS);
+    let rest = read_words(source, &mut fields, FIELDS);
     let Found::All = rest else {
         return Answer::Bad;
     };

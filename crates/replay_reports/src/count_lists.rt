@@ -1,6 +1,7 @@
 // The counts that cases go by, and what they are after a report.
 ghost use Rattle.std.specs.Prelude.{◌≡◌, true, ◌≤◌, length};
 
+use std::io::Read;
 use vectors::changes::as_count;
 use vectors::records::{Found, read_words};
 use vectors::tally::{Answer, compared};
@@ -46,12 +47,12 @@ fn put_counts(words: &[u16; COUNTS_SIZE], counts: &mut [u32], count: usize)
 }
 
 // Reads so many counts.
-pub fn read_counts(fd: i32, counts: &mut [u32], count: usize) -> Found
+pub fn read_counts<R: Read>(source: &mut R, counts: &mut [u32], count: usize) -> Found
     requires count_in_bounds { count ≤ length counts.old }
     requires count_le_most_counts { count ≤ MOST_COUNTS }
 {
     let mut words = [0u16; COUNTS_SIZE];
-    let found = read_words(fd, &mut words, COUNT_SIZE * count);
+    let found = read_words(source, &mut words, COUNT_SIZE * count);
     put_counts(&words, counts, count);
     found
 }
@@ -80,11 +81,11 @@ fn are_counts(tried: &[u32], counts: &[u32]) -> bool
 }
 
 // Makes the next changes of a file in the counts, and answers whether their places ascend and lie in them.
-fn grow_counts(fd: i32, counts: &mut [u32], count: usize) -> bool {
+fn grow_counts<R: Read>(source: &mut R, counts: &mut [u32], count: usize) -> bool {
     let mut least: usize = 0;
     for _ in 0..count {
         let mut grown = [0u16; GROWN_SIZE];
-        let found = read_words(fd, &mut grown, GROWN_SIZE);
+        let found = read_words(source, &mut grown, GROWN_SIZE);
         let Found::All = found else {
             return false;
         };
@@ -99,10 +100,15 @@ fn grow_counts(fd: i32, counts: &mut [u32], count: usize) -> bool {
 }
 
 // Makes the next changes of a file in the counts, and answers whether those tried are then the same.
-pub fn grown_answer(fd: i32, tried: &[u32], counts: &mut [u32], count: usize) -> Answer
+pub fn grown_answer<R: Read>(
+    source: &mut R,
+    tried: &[u32],
+    counts: &mut [u32],
+    count: usize,
+) -> Answer
     requires { length tried.now ≡ length counts.old }
 {
-    if !grow_counts(fd, counts, count) {
+    if !grow_counts(source, counts, count) {
         return Answer::Bad;
     }
     compared(are_counts(tried, counts))

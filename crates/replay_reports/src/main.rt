@@ -1,4 +1,6 @@
 // Replays the stored runs that count and the stored shares, and prints how many cases each number has, how many differ, and how many of those that are wrong on purpose were told.
+#![tactic(auto)]
+
 ghost use Rattle.std.specs.Prelude.{◌≡◌, ◌≤◌, length};
 
 mod count_lists;
@@ -9,6 +11,8 @@ use count_lists::{MOST_COUNTS, read_counts};
 use paper::MOST_WORDS;
 use report_cases::{REPORT_NUMBERS, report_tally};
 use share_cases::{SHARE_NUMBERS, share_tally};
+use std::fs::File;
+use std::io::{self, BufReader, Read};
 use vectors::images::{KIND_IMAGE, replay_image};
 use vectors::records::{Found, Head, Next, RECORDS_END, read_head};
 use vectors::tally::{Tally, empty, print_tally, spoiled, with_wrong};
@@ -31,27 +35,39 @@ struct Stands {
 }
 
 // The tally with a record on what there is to go by, as it stands.
-fn record_tally(fd: i32, image: &mut [u16], counts: &mut [u32], head: Head, tally: Tally) -> Tally {
+fn record_tally<R: Read>(
+    source: &mut R,
+    image: &mut [u16],
+    counts: &mut [u32],
+    head: Head,
+    tally: Tally,
+) -> Tally {
     if head.kind == KIND_REPORT {
-        return report_tally(fd, image, counts, head, tally);
+        return report_tally(source, image, counts, head, tally);
     }
     if head.kind == KIND_SHARE {
-        return share_tally(fd, counts, head, tally);
+        return share_tally(source, counts, head, tally);
     }
     spoiled(tally)
 }
 
 // The tally with a record on what there is to go by: alone where it is wrong on purpose.
-fn marked_tally(fd: i32, image: &mut [u16], counts: &mut [u32], head: Head, tally: Tally) -> Tally {
+fn marked_tally<R: Read>(
+    source: &mut R,
+    image: &mut [u16],
+    counts: &mut [u32],
+    head: Head,
+    tally: Tally,
+) -> Tally {
     if !head.wrong {
-        return record_tally(fd, image, counts, head, tally);
+        return record_tally(source, image, counts, head, tally);
     }
-    let alone = record_tally(fd, image, counts, head, empty());
+    let alone = record_tally(source, image, counts, head, empty());
     with_wrong(tally, alone)
 }
 
 // Reads the counts of a record as those to go by.
-fn replay_counts(fd: i32, counts: &mut [u32], head: Head, done: Stands) -> Stands
+fn replay_counts<R: Read>(source: &mut R, counts: &mut [u32], head: Head, done: Stands) -> Stands
     ensures words_value { result.words ≡ done.words }
     ensures entries_in_bounds { result.entries ≤ length counts.old }
 {
@@ -65,7 +81,7 @@ fn replay_counts(fd: i32, counts: &mut [u32], head: Head, done: Stands) -> Stand
             tally: spoiled(tally),
         };
     }
-    let found = read_counts(fd, counts, count);
+    let found = read_counts(source, counts, count);
     let Found::All = found else {
         return Stands {
             words: words,
@@ -81,20 +97,26 @@ fn replay_counts(fd: i32, counts: &mut [u32], head: Head, done: Stands) -> Stand
 }
 
 // One more record replayed.
-fn replay_one(fd: i32, image: &mut [u16], counts: &mut [u32], head: Head, done: Stands) -> Stands
+fn replay_one<R: Read>(
+    source: &mut R,
+    image: &mut [u16],
+    counts: &mut [u32],
+    head: Head,
+    done: Stands,
+) -> Stands
     requires words_in_bounds { done.words ≤ length image.old }
     requires entries_in_bounds { done.entries ≤ length counts.old }
     ensures words_in_bounds_2 { result.words ≤ length image.old }
     ensures entries_in_bounds_2 { result.entries ≤ length counts.old }
 {
     if head.kind == KIND_COUNTS {
-        return replay_counts(fd, counts, head, done);
+        return replay_counts(source, counts, head, done);
     }
     let words = done.words;
     let entries = done.entries;
     let tally = done.tally;
     if head.kind == KIND_IMAGE {
-        let read = replay_image(fd, image, head, tally);
+        let read = replay_image(source, image, head, tally);
         let more = read.tally;
         return Stands {
             words: read.held,
@@ -102,7 +124,13 @@ fn replay_one(fd: i32, image: &mut [u16], counts: &mut [u32], head: Head, done: 
             tally: more,
         };
     }
-    let more = marked_tally(fd, &mut image[..words], &mut counts[..entries], head, tally);
+    let more = marked_tally(
+        source,
+        &mut image[..words],
+        &mut counts[..entries],
+        head,
+        tally,
+    );
     Stands {
         words: words,
         entries: entries,
@@ -111,41 +139,40 @@ fn replay_one(fd: i32, image: &mut [u16], counts: &mut [u32], head: Head, done: 
 }
 
 // The tally of a file's records up to its end or a bad one.
-fn replay_file(fd: i32, image: &mut [u16], counts: &mut [u32]) -> Tally {
+fn replay_file<R: Read>(source: &mut R, image: &mut [u16], counts: &mut [u32]) -> Tally {
     let mut done = Stands {
         words: 0,
         entries: 0,
         tally: empty(),
     };
-    let mut turns = RECORDS_END;
-    while turns > 0 && !done.tally.bad {
-        let next = read_head(fd);
-        match next {
-            Next::Record(head) => done = replay_one(fd, image, counts, head, done),
+    for _ in 0..RECORDS_END {
+        if done.tally.bad {
+            return done.tally;
+        }
+        match read_head(source) {
+            Next::Record(head) => done = replay_one(source, image, counts, head, done),
             Next::End => return done.tally,
             Next::Bad => return spoiled(done.tally),
         }
-        turns -= 1;
     }
     spoiled(done.tally)
 }
 
 // Replays the file of a path and prints its tally under a name, or why there is none.
-fn replay_path(path: &[u8], name: &[u8], numbers: &[u16]) {
-    let fd = os::open_read(path);
-    if fd < 0 {
-        os::fail(path);
-        return;
-    }
+fn replay_path(rt: &HostRuntime, path: &str, name: &str, numbers: &[u16]) -> io::Result<()> {
+    let file = match File::open(rt, path) {
+        Ok(file) => file,
+        Err(error) => return eprintln!(rt; "{path}: {error}"),
+    };
+    let mut source = BufReader::new(rt.alloc(), file)?;
     let mut image = [0u16; MOST_WORDS];
     let mut counts = [0u32; MOST_COUNTS];
-    let tally = replay_file(fd, &mut image, &mut counts);
-    libc::close(fd);
-    print_tally(name, numbers, tally);
+    let tally = replay_file(&mut source, &mut image, &mut counts);
+    print_tally(rt, name, numbers, tally)
 }
 
 // Replays the file of reports and the file of shares.
-fn main() {
-    replay_path(b"report.bin", b"report ", &REPORT_NUMBERS);
-    replay_path(b"share.bin", b"share ", &SHARE_NUMBERS);
+fn main(rt: HostRuntime) -> io::Result<()> {
+    replay_path(&rt, "report.bin", "report ", &REPORT_NUMBERS)?;
+    replay_path(&rt, "share.bin", "share ", &SHARE_NUMBERS)
 }

@@ -5,6 +5,7 @@ use crate::count_lists::{MOST_COUNTS, grown_answer, lay_out_counts};
 use kernel_c::RunNumbers;
 use kernel_c::reports::kernel_report;
 use paper::MOST_WORDS;
+use std::io::Read;
 use vectors::changes::changed_answer;
 use vectors::images::lay_out;
 use vectors::records::{Found, Head, read_words, wide};
@@ -48,9 +49,9 @@ enum Asked {
 }
 
 // Reads what a record of a report says before its list.
-fn read_case(fd: i32, head: Head) -> Asked {
+fn read_case<R: Read>(source: &mut R, head: Head) -> Asked {
     let mut words = [0u16; MORE_WORDS];
-    let found = read_words(fd, &mut words, MORE_WORDS);
+    let found = read_words(source, &mut words, MORE_WORDS);
     let Found::All = found else {
         return Asked::Bad;
     };
@@ -85,8 +86,8 @@ fn ends_so(
 }
 
 // The tally with a case whose list is read, with room to try it. The image and the counts take the changes that follow in the file.
-fn tried_tally(
-    fd: i32,
+fn tried_tally<R: Read>(
+    source: &mut R,
     list: &[u16],
     trial: &mut [u16],
     image: &mut [u16],
@@ -100,14 +101,14 @@ fn tried_tally(
 {
     let ended = case.ended;
     let same = ends_so(list, trial, image, tried, counts, ended);
-    let words = changed_answer(fd, trial, image, case.changes, same);
-    let grown = grown_answer(fd, tried, counts, case.grown);
+    let words = changed_answer(source, trial, image, case.changes, same);
+    let grown = grown_answer(source, tried, counts, case.grown);
     answered(tally, ended.number, worse(words, grown))
 }
 
 // The tally with a case whose list is read, unless there is no room to try it.
-fn list_tally(
-    fd: i32,
+fn list_tally<R: Read>(
+    source: &mut R,
     list: &[u16],
     image: &mut [u16],
     counts: &mut [u32],
@@ -122,7 +123,7 @@ fn list_tally(
     let mut trial = [0u16; MOST_WORDS];
     let mut tried = [0u32; MOST_COUNTS];
     tried_tally(
-        fd,
+        source,
         list,
         &mut trial[..held],
         image,
@@ -134,30 +135,36 @@ fn list_tally(
 }
 
 // The tally with a case, its list read from the file, unless the record is bad.
-fn case_tally(fd: i32, image: &mut [u16], counts: &mut [u32], case: Case, tally: Tally) -> Tally {
+fn case_tally<R: Read>(
+    source: &mut R,
+    image: &mut [u16],
+    counts: &mut [u32],
+    case: Case,
+    tally: Tally,
+) -> Tally {
     let words = case.words;
     if words > MOST_LIST || !listed(&REPORT_NUMBERS, case.ended.number) {
         return spoiled(tally);
     }
     let mut list = [0u16; MOST_LIST];
-    let found = read_words(fd, &mut list, words);
+    let found = read_words(source, &mut list, words);
     let Found::All = found else {
         return spoiled(tally);
     };
-    list_tally(fd, &list[..words], image, counts, case, tally)
+    list_tally(source, &list[..words], image, counts, case, tally)
 }
 
 // The tally with a record of a report on the image and the counts that stand.
-pub fn report_tally(
-    fd: i32,
+pub fn report_tally<R: Read>(
+    source: &mut R,
     image: &mut [u16],
     counts: &mut [u32],
     head: Head,
     tally: Tally,
 ) -> Tally {
-    let asked = read_case(fd, head);
+    let asked = read_case(source, head);
     match asked {
-        Asked::Replay(case) => case_tally(fd, image, counts, case, tally),
+        Asked::Replay(case) => case_tally(source, image, counts, case, tally),
         Asked::Bad => spoiled(tally),
     }
 }

@@ -3,6 +3,7 @@ ghost use Rattle.std.specs.Prelude.{◌≡◌};
 
 use kernel_c::reports::kernel_share;
 use paper::WORD_END;
+use std::io::Read;
 use vectors::images::are_same;
 use vectors::records::{Found, Head, read_words};
 use vectors::tally::{Answer, Tally, answered, compared, listed, spoiled};
@@ -58,9 +59,9 @@ fn task_answer(counts: &[u32], task: u16, number: u16, stored: &[u16; BITS_WORDS
 }
 
 // The tally with a record of a share by the counts that stand.
-pub fn share_tally(fd: i32, counts: &[u32], head: Head, tally: Tally) -> Tally {
+pub fn share_tally<R: Read>(source: &mut R, counts: &[u32], head: Head, tally: Tally) -> Tally {
     let mut stored = [0u16; BITS_WORDS];
-    let found = read_words(fd, &mut stored, BITS_WORDS);
+    let found = read_words(source, &mut stored, BITS_WORDS);
     let Found::All = found else {
         return spoiled(tally);
     };

@@ -1,4 +1,6 @@
 // Replays the stored orders, events and runs and prints how many cases each number has, how many differ, and how many of those that are wrong on purpose were told.
+#![tactic(auto)]
+
 ghost use Rattle.std.specs.Prelude.{◌≡◌, ◌≤◌, length};
 ghost use Rattle.order_table.specs.Entries.{OrderTable};
 
@@ -7,6 +9,8 @@ use order_cases::cases::orders_tally;
 use order_table::laid_out;
 use paper::{HIGH_BYTES, MOST_WORDS};
 use run_cases::cases::run_tally;
+use std::fs::File;
+use std::io::{self, BufReader, Read};
 use vectors::images::{KIND_IMAGE, Replayed, nothing_replayed, replay_image};
 use vectors::records::{Head, Next, RECORDS_END, read_head};
 use vectors::tally::{
@@ -23,8 +27,8 @@ const KIND_EVENT: u16 = 5;
 const KIND_RUN: u16 = 6;
 
 // The tally with a record on the image to go by, as it stands.
-fn record_tally(
-    fd: i32,
+fn record_tally<R: Read>(
+    source: &mut R,
     table: &[u16; HIGH_BYTES],
     trial: &mut [u16],
     image: &mut [u16],
@@ -35,20 +39,20 @@ fn record_tally(
     requires trial_len { length trial.old ≡ length image.old }
 {
     if head.kind == KIND_ORDERS {
-        return orders_tally(fd, table, trial, image, head, tally);
+        return orders_tally(source, table, trial, image, head, tally);
     }
     if head.kind == KIND_EVENT {
-        return event_tally(fd, trial, image, head, tally);
+        return event_tally(source, trial, image, head, tally);
     }
     if head.kind == KIND_RUN {
-        return run_tally(fd, trial, image, head, tally);
+        return run_tally(source, trial, image, head, tally);
     }
     spoiled(tally)
 }
 
 // The tally with a record on the image to go by: alone where it is wrong on purpose.
-fn marked_tally(
-    fd: i32,
+fn marked_tally<R: Read>(
+    source: &mut R,
     table: &[u16; HIGH_BYTES],
     trial: &mut [u16],
     image: &mut [u16],
@@ -59,15 +63,15 @@ fn marked_tally(
     requires trial_len { length trial.old ≡ length image.old }
 {
     if !head.wrong {
-        return record_tally(fd, table, trial, image, head, tally);
+        return record_tally(source, table, trial, image, head, tally);
     }
-    let alone = record_tally(fd, table, trial, image, head, empty());
+    let alone = record_tally(source, table, trial, image, head, empty());
     with_wrong(tally, alone)
 }
 
 // One more record replayed.
-fn replay_one(
-    fd: i32,
+fn replay_one<R: Read>(
+    source: &mut R,
     table: &[u16; HIGH_BYTES],
     trial: &mut [u16],
     image: &mut [u16],
@@ -82,10 +86,10 @@ fn replay_one(
     let held = done.held;
     let tally = done.tally;
     if head.kind == KIND_IMAGE {
-        return replay_image(fd, image, head, tally);
+        return replay_image(source, image, head, tally);
     }
     let more = marked_tally(
-        fd,
+        source,
         table,
         &mut trial[..held],
         &mut image[..held],
@@ -99,44 +103,54 @@ fn replay_one(
 }
 
 // The tally of a file's records up to its end or a bad one.
-fn replay_file(fd: i32, table: &[u16; HIGH_BYTES], trial: &mut [u16], image: &mut [u16]) -> Tally
+fn replay_file<R: Read>(
+    source: &mut R,
+    table: &[u16; HIGH_BYTES],
+    trial: &mut [u16],
+    image: &mut [u16],
+) -> Tally
     requires order_table { OrderTable table.now }
     requires trial_len { length trial.old ≡ length image.old }
 {
     let mut done = nothing_replayed();
-    let mut turns = RECORDS_END;
-    while turns > 0 && !done.tally.bad {
-        let next = read_head(fd);
-        match next {
-            Next::Record(head) => done = replay_one(fd, table, trial, image, head, done),
+    for _ in 0..RECORDS_END {
+        if done.tally.bad {
+            return done.tally;
+        }
+        match read_head(source) {
+            Next::Record(head) => done = replay_one(source, table, trial, image, head, done),
             Next::End => return done.tally,
             Next::Bad => return spoiled(done.tally),
         }
-        turns -= 1;
     }
     spoiled(done.tally)
 }
 
 // Replays the file of a path and prints its tally under a name, or why there is none.
-fn replay_path(path: &[u8], name: &[u8], numbers: &[u16], table: &[u16; HIGH_BYTES])
+fn replay_path(
+    rt: &HostRuntime,
+    path: &str,
+    name: &str,
+    numbers: &[u16],
+    table: &[u16; HIGH_BYTES],
+) -> io::Result<()>
     requires { OrderTable table.now }
 {
-    let fd = os::open_read(path);
-    if fd < 0 {
-        os::fail(path);
-        return;
-    }
+    let file = match File::open(rt, path) {
+        Ok(file) => file,
+        Err(error) => return eprintln!(rt; "{path}: {error}"),
+    };
+    let mut source = BufReader::new(rt.alloc(), file)?;
     let mut trial = [0u16; MOST_WORDS];
     let mut image = [0u16; MOST_WORDS];
-    let tally = replay_file(fd, table, &mut trial, &mut image);
-    libc::close(fd);
-    print_tally(name, numbers, tally);
+    let tally = replay_file(&mut source, table, &mut trial, &mut image);
+    print_tally(rt, name, numbers, tally)
 }
 
 // Replays the file of orders, the file of events and the file of runs.
-fn main() {
+fn main(rt: HostRuntime) -> io::Result<()> {
     let table = laid_out();
-    replay_path(b"order.bin", b"order ", &ORDER_NUMBERS, &table);
-    replay_path(b"event.bin", b"event ", &EVENT_NUMBERS, &table);
-    replay_path(b"run.bin", b"run ", &RUN_NUMBERS, &table);
+    replay_path(&rt, "order.bin", "order ", &ORDER_NUMBERS, &table)?;
+    replay_path(&rt, "event.bin", "event ", &EVENT_NUMBERS, &table)?;
+    replay_path(&rt, "run.bin", "run ", &RUN_NUMBERS, &table)
 }

@@ -4,6 +4,7 @@ ghost use Rattle.std.specs.Prelude.{◌≡◌, true, ◌≤◌, length};
 use crate::buffers::{is_again, is_salted, repeat_part, salt_bytes};
 use crate::translating::is_part;
 use kernel_c::prints::{Printed, kernel_print, kernel_print_size};
+use std::io::Read;
 use vectors::records::{Found, Head, read_text, read_words, wide};
 use vectors::tally::{Answer, compared};
 
@@ -91,9 +92,9 @@ fn case_in(head: Head, words: &[u16; MORE_WORDS]) -> Case {
 }
 
 // Reads what a record of a print says between its head and its list.
-fn read_case(fd: i32, head: Head) -> Asked {
+fn read_case<R: Read>(source: &mut R, head: Head) -> Asked {
     let mut words = [0u16; MORE_WORDS];
-    let found = read_words(fd, &mut words, MORE_WORDS);
+    let found = read_words(source, &mut words, MORE_WORDS);
     let Found::All = found else {
         return Asked::Bad;
     };
@@ -137,22 +138,28 @@ fn list_answer(list: &[u16], buffer: &mut [u8], part: &[u8], case: Case) -> Answ
 }
 
 // Reads a list: what is stored of it, again and again.
-fn read_list(fd: i32, list: &mut [u16], stored: usize) -> Found {
+fn read_list<R: Read>(source: &mut R, list: &mut [u16], stored: usize) -> Found {
     if stored > list.len() {
         return Found::Part;
     }
-    let found = read_words(fd, list, stored);
+    let found = read_words(source, list, stored);
     repeat_part(list, stored);
     found
 }
 
 // The answer to a list and a buffer, the stored part of the text read from the file.
-fn text_answer(fd: i32, list: &[u16], buffer: &mut [u8], part: &mut [u8], case: Case) -> Answer {
+fn text_answer<R: Read>(
+    source: &mut R,
+    list: &[u16],
+    buffer: &mut [u8],
+    part: &mut [u8],
+    case: Case,
+) -> Answer {
     let count = case.part;
     if count >= part.len() {
         return Answer::Bad;
     }
-    let found = read_text(fd, part, count);
+    let found = read_text(source, part, count);
     let Found::All = found else {
         return Answer::Bad;
     };
@@ -160,23 +167,23 @@ fn text_answer(fd: i32, list: &[u16], buffer: &mut [u8], part: &mut [u8], case: 
 }
 
 // The answer to a buffer, the list and the stored part of the text read from the file.
-fn buffer_answer(
-    fd: i32,
+fn buffer_answer<R: Read>(
+    source: &mut R,
     list: &mut [u16],
     buffer: &mut [u8],
     part: &mut [u8],
     case: Case,
 ) -> Answer {
-    let found = read_list(fd, list, case.stored);
+    let found = read_list(source, list, case.stored);
     match found {
-        Found::All => text_answer(fd, list, buffer, part, case),
+        Found::All => text_answer(source, list, buffer, part, case),
         _ => Answer::Bad,
     }
 }
 
 // The answer to a case.
-fn case_answer(
-    fd: i32,
+fn case_answer<R: Read>(
+    source: &mut R,
     words: &mut [u16],
     buffer: &mut [u8],
     part: &mut [u8],
@@ -187,20 +194,20 @@ fn case_answer(
     if list > words.len() || room > buffer.len() {
         return Answer::Bad;
     }
-    buffer_answer(fd, &mut words[..list], &mut buffer[..room], part, case)
+    buffer_answer(source, &mut words[..list], &mut buffer[..room], part, case)
 }
 
 // The answer to the record of a print.
-pub fn print_answer(
-    fd: i32,
+pub fn print_answer<R: Read>(
+    source: &mut R,
     words: &mut [u16],
     buffer: &mut [u8],
     part: &mut [u8],
     head: Head,
 ) -> Answer {
-    let asked = read_case(fd, head);
+    let asked = read_case(source, head);
     match asked {
-        Asked::Replay(case) => case_answer(fd, words, buffer, part, case),
+        Asked::Replay(case) => case_answer(source, words, buffer, part, case),
         Asked::Bad => Answer::Bad,
     }
 }

@@ -2,6 +2,7 @@
 ghost use Rattle.std.specs.Prelude.{◌≡◌, true, ◌<◌, ◌≤◌, length, take, drop};
 
 use kernel_c::scripts::{NAMES, Translated, kernel_refused_line, kernel_translate};
+use std::io::Read;
 use texts::refused_line;
 use vectors::records::{Found, Head, read_text, read_words, wide};
 use vectors::tally::{Answer, compared, worse};
@@ -83,9 +84,9 @@ fn named_in(words: &[u16; MORE_WORDS]) -> Named {
 }
 
 // Reads what a record of a translation says between its head and its names.
-fn read_case(fd: i32, head: Head) -> Asked {
+fn read_case<R: Read>(source: &mut R, head: Head) -> Asked {
     let mut words = [0u16; MORE_WORDS];
-    let found = read_words(fd, &mut words, MORE_WORDS);
+    let found = read_words(source, &mut words, MORE_WORDS);
     let Found::All = found else {
         return Asked::Bad;
     };
@@ -155,16 +156,16 @@ fn are_same(a: Translated, b: Translated) -> bool
 }
 
 // Compares a target with the next words of the file, and its other words with those that it had.
-fn target_answer(fd: i32, target: &[u16], words: usize, salt: u16) -> Answer
+fn target_answer<R: Read>(source: &mut R, target: &[u16], words: usize, salt: u16) -> Answer
     requires { words ≤ length target.now }
 {
-    let stored = stored_answer(fd, &target[..words]);
+    let stored = stored_answer(source, &target[..words]);
     worse(stored, compared(is_salted(target, words, salt)))
 }
 
 // The answer to two texts and a target of the lengths that the record gives.
-fn text_answer<'a>(
-    fd: i32,
+fn text_answer<'a, R: Read>(
+    source: &mut R,
     names: &'a [u8],
     script: &'a [u8],
     target: &mut [u16],
@@ -177,26 +178,26 @@ fn text_answer<'a>(
     }
     salt_words(target, case.salt);
     let told = kernel_translate(names, script, target);
-    let left = target_answer(fd, target, words, case.salt);
+    let left = target_answer(source, target, words, case.salt);
     let lined = is_line(names, script, target.len(), named);
     worse(left, compared(are_same(told, case.told) && lined))
 }
 
 // Reads the texts of a case.
-fn read_texts(fd: i32, names: &mut [u8], script: &mut [u8], case: Case) -> Found
+fn read_texts<R: Read>(source: &mut R, names: &mut [u8], script: &mut [u8], case: Case) -> Found
     requires names_in_bounds { case.names < length names.old }
     requires script_in_bounds { case.script < length script.old }
 {
-    let found = read_text(fd, names, case.names);
+    let found = read_text(source, names, case.names);
     match found {
-        Found::All => read_text(fd, script, case.script),
+        Found::All => read_text(source, script, case.script),
         _ => Found::Part,
     }
 }
 
 // The answer to a case, its texts read from the file.
-fn case_answer(
-    fd: i32,
+fn case_answer<R: Read>(
+    source: &mut R,
     names: &mut [u8],
     script: &mut [u8],
     target: &mut [u16],
@@ -211,12 +212,12 @@ fn case_answer(
     if second >= script.len() {
         return Answer::Bad;
     }
-    let found = read_texts(fd, names, script, case);
+    let found = read_texts(source, names, script, case);
     let Found::All = found else {
         return Answer::Bad;
     };
     text_answer(
-        fd,
+        source,
         &names[..first],
         &script[..second],
         &mut target[..room],
@@ -225,16 +226,16 @@ fn case_answer(
 }
 
 // The answer to the record of a translation.
-pub fn translate_answer(
-    fd: i32,
+pub fn translate_answer<R: Read>(
+    source: &mut R,
     names: &mut [u8],
     script: &mut [u8],
     target: &mut [u16],
     head: Head,
 ) -> Answer {
-    let asked = read_case(fd, head);
+    let asked = read_case(source, head);
     match asked {
-        Asked::Replay(case) => case_answer(fd, names, script, target, case),
+        Asked::Replay(case) => case_answer(source, names, script, target, case),
         Asked::Bad => Answer::Bad,
     }
 }

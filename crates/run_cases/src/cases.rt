@@ -2,6 +2,7 @@
 ghost use Rattle.std.specs.Prelude.{◌≡◌, true, ◌≤◌, length};
 
 use kernel_c::{RunNumbers, kernel_run};
+use std::io::Read;
 use vectors::changes::changed_answer;
 use vectors::images::lay_out;
 use vectors::records::{Found, Head, read_words, wide};
@@ -41,9 +42,9 @@ enum Asked {
 }
 
 // Reads what a record of a run says before its list.
-fn read_case(fd: i32, head: Head) -> Asked {
+fn read_case<R: Read>(source: &mut R, head: Head) -> Asked {
     let mut words = [0u16; MORE_WORDS];
-    let found = read_words(fd, &mut words, MORE_WORDS);
+    let found = read_words(source, &mut words, MORE_WORDS);
     let Found::All = found else {
         return Asked::Bad;
     };
@@ -69,8 +70,8 @@ fn are_same(a: RunNumbers, b: RunNumbers) -> bool
 }
 
 // The tally with a case whose list is read. The image takes the changes that follow in the file.
-fn list_tally(
-    fd: i32,
+fn list_tally<R: Read>(
+    source: &mut R,
     list: &[u16],
     trial: &mut [u16],
     image: &mut [u16],
@@ -81,12 +82,18 @@ fn list_tally(
 {
     lay_out(trial, image);
     let same = are_same(kernel_run(trial, list), case.ended);
-    let answer = changed_answer(fd, trial, image, case.changes, same);
+    let answer = changed_answer(source, trial, image, case.changes, same);
     answered(tally, case.ended.number, answer)
 }
 
 // The tally with a case, its list read from the file, unless the record is bad.
-fn case_tally(fd: i32, trial: &mut [u16], image: &mut [u16], case: Case, tally: Tally) -> Tally
+fn case_tally<R: Read>(
+    source: &mut R,
+    trial: &mut [u16],
+    image: &mut [u16],
+    case: Case,
+    tally: Tally,
+) -> Tally
     requires { length trial.old ≡ length image.old }
 {
     let words = case.words;
@@ -94,20 +101,26 @@ fn case_tally(fd: i32, trial: &mut [u16], image: &mut [u16], case: Case, tally: 
         return spoiled(tally);
     }
     let mut list = [0u16; MOST_LIST];
-    let found = read_words(fd, &mut list, words);
+    let found = read_words(source, &mut list, words);
     let Found::All = found else {
         return spoiled(tally);
     };
-    list_tally(fd, &list[..words], trial, image, case, tally)
+    list_tally(source, &list[..words], trial, image, case, tally)
 }
 
 // The tally with a record of a run on the image that stands.
-pub fn run_tally(fd: i32, trial: &mut [u16], image: &mut [u16], head: Head, tally: Tally) -> Tally
+pub fn run_tally<R: Read>(
+    source: &mut R,
+    trial: &mut [u16],
+    image: &mut [u16],
+    head: Head,
+    tally: Tally,
+) -> Tally
     requires { length trial.old ≡ length image.old }
 {
-    let asked = read_case(fd, head);
+    let asked = read_case(source, head);
     match asked {
-        Asked::Replay(case) => case_tally(fd, trial, image, case, tally),
+        Asked::Replay(case) => case_tally(source, trial, image, case, tally),
         Asked::Bad => spoiled(tally),
     }
 }

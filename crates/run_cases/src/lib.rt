@@ -1,2 +1,4 @@
 // The model's runs, run and compared.
+#![tactic(auto)]
+
 pub mod cases;

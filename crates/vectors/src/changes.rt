@@ -7,6 +7,7 @@ use crate::images::are_same;
 use crate::records::{Found, read_words};
 use crate::tally::{Answer, compared};
 use paper::WORD_END;
+use std::io::Read;
 
 // The most changes that a record of orders may list.
 pub const MOST_CHANGES: usize = 16;
@@ -32,10 +33,14 @@ pub fn as_count(word: u16) -> usize
 }
 
 // Reads count changes.
-pub fn read_changes(fd: i32, changes: &mut [u16; CHANGE_WORDS], count: usize) -> Found
+pub fn read_changes<R: Read>(
+    source: &mut R,
+    changes: &mut [u16; CHANGE_WORDS],
+    count: usize,
+) -> Found
     requires { count ≤ MOST_CHANGES }
 {
-    read_words(fd, changes, CHANGE_SIZE * count)
+    read_words(source, changes, CHANGE_SIZE * count)
 }
 
 // Whether the places of count changes ascend and lie in an image of so many words.
@@ -79,11 +84,11 @@ pub fn take_back(
 }
 
 // Makes the next count changes of a file in an image, and answers whether their places ascend and lie in it.
-fn make_changes(fd: i32, image: &mut [u16], count: usize) -> bool {
+fn make_changes<R: Read>(source: &mut R, image: &mut [u16], count: usize) -> bool {
     let mut least: usize = 0;
     for _ in 0..count {
         let mut change = [0u16; CHANGE_SIZE];
-        let found = read_words(fd, &mut change, CHANGE_SIZE);
+        let found = read_words(source, &mut change, CHANGE_SIZE);
         let Found::All = found else {
             return false;
         };
@@ -98,11 +103,17 @@ fn make_changes(fd: i32, image: &mut [u16], count: usize) -> bool {
 }
 
 // Makes the next count changes of a file in an image, and answers whether the words are then its own and what was said is the same.
-pub fn changed_answer(fd: i32, words: &[u16], image: &mut [u16], count: usize, same: bool) -> Answer
+pub fn changed_answer<R: Read>(
+    source: &mut R,
+    words: &[u16],
+    image: &mut [u16],
+    count: usize,
+    same: bool,
+) -> Answer
     requires { length words.now ≡ length image.old }
     ensures { result ≡ Same → (same ≡ true) × (words.now ≡ image.new) }
 {
-    if !make_changes(fd, image, count) {
+    if !make_changes(source, image, count) {
         return Answer::Bad;
     }
     if !same {

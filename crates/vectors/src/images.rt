@@ -3,6 +3,7 @@ ghost use Rattle.std.specs.Prelude.{◌≡◌, true, ◌≤◌, length};
 
 use crate::records::{Found, Head, read_words};
 use crate::tally::{Tally, empty, spoiled};
+use std::io::Read;
 
 // The kind of a record that gives the image to go by.
 pub const KIND_IMAGE: u16 = 3;
@@ -25,7 +26,12 @@ pub fn nothing_replayed() -> Replayed
 }
 
 // Reads the image of a record as the one to go by.
-pub fn replay_image(fd: i32, image: &mut [u16], head: Head, tally: Tally) -> Replayed
+pub fn replay_image<R: Read>(
+    source: &mut R,
+    image: &mut [u16],
+    head: Head,
+    tally: Tally,
+) -> Replayed
     ensures { result.held ≤ length image.old }
 {
     let count = head.count;
@@ -35,7 +41,7 @@ pub fn replay_image(fd: i32, image: &mut [u16], head: Head, tally: Tally) -> Rep
             tally: spoiled(tally),
         };
     }
-    let found = read_words(fd, image, count);
+    let found = read_words(source, image, count);
     let Found::All = found else {
         return Replayed {
             held: 0,

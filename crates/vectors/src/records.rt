@@ -3,6 +3,7 @@ ghost use Rattle.std.specs.Prelude.{◌≡◌, ◌+◌, ◌*◌, ◌<◌, ◌≤
 
 use files::put_words;
 use paper::{WORD_BYTES, WORD_END};
+use std::io::Read;
 
 // The most words that are read at a time.
 pub const CHUNK_WORDS: usize = 4096;
@@ -68,11 +69,25 @@ pub fn least(a: usize, b: usize) -> usize
     if a < b { a } else { b }
 }
 
+// Reads until the bytes are all there, the source ends or a read fails, and answers how many were found.
+fn read_full<R: Read>(source: &mut R, bytes: &mut [u8]) -> usize
+    ensures { result ≤ length bytes.new }
+{
+    let mut done: usize = 0;
+    while done < bytes.len() {
+        match source.read(&mut bytes[done..]) {
+            Ok(0) | Err(_) => return done,
+            Ok(more) => done += more,
+        }
+    }
+    done
+}
+
 // Reads as many bytes as there are words for, and answers how many were found; the words are theirs where all were.
-fn fill(fd: i32, bytes: &mut [u8], words: &mut [u16]) -> usize
+fn fill<R: Read>(source: &mut R, bytes: &mut [u8], words: &mut [u16]) -> usize
     requires { length bytes.old < 2 * length words.old + 2 }
 {
-    let got = io::read_full(fd, bytes);
+    let got = read_full(source, bytes);
     if got == bytes.len() {
         put_words(bytes, words);
     }
@@ -80,22 +95,22 @@ fn fill(fd: i32, bytes: &mut [u8], words: &mut [u16]) -> usize
 }
 
 // Reads count words into words from place at on, and answers how many bytes were found.
-fn read_part(fd: i32, words: &mut [u16], at: usize, count: usize) -> usize
+fn read_part<R: Read>(source: &mut R, words: &mut [u16], at: usize, count: usize) -> usize
     requires { (count ≤ CHUNK_WORDS) × (at + count ≤ length words.old) }
 {
     let mut bytes = [0u8; CHUNK_BYTES];
     let size = WORD_BYTES * count;
-    fill(fd, &mut bytes[..size], &mut words[at..at + count])
+    fill(source, &mut bytes[..size], &mut words[at..at + count])
 }
 
 // Reads count words.
-pub fn read_words(fd: i32, words: &mut [u16], count: usize) -> Found
+pub fn read_words<R: Read>(source: &mut R, words: &mut [u16], count: usize) -> Found
     requires { count ≤ length words.old }
 {
     let mut at: usize = 0;
     while at < count {
         let part = least(count - at, CHUNK_WORDS);
-        let got = read_part(fd, words, at, part);
+        let got = read_part(source, words, at, part);
         if got < WORD_BYTES * part {
             return if at == 0 && got == 0 {
                 Found::Nothing
@@ -109,11 +124,11 @@ pub fn read_words(fd: i32, words: &mut [u16], count: usize) -> Found
 }
 
 // Reads a text of count bytes, two to a word: an odd one more follows the last of an odd count.
-pub fn read_text(fd: i32, bytes: &mut [u8], count: usize) -> Found
+pub fn read_text<R: Read>(source: &mut R, bytes: &mut [u8], count: usize) -> Found
     requires { count < length bytes.old }
 {
     let size = count + count % WORD_BYTES;
-    let got = io::read_full(fd, &mut bytes[..size]);
+    let got = read_full(source, &mut bytes[..size]);
     if got == size { Found::All } else { Found::Part }
 }
 
@@ -130,9 +145,9 @@ fn head_of(words: &[u16; HEAD_WORDS]) -> Head {
 }
 
 // Reads the head of the next record.
-pub fn read_head(fd: i32) -> Next {
+pub fn read_head<R: Read>(source: &mut R) -> Next {
     let mut words = [0u16; HEAD_WORDS];
-    let found = read_words(fd, &mut words, HEAD_WORDS);
+    let found = read_words(source, &mut words, HEAD_WORDS);
     match found {
         Found::All => Next::Record(head_of(&words)),
         Found::Part => Next::Bad,

@@ -2,7 +2,7 @@
 ghost use Rattle.std.specs.Prelude.{◌≡◌, true};
 ghost use Rattle.vectors.specs.declared.tally.Answer.TheVariants.{Same};
 
-use libc::STDOUT_FILENO;
+use std::io;
 
 // The number of what is not there.
 pub const NOT_THERE: u16 = 65535;
@@ -184,32 +184,30 @@ fn cases_of(tally: Tally, number: u16) -> u64 {
 }
 
 // Prints how many cases a number has.
-fn print_line(name: &[u8], number: u16, cases: u64) {
-    io::write_all(STDOUT_FILENO, name);
-    io::print_decimal(STDOUT_FILENO, number as u64);
-    io::write_all(STDOUT_FILENO, b": ");
-    io::print_decimal(STDOUT_FILENO, cases);
-    io::write_all(STDOUT_FILENO, b" cases\n");
+fn print_line(rt: &impl Print, name: &str, number: u16, cases: u64) -> io::Result<()> {
+    println!(rt; "{name}{number}: {cases} cases")
 }
 
 // Prints a line for each number listed.
-fn print_numbers(name: &[u8], numbers: &[u16], tally: Tally) {
-    for i in 0..numbers.len() {
-        let number = numbers[i];
-        print_line(name, number, cases_of(tally, number));
+fn print_numbers(rt: &impl Print, name: &str, numbers: &[u16], tally: Tally) -> io::Result<()> {
+    for number in numbers {
+        print_line(rt, name, *number, cases_of(tally, *number))?;
     }
+    Ok(())
 }
 
 // Prints a tally, with a line for each number listed.
-pub fn print_tally(name: &[u8], numbers: &[u16], tally: Tally) {
+pub fn print_tally(rt: &impl Print, name: &str, numbers: &[u16], tally: Tally) -> io::Result<()> {
     if tally.bad {
-        io::write_all(STDOUT_FILENO, b"bad record\n");
+        println!(rt; "bad record")?;
     }
-    print_numbers(name, numbers, tally);
-    io::print_decimal(STDOUT_FILENO, tally.differ);
-    io::write_all(STDOUT_FILENO, b" differ\n");
-    io::print_decimal(STDOUT_FILENO, tally.wrong);
-    io::write_all(STDOUT_FILENO, b" wrong ones, ");
-    io::print_decimal(STDOUT_FILENO, tally.told);
-    io::write_all(STDOUT_FILENO, b" told\n");
+    print_numbers(rt, name, numbers, tally)?;
+    let Tally {
+        differ,
+        wrong,
+        told,
+        ..
+    } = tally;
+    println!(rt; "{differ} differ")?;
+    println!(rt; "{wrong} wrong ones, {told} told")
 }

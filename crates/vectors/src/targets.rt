@@ -6,6 +6,7 @@ use crate::images::are_same;
 use crate::records::{CHUNK_WORDS, Found, least, read_words};
 use crate::tally::{Answer, compared, worse};
 use paper::WORD_END;
+use std::io::Read;
 
 // How much each word of a salted target adds to the one before.
 const SALT_STEP: usize = 31;
@@ -39,12 +40,12 @@ pub fn is_salted(target: &[u16], from: usize, salt: u16) -> bool
 }
 
 // Compares some words with the next ones of the file.
-fn stored_part(fd: i32, words: &[u16]) -> Answer
+fn stored_part<R: Read>(source: &mut R, words: &[u16]) -> Answer
     requires { length words.now ≤ CHUNK_WORDS }
 {
     let count = words.len();
     let mut stored = [0u16; CHUNK_WORDS];
-    let found = read_words(fd, &mut stored, count);
+    let found = read_words(source, &mut stored, count);
     let Found::All = found else {
         return Answer::Bad;
     };
@@ -52,12 +53,12 @@ fn stored_part(fd: i32, words: &[u16]) -> Answer
 }
 
 // Compares a target with the next words of the file.
-pub fn stored_answer(fd: i32, target: &[u16]) -> Answer {
+pub fn stored_answer<R: Read>(source: &mut R, target: &[u16]) -> Answer {
     let mut answer = Answer::Same;
     let mut at: usize = 0;
     while at < target.len() {
         let end = at + least(target.len() - at, CHUNK_WORDS);
-        let part = stored_part(fd, &target[at..end]);
+        let part = stored_part(source, &target[at..end]);
         answer = worse(answer, part);
         at = end;
     }
