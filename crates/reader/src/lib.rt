@@ -1,4 +1,6 @@
 // The reader of a text: it holds the text and its place in it.
+#![tactic(auto)]
+
 ghost use Rattle.std.specs.Prelude.{◌≡◌, length, drop};
 ghost use Rattle.grammar.specs.Tokens.{first_line};
 
