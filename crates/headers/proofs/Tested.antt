@@ -7,7 +7,7 @@ use native.Mathlib.Nat.{mul-le-mul_left, mul-le-mul_right, le_trans}
 use native.Mathlib.Numerals.{add-one}
 use native.Mathlib.Omega.{arith}
 use mathlib.Core.Logic.{◌≢◌}
-use borrow.Author.Tests.{eq-eqb, ne_eqb, le-leb, lt-leb, not-true}
+use borrow.Author.Tests.{eq-eqb, ne_eqb, le-leb, lt-leb}
 use lib.Dec.{eqb, leb}
 use lib.ListN.{get_or, length, get_or-eq_default}
 use Rattle.paper.specs.Image.{lead, most_tasks, most_slice, most_capacity, most_words, offset_words, offsets, header_word, shape_of, task, total, start, segment_start, at, base, len}
@@ -80,9 +80,9 @@ module _ (s : Shape) (im : List ℕ) (h : Sized s im) where
   pub next_start : (end k l w : ℕ) → end ≡ segment_start s im k → l ≡ at s im (len (task k)) → w ≡ l → end + w ≡ segment_start s im (k + 1)
   next_start end k l w ee el ew = rw (ee, ew, el, add-one)
 
-  pub segment_fails : (k : ℕ) (r : Bool) → k < s.n → r ≡ segment_right s im (task k) → not r ≡ true
+  pub segment_fails : (k : ℕ) (r : Bool) → k < s.n → r ≡ segment_right s im (task k) → r ≡ false
       → false ≡ (every_task s (segment_right s im) && eqb (segment_start s im s.n) (total s))
-  segment_fails k r hk er nr = rw (every_fails s.n k _ hk (sym er ∙ not-true r nr))
+  segment_fails k r hk er nr = rw (every_fails s.n k _ hk (sym er ∙ nr))
 
   pub segments_end : (k end : ℕ) → every k (λ j. segment_right s im (task j)) ≡ true → s.n ≤ k → k ≤ s.n → end ≡ segment_start s im k
       → eqb end (length im) ≡ (every_task s (segment_right s im) && eqb (segment_start s im s.n) (total s))

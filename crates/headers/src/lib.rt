@@ -1,8 +1,10 @@
 // The header of an image: the shape that it gives, and the tests of numbers 3, 4 and 5.
+#![tactic(auto)]
+
 ghost use Rattle.std.specs.Prelude.{◌≡◌, ◌&&◌, true, false, map, ◌+◌, ◌-◌, ◌*◌, ◌<◌, ◌≤◌, eqb, length, get_or};
 ghost use Rattle.paper.specs.Image.{offset_words, offsets as packed_offsets, header_word as word_of_header, shape_of as shape_given, cell, at as word_at, segment_start, total};
 ghost use Rattle.paper.specs.Tests.{every, every_task};
-ghost use Rattle.paper.specs.Numbers.{within as is_Within, out_of_range as is_out_of_range, not_packed as is_not_packed, segment_right as is_segment_right, wrong_segments as has_wrong_segments};
+ghost use Rattle.paper.specs.Numbers.{within as is_within, out_of_range as is_out_of_range, not_packed as is_not_packed, segment_right as is_segment_right, wrong_segments as has_wrong_segments};
 ghost use Rattle.paper.specs.declared.Part.TheVariants.{SegmentTable};
 ghost use Rattle.laws.specs.Sound.{Sized};
 ghost use Rattle.laws.specs.Layout.{Ranged};
@@ -80,7 +82,7 @@ pub fn shape_of(im: &[u16]) -> Shape
 
 // Whether x is lo..hi.
 fn within(lo: usize, hi: usize, x: usize) -> bool
-    ensures { result ≡ is_Within lo hi x }
+    ensures { result ≡ is_within lo hi x }
 {
     both(lo <= x, x <= hi)
 }

@@ -1,0 +1,34 @@
+-- The segments of the tasks before k are right, and the next is to start at end.
+use mathlib.Core.Path.{sym, ◌∙◌}
+use native.Mathlib.Omega.{arith}
+use Rattle.laws.specs.Every.{every_none, every_more}
+use Rattle.laws.specs.Sound.{sized_fit, sized_few}
+use Rattle.headers.proofs.Tested.{first_small, next_start, segment_fails, segments_end}
+use Rattle.headers.proofs.segments_right.Goals as goal
+
+pub start_of-end-requires : goal.start_of-end-requires
+start_of-end-requires c = search sized_fit
+
+pub loop-s-init : goal.loop-s-init
+loop-s-init c =
+    let first = c.start_of-end.ensures in
+    record { passed = every_none _; upto = omega arith; next = first; small = first_small _ _ c.requires _ first }
+
+pub returns-then-not-segment_right : goal.returns-then-not-segment_right
+returns-then-not-segment_right c =
+    let inside = c.loop-s-test.true in
+    segment_fails _ _ c.requires _ _ (omega (arith, inside, c.wide.ensures)) c.segment_right.ensures c.if-not-segment_right.true
+
+pub overflow_add-end : goal.overflow_add-end
+overflow_add-end c = omega (arith, c.loop-s.invariant, sized_few _ _ c.requires)
+
+pub overflow_add-i : goal.overflow_add-i
+overflow_add-i c = omega (arith, c.loop-s-test.true, c.wide.ensures, sized_few _ _ c.requires)
+
+pub loop-s-preserved : goal.loop-s-preserved
+loop-s-preserved c =
+    let next = next_start _ _ c.requires _ _ _ _ c.loop-s.invariant.next c.entry_word.ensures c.wide-in-loop-s.ensures in
+    record { passed = every_more _ _ c.loop-s.invariant.passed (sym c.segment_right.ensures ∙ c.if-not-segment_right.false); upto = omega arith; next = next; small = omega arith }
+
+pub returns : goal.returns
+returns c = segments_end _ _ c.requires _ _ c.loop-s.invariant.passed (omega (arith, c.loop-s-test.false, c.wide.ensures)) c.loop-s.invariant.upto c.loop-s.invariant.next
