@@ -1,4 +1,6 @@
 // Up to eight bytes of a text in one number, the first byte lowest: decimal digits, and bytes that are written together.
+#![tactic(auto)]
+
 ghost use Rattle.std.specs.Prelude.{◌≡◌, ◌++◌, ◌+◌, ◌≤◌, length};
 ghost use Rattle.paper.specs.Runner.{decimal, newline};
 ghost use Rattle.writes.specs.Written.{written};
