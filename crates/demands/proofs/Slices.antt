@@ -6,7 +6,7 @@ use mathlib.Core.Logic.{◌≢◌, ◌⊎◌, inl, inr, ⊎_elim, dite}
 use Prim.Native.Nat.{ℕ, zero, suc, ◌+◌, ◌<◌, ◌≤◌}
 use native.Mathlib.Decide.{ℕ_discrete}
 use native.Mathlib.Omega.{arith}
-use Rattle.paper.specs.Image.{task, shape_of, at, clock}
+use Rattle.paper.specs.Image.{shape_of, at, clock}
 use Rattle.paper.specs.Queues.{first, taken, held, empty}
 use Rattle.paper.specs.Flags.{error}
 use Rattle.paper.specs.Waking.{Outcome, accepting}

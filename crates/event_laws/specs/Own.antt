@@ -3,7 +3,7 @@ use Rattle.std.specs.Prelude.{◌≡◌, refl, List, Bool, true, ◌||◌, ◌�
 use Rattle.std.proofs.Common.{ap, ◌∙◌, inl, inr, arith}
 use Rattle.std.proofs.Math.Logic.{dite}
 use Rattle.std.proofs.Math.Decide.{ℕ_discrete}
-use Rattle.paper.specs.Image.{ord, at, clock, reg, flags, status, peer}
+use Rattle.paper.specs.Image.{ord, at, clock, reg, status, peer}
 use Rattle.paper.specs.Flags.{is_ready}
 use Rattle.paper.specs.Rules.{Flagged, Empty, Stands}
 use Rattle.paper.specs.declared.Task.{Task}

@@ -1,1 +1,3 @@
+#![tactic(auto)]
+
 // Laws of events: they stand in specs/, and there is no code.

@@ -1,4 +1,5 @@
 // The types that the definitions of the text form name, and the numbers of the grammar that stand in more than one crate.
+#![tactic(auto)]
 
 // What a sum, or a part of one, comes to: a value, or that a name in it is not given, or that a value in it lies out of range.
 #[derive(Clone, Copy)]

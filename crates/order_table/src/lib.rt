@@ -1,4 +1,6 @@
 // The table of orders, with one entry for each of the 256 high bytes.
+#![tactic(auto)]
+
 ghost use Rattle.std.specs.Prelude.{◌≡◌, ◌<◌};
 ghost use Rattle.paper.specs.Orders.{order_of, shape_of_order};
 ghost use Rattle.order_table.specs.Entries.{OrderTable, encoded, decoded};

@@ -1,4 +1,5 @@
 // The types that the definitions and the promises name, and beside each the numbers of the paper that code uses.
+#![tactic(auto)]
 
 // A task's number, an address in a task's segment and a place in the image are counted apart; 0 is a good value of each.
 #[derive(Clone, Copy)]
