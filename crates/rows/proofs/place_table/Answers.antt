@@ -4,12 +4,8 @@ use Rattle.grammar.specs.Tokens.{bytes}
 use Rattle.grammar.specs.Kept.{kept_words}
 use Rattle.rows.specs.Rows.{row_at, place}
 use Rattle.rows.proofs.Entries.{by_row_right}
-use Rattle.rows.proofs.place_table.Statement.{statement}
-use Rattle.rows.proofs.place_table.Tie as tie
+use Rattle.rows.proofs.place_table.Goals as goal
 
-returns : tie.Need-returns
+pub returns : goal.returns
 unfolding row_at place bytes kept_words
 returns c = by_row_right _ _ refl
-
-pub place_table_spec : {M : Type 1} → statement M
-place_table_spec = tie.close (tie.spec returns)

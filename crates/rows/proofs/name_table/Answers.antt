@@ -4,12 +4,8 @@ use Rattle.grammar.specs.Tokens.{bytes}
 use Rattle.grammar.specs.Kept.{kept_words}
 use Rattle.rows.specs.Rows.{row_at, front, packed}
 use Rattle.rows.proofs.Entries.{by_row_right}
-use Rattle.rows.proofs.name_table.Statement.{statement}
-use Rattle.rows.proofs.name_table.Tie as tie
+use Rattle.rows.proofs.name_table.Goals as goal
 
-returns : tie.Need-returns
+pub returns : goal.returns
 unfolding row_at front packed bytes kept_words
 returns c = by_row_right _ _ refl
-
-pub name_table_spec : {M : Type 1} → statement M
-name_table_spec = tie.close (tie.spec returns)

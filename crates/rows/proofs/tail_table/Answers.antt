@@ -4,12 +4,8 @@ use Rattle.grammar.specs.Tokens.{bytes}
 use Rattle.grammar.specs.Kept.{kept_words}
 use Rattle.rows.specs.Rows.{row_at, tail, packed}
 use Rattle.rows.proofs.Entries.{by_row_right}
-use Rattle.rows.proofs.tail_table.Statement.{statement}
-use Rattle.rows.proofs.tail_table.Tie as tie
+use Rattle.rows.proofs.tail_table.Goals as goal
 
-returns : tie.Need-returns
+pub returns : goal.returns
 unfolding row_at tail packed bytes kept_words
 returns c = by_row_right _ _ refl
-
-pub tail_table_spec : {M : Type 1} → statement M
-tail_table_spec = tie.close (tie.spec returns)
