@@ -1,4 +1,6 @@
 // A queue that lies at a place of the image: head, tail, length, capacity, then its slots.
+#![tactic(auto)]
+
 ghost use Rattle.std.specs.Prelude.{◌≡◌, ◌+◌, ◌<◌, get_or, eqb};
 ghost use Rattle.paper.specs.Queues.{step as next_slot};
 ghost use Rattle.rings.specs.Ring.{Ring, append_at, first_at, take_at};
