@@ -1,4 +1,6 @@
 // Many words looked at together, four of them as one number.
+#![tactic(auto)]
+
 ghost use Rattle.std.specs.Prelude.{◌≡◌, true, ◌↔◌, ◌+◌, ◌≤◌, length};
 ghost use Rattle.paper.specs.Image.{most_capacity};
 ghost use Rattle.four_words.specs.FourWords.{lanes, four_at, Gathers, Clear, AllOrNone, Sieves, MarkedFrom};
