@@ -1,4 +1,6 @@
 // The rows of orders, by which words are spelt, as five tables.
+#![tactic(auto)]
+
 ghost use Rattle.rows.specs.Rows.{RowTable, FormTable, NameTable, TailTable, PlaceTable};
 
 pub use tables::{FIELD_B, ROWS, SECOND_WORD, SIXTEENTHS, TAIL};
