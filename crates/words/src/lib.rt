@@ -1,4 +1,6 @@
 // The words and the queues of an image of shape s, by their names.
+#![tactic(auto)]
+
 ghost use Rattle.std.specs.Prelude.{◌≡◌, false, ◌<◌};
 ghost use Rattle.paper.specs.Image.{cell, place, at as word_at, put as put_word};
 ghost use Rattle.paper.specs.declared.Part.TheVariants.{TaskTable, SegmentTable};
