@@ -1,4 +1,6 @@
 // What orders make of words: results, conditions and flags.
+#![tactic(auto)]
+
 ghost use Rattle.std.specs.Prelude.{◌≡◌, ◌+◌, ◌-◌, ◌*◌, ◌%◌, ◌<◌, min, max};
 ghost use Rattle.paper.specs.Flags.{flags_of, cc_of as cc_field, error_of as error_field};
 ghost use Rattle.paper.specs.Orders.{mod_word as word_mod, on_bits, compared as condition};
