@@ -1,4 +1,6 @@
 // Dispatch, waking and leaving the ready queue, on a sound image.
+#![tactic(auto)]
+
 ghost use Rattle.std.specs.Prelude.{◌≡◌, false, ◌<◌};
 ghost use Rattle.paper.specs.Queues.{empty as empty_of, full as full_of};
 ghost use Rattle.paper.specs.Waking.{dispatched, with_status as statused, readied, woken, left};
