@@ -1,4 +1,6 @@
 // Why a plan is refused, and why an event is malformed, where one number stands for several causes.
+#![tactic(auto)]
+
 ghost use Rattle.std.specs.Prelude.{◌≤◌};
 
 use headers::{header_word, word_or_zero};

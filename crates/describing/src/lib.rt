@@ -1,4 +1,6 @@
 // An image in words: its header, its clock and ready queue, its tasks and its ports.
+#![tactic(auto)]
+
 mod lines;
 mod messages;
 mod queues;

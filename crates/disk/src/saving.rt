@@ -1,12 +1,15 @@
 // Words that are written as a whole file.
 ghost use Rattle.std.specs.Prelude.{◌≡◌, ◌+◌, ◌*◌, ◌<◌, ◌≤◌, length, take};
-ghost use Rattle.io.specs.Counts.{IsPrefixLen};
 ghost use Rattle.disk.specs.Bytes.{chunk, chunk_bytes, bytes_of, beside_bytes};
 
-use crate::{Outcome, say, say_number};
-use libc::{ENOENT, SEEK_END};
+use crate::reading::text_of;
+use crate::{Outcome, fail, say, say_number};
 use paper::{BYTE_END, WORD_BYTES};
 use runner_lines::put_text;
+use std::fs::{File, OpenOptions, remove_file, rename};
+use std::io;
+use std::io::{Error, ErrorKind, Seek, SeekFrom, Write};
+use std::process::id;
 
 // The words that are written at a time.
 const CHUNK_WORDS: usize = 32768;
@@ -18,11 +21,23 @@ const MOST_PATH: usize = 4088;
 
 const BESIDE_BYTES: usize = 4095;
 
+// The last bytes of a path beside another, digits that are chosen, and how many paths they make.
+const CHOSEN: usize = 6;
+
+const CHOICES: u32 = 1000000;
+
+const TEN: u32 = 10;
+
+const FIRST_DIGIT: u8 = 48;
+
+// The system's number of the error of a path that is taken.
+const TAKEN: i32 = 17;
+
 // What a path leads to: a plain file, there or yet to be made; or what else words can be written to; or nothing.
-#[derive(Clone, Copy)]
+#[derive(Drop)]
 enum Target {
     Plain,
-    Other(i32),
+    Other(File),
     Nothing,
 }
 
@@ -54,129 +69,210 @@ fn chunk_end(at: usize, end: usize) -> usize
 }
 
 // Writes words to an open file.
-fn write_words(fd: i32, words: &[u16]) -> bool {
+fn write_words<W: Write>(file: &mut W, words: &[u16]) -> io::Result<()> {
     let mut bytes = [0u8; CHUNK_BYTES];
     let mut at: usize = 0;
     while at < words.len() {
         let end = chunk_end(at, words.len());
         put_bytes(&words[at..end], &mut bytes);
-        if !io::write_all(fd, &bytes[..WORD_BYTES * (end - at)]) {
-            return false;
-        }
+        file.write_all(&bytes[..WORD_BYTES * (end - at)])?;
         at = end;
     }
-    true
+    Ok(())
 }
 
-// Writes words to an open file and closes it, and whether all of them are written.
-fn write_closed(fd: i32, words: &[u16]) -> bool {
-    let written = write_words(fd, words);
-    let closed = libc::close(fd) == 0;
-    written && closed
+// Whether an open file is a plain one, which alone can be given the length that it has.
+fn is_plain(file: &mut File) -> bool {
+    match file.seek(SeekFrom::End(0)) {
+        Ok(end) => file.set_len(end).is_ok(),
+        Err(_) => false,
+    }
 }
 
-// What a path leads to; where it is nothing, that is said. A plain file alone can be given the length that it has.
-fn target_of(path: &[u8]) -> Target {
-    let fd = os::open_append(path);
-    if fd >= 0 {
-        if libc::ftruncate(fd, libc::lseek(fd, 0, SEEK_END)) != 0 {
-            return Target::Other(fd);
+// What a file is that is open.
+fn target_open(file: File) -> Target {
+    let mut open = file;
+    if is_plain(&mut open) {
+        return Target::Plain;
+    }
+    Target::Other(open)
+}
+
+// Opens a file that is there, to write at its end.
+fn open_append(rt: &HostRuntime, path: &[u8]) -> io::Result<File> {
+    match text_of(path) {
+        Ok(text) => OpenOptions::new().append(true).open(rt, text),
+        Err(error) => Err(error),
+    }
+}
+
+// What a path leads to; where it is nothing, that is said.
+fn target_of(rt: &HostRuntime, path: &[u8]) -> Target {
+    match open_append(rt, path) {
+        Ok(file) => target_open(file),
+        Err(error) => {
+            if error.kind() == ErrorKind::NotFound {
+                return Target::Plain;
+            }
+            fail(rt, path, error);
+            Target::Nothing
         }
-        libc::close(fd);
-        return Target::Plain;
     }
-    if os::errno() == ENOENT {
-        return Target::Plain;
-    }
-    os::fail(path);
-    Target::Nothing
 }
 
 // Puts a path beside another, the last bytes of which `create_beside` chooses, and answers how long it is.
 fn put_beside(path: &[u8], beside: &mut [u8]) -> usize
     requires { length path.now + beside_bytes ≤ length beside.old }
-    ensures { IsPrefixLen result beside.new }
+    ensures { (result ≤ length beside.new) × (result ≡ length (take result beside.new)) }
 {
     let at = put_text(beside, 0, path);
     put_text(beside, at, b".XXXXXX")
 }
 
-// Makes a file of a path that no other has, with the mode of new files, and answers its descriptor, or a number below 0.
-fn create_beside(beside: &mut [u8]) -> i32 {
-    let held = os::create_temp(beside);
-    if held < 0 {
-        return held;
+// Puts the last digits of a number in the place of the last bytes of a path.
+fn choose(beside: &mut [u8], number: u32) {
+    let end = beside.len();
+    let mut rest = number;
+    for k in 0..CHOSEN {
+        if k < end {
+            beside[end - k - 1] = FIRST_DIGIT + (rest % TEN) as u8;
+            rest /= TEN;
+        }
     }
-    libc::close(held);
-    os::unlink(beside);
-    os::create(beside)
+}
+
+// Makes a file of a path that no other has.
+fn create_new(rt: &HostRuntime, path: &[u8]) -> io::Result<File> {
+    match text_of(path) {
+        Ok(text) => OpenOptions::new()
+            .write(true)
+            .create_new(true)
+            .open(rt, text),
+        Err(error) => Err(error),
+    }
+}
+
+// Makes a file of a path that no other has, with the mode of new files; the path's last bytes are chosen.
+fn create_beside(rt: &HostRuntime, beside: &mut [u8]) -> io::Result<File> {
+    let first = id(rt.process());
+    for k in 0..CHOICES {
+        choose(beside, first.wrapping_add(k));
+        match create_new(rt, beside) {
+            Ok(file) => return Ok(file),
+            Err(error) => {
+                if error.kind() != ErrorKind::AlreadyExists {
+                    return Err(error);
+                }
+            }
+        }
+    }
+    Err(Error::from_raw_os_error(TAKEN))
+}
+
+// Writes words to a plain file and closes it. What of them could not be stored is told before that.
+fn write_plain(file: File, words: &[u16]) -> io::Result<()> {
+    let mut open = file;
+    write_words(&mut open, words)?;
+    open.sync_data()
+}
+
+// Gives the file of one path another path.
+fn move_beside(rt: &HostRuntime, beside: &[u8], path: &[u8]) -> io::Result<()> {
+    match (text_of(beside), text_of(path)) {
+        (Ok(from), Ok(to)) => rename(rt, from, to),
+        (Err(error), _) => Err(error),
+        (_, Err(error)) => Err(error),
+    }
+}
+
+// Leaves no file of a path.
+fn remove(rt: &HostRuntime, path: &[u8]) {
+    if let Ok(text) = text_of(path) {
+        let _ = remove_file(rt, text);
+    }
+}
+
+// Writes words to the open file of one path, which then gets another path.
+fn write_moved(
+    rt: &HostRuntime,
+    beside: &[u8],
+    file: File,
+    path: &[u8],
+    words: &[u16],
+) -> io::Result<()> {
+    write_plain(file, words)?;
+    move_beside(rt, beside, path)
 }
 
 // Gives words the file of one path, which then gets another path; where that fails, it is said, and no file is left of it.
-fn save_by(beside: &[u8], fd: i32, path: &[u8], words: &[u16]) -> Outcome {
-    if write_closed(fd, words) {
-        if os::rename(beside, path) == 0 {
-            return Outcome::Done;
+fn save_by(rt: &HostRuntime, beside: &[u8], file: File, path: &[u8], words: &[u16]) -> Outcome {
+    match write_moved(rt, beside, file, path, words) {
+        Ok(()) => Outcome::Done,
+        Err(error) => {
+            fail(rt, path, error);
+            remove(rt, beside);
+            Outcome::Unwritten
         }
     }
-    os::fail(path);
-    os::unlink(beside);
-    Outcome::Unwritten
 }
 
 // Writes words as a file by way of another, whose path is chosen.
-fn save_beside(beside: &mut [u8], path: &[u8], words: &[u16]) -> Outcome {
-    let fd = create_beside(beside);
-    if fd < 0 {
-        os::fail(path);
-        return Outcome::Unwritten;
+fn save_beside(rt: &HostRuntime, beside: &mut [u8], path: &[u8], words: &[u16]) -> Outcome {
+    match create_beside(rt, beside) {
+        Ok(file) => save_by(rt, beside, file, path, words),
+        Err(error) => {
+            fail(rt, path, error);
+            Outcome::Unwritten
+        }
     }
-    save_by(beside, fd, path, words)
 }
 
 // Writes words as a plain file by way of one beside it, so that a file that is there stays where that fails.
-fn save_plain(path: &[u8], words: &[u16]) -> Outcome {
+fn save_plain(rt: &HostRuntime, path: &[u8], words: &[u16]) -> Outcome {
     if MOST_PATH < path.len() {
-        say(path);
-        say(b": the path is too long\n");
+        say(rt, path);
+        say(rt, b": the path is too long\n");
         return Outcome::Unwritten;
     }
     let mut beside = [0u8; BESIDE_BYTES];
     let end = put_beside(path, &mut beside);
-    save_beside(&mut beside[..end], path, words)
+    save_beside(rt, &mut beside[..end], path, words)
 }
 
-// Writes words to what is open and no plain file.
-fn save_other(path: &[u8], fd: i32, words: &[u16]) -> Outcome {
-    if write_closed(fd, words) {
-        return Outcome::Done;
+// Writes words to what is open and no plain file, and closes it.
+fn save_other(rt: &HostRuntime, path: &[u8], file: File, words: &[u16]) -> Outcome {
+    let mut open = file;
+    match write_words(&mut open, words) {
+        Ok(()) => Outcome::Done,
+        Err(error) => {
+            fail(rt, path, error);
+            Outcome::Unwritten
+        }
     }
-    os::fail(path);
-    Outcome::Unwritten
 }
 
 // Says how many words a file has.
-fn say_saved(path: &[u8], words: usize) {
-    say(path);
-    say(b": ");
-    say_number(words);
-    say(b" words\n");
+fn say_saved(rt: &HostRuntime, path: &[u8], words: usize) {
+    say(rt, path);
+    say(rt, b": ");
+    say_number(rt, words);
+    say(rt, b" words\n");
 }
 
 // Writes words to what a path leads to.
-pub fn save_at(path: &[u8], words: &[u16]) -> Outcome {
-    match target_of(path) {
-        Target::Plain => save_plain(path, words),
-        Target::Other(fd) => save_other(path, fd, words),
+pub fn save_at(rt: &HostRuntime, path: &[u8], words: &[u16]) -> Outcome {
+    match target_of(rt, path) {
+        Target::Plain => save_plain(rt, path, words),
+        Target::Other(file) => save_other(rt, path, file, words),
         Target::Nothing => Outcome::Unwritten,
     }
 }
 
 // Writes words as a whole file, and says how many.
-pub fn save(path: &[u8], words: &[u16]) -> Outcome {
-    let saved = save_at(path, words);
+pub fn save(rt: &HostRuntime, path: &[u8], words: &[u16]) -> Outcome {
+    let saved = save_at(rt, path, words);
     if let Outcome::Done = saved {
-        say_saved(path, words.len());
+        say_saved(rt, path, words.len());
     }
     saved
 }

@@ -1,4 +1,6 @@
 // A plan's file: its words, and the verdict on it.
+#![tactic(auto)]
+
 ghost use Rattle.std.specs.Prelude.{◌≡◌, true, ◌+◌, ◌*◌, ◌<◌, ◌≤◌, length, take};
 ghost use Rattle.paper.specs.Runner.{word as word_by, words_of};
 ghost use Rattle.paper.specs.Numbers.{check_plan};

@@ -1,4 +1,6 @@
 // What is asked of a plan, as texts.
+#![tactic(auto)]
+
 ghost use Rattle.joining.specs.Texts.{Begins};
 
 use grammar::Worked;

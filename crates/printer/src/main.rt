@@ -1,11 +1,13 @@
 // Prints a program, or the tasks of an image, as text on standard output: the argument is the program's file; or the arguments are
 // `--image`, the image's file, and a task where one alone is asked for.
+#![tactic(auto)]
+
 ghost use Rattle.std.specs.Prelude.{◌≡◌, ◌+◌, ◌*◌, ◌<◌, ◌≤◌, length};
 ghost use Rattle.laws.specs.Sound.{Sound};
 
 use disk::{
-    Outcome, Output, Words, ended, load_words, misused, put_text, say, standard_error,
-    standard_output, tell,
+    ARG_BYTES, Outcome, Output, Words, arg_count, ended, load_words, misused, put_text, say,
+    short_arg, standard_error, standard_output, tell,
 };
 use flaws::number_of;
 use grammar::Printing;
@@ -36,12 +38,12 @@ const FILE_BYTES: usize = 524288;
 const FILE_WORDS: usize = 262144;
 
 // Prints a program's words.
-fn print_words(path: &[u8], words: &[u16]) -> Outcome {
+fn print_words(rt: &HostRuntime, path: &[u8], words: &[u16]) -> Outcome {
     let mut text = [0u8; TEXT_BYTES];
     match print(words, &mut text) {
-        Printing::Bytes(bytes) => ended(put_text(standard_output(), &text[..bytes])),
+        Printing::Bytes(bytes) => ended(rt, put_text(standard_output(rt), &text[..bytes])),
         Printing::Refused(r) => {
-            let named = put_text(standard_error(), path);
+            let named = put_text(standard_error(rt), path);
             let numbered = put_refused(named, number_of(r));
             put_text(numbered, b"more than 32715 words\n");
             Outcome::Refused
@@ -64,69 +66,72 @@ fn show_tasks(out: Output, s: Shape, im: &[u16], from: usize, to: usize) -> Outp
 }
 
 // Prints the task that is asked for; where there is none, that is said.
-fn print_task(path: &[u8], s: Shape, im: &[u16]) -> Outcome
+fn print_task(rt: &HostRuntime, path: &[u8], s: Shape, im: &[u16]) -> Outcome
     requires { Sound s im.now }
 {
-    let mut text = io::buffer();
-    let end = os::arg(TASK_AT, &mut text);
+    let mut text = [0u8; ARG_BYTES];
+    let end = short_arg(rt, TASK_AT, &mut text);
     if let Asked::Word(t) = read_word(&text[..end]) {
         let k = t as usize;
         if k < s.n {
-            return ended(show_tasks(standard_output(), s, im, k, k + 1));
+            return ended(rt, show_tasks(standard_output(rt), s, im, k, k + 1));
         }
     }
-    say(&text[..end]);
-    say(b": no task of ");
-    say(path);
-    say(b"\n");
+    say(rt, &text[..end]);
+    say(rt, b": no task of ");
+    say(rt, path);
+    say(rt, b"\n");
     Outcome::Unread
 }
 
 // Prints an image's tasks, or the one that is asked for.
-fn print_image(path: &[u8], im: &[u16]) -> Outcome {
+fn print_image(rt: &HostRuntime, path: &[u8], im: &[u16]) -> Outcome {
     let found = inspect(im);
     let verdict = found.verdict;
     if let Verdict::Refused(r) = verdict {
-        say_refused_image(path, im, r);
+        say_refused_image(rt, path, im, r);
         return Outcome::Refused;
     }
-    if os::arg_count() == TASK_ARGUMENTS {
-        return print_task(path, found.shape, im);
+    if arg_count(rt) == TASK_ARGUMENTS {
+        return print_task(rt, path, found.shape, im);
     }
-    ended(show_tasks(standard_output(), found.shape, im, 0, found.shape.n))
+    ended(
+        rt,
+        show_tasks(standard_output(rt), found.shape, im, 0, found.shape.n),
+    )
 }
 
 // Prints the words of a program's file or of an image's, which is the argument at a place.
-fn print_loaded(path_at: usize, path: &[u8], words: &[u16]) -> Outcome {
+fn print_loaded(rt: &HostRuntime, path_at: usize, path: &[u8], words: &[u16]) -> Outcome {
     if path_at == PROGRAM_AT {
-        return print_words(path, words);
+        return print_words(rt, path, words);
     }
-    print_image(path, words)
+    print_image(rt, path, words)
 }
 
 // Prints the file that is the argument at a place, by way of a buffer.
-fn print_file(path_at: usize, buffer: &mut [u8], words: &mut [u16]) -> Outcome
+fn print_file(rt: &HostRuntime, path_at: usize, buffer: &mut [u8], words: &mut [u16]) -> Outcome
     requires { length buffer.old < 2 * length words.old + 2 }
 {
-    let mut path = io::buffer();
-    let end = os::arg(path_at, &mut path);
-    let Words::Count(count) = load_words(&path[..end], buffer, words) else {
+    let mut path = [0u8; ARG_BYTES];
+    let end = short_arg(rt, path_at, &mut path);
+    let Words::Count(count) = load_words(rt, &path[..end], buffer, words) else {
         return Outcome::Unread;
     };
-    print_loaded(path_at, &path[..end], &words[..count])
+    print_loaded(rt, path_at, &path[..end], &words[..count])
 }
 
 // Prints as the arguments say.
-fn run() -> Outcome {
+fn run(rt: &HostRuntime) -> Outcome {
     let mut buffer = [0u8; FILE_BYTES];
     let mut words = [0u16; FILE_WORDS];
-    match os::arg_count() {
-        PROGRAM_ARGUMENTS => print_file(PROGRAM_AT, &mut buffer, &mut words),
-        IMAGE_ARGUMENTS | TASK_ARGUMENTS => print_file(IMAGE_AT, &mut buffer, &mut words),
-        _ => misused(),
+    match arg_count(rt) {
+        PROGRAM_ARGUMENTS => print_file(rt, PROGRAM_AT, &mut buffer, &mut words),
+        IMAGE_ARGUMENTS | TASK_ARGUMENTS => print_file(rt, IMAGE_AT, &mut buffer, &mut words),
+        _ => misused(rt),
     }
 }
 
-fn main() {
-    tell(run());
+fn main(rt: HostRuntime) {
+    tell(&rt, run(&rt));
 }

@@ -1,5 +1,7 @@
 // Reports who used the machine: the arguments are the file of the chart, empty where none is asked for, that of the plan, and
 // those of the lists of events.
+#![tactic(auto)]
+
 mod lists;
 mod output;
 
@@ -9,7 +11,10 @@ ghost use Rattle.paper.specs.declared.Verdict.TheVariants.{Fine};
 ghost use Rattle.files.specs.PlanFiles.{enough};
 ghost use Rattle.disk.specs.Bytes.{Starts};
 
-use disk::{Outcome, Source, Start, load_start, misused, open_source, tell};
+use disk::{
+    ARG_BYTES, Loaded, Outcome, Source, Start, arg, arg_count, fail_missing, load_start, misused,
+    open_source, say_long_arg, tell,
+};
 use files::{PLAN_BYTES, PLAN_WORDS, is_odd, read_plan};
 use kernel::build;
 use lists::count_list;
@@ -26,8 +31,8 @@ const PLAN_AT: usize = 2;
 const LISTS_AT: usize = 3;
 
 // Says that an argument is longer than any path, of which the first bytes are given.
-fn too_long(path: &[u8]) -> Outcome {
-    os::fail(path);
+fn too_long(rt: &HostRuntime, path: &[u8]) -> Outcome {
+    say_long_arg(rt, path);
     Outcome::Unread
 }
 
@@ -44,82 +49,87 @@ fn joined(all: Outcome, more: Outcome) -> Outcome {
 }
 
 // Counts the list that is the argument at a place.
-fn count_argument(k: usize, im: &mut [u16], tasks: usize, counts: &mut [u32; COUNTS]) -> Outcome {
-    let mut path = io::buffer();
-    let end = os::arg(k, &mut path);
-    if os::errno() != 0 {
-        return too_long(&path);
-    }
-    count_list(&path[..end], im, tasks, counts)
+fn count_argument(
+    rt: &HostRuntime,
+    k: usize,
+    im: &mut [u16],
+    tasks: usize,
+    counts: &mut [u32; COUNTS],
+) -> Outcome {
+    let mut path = [0u8; ARG_BYTES];
+    let Loaded::Bytes(end) = arg(rt, k, &mut path) else {
+        return too_long(rt, &path);
+    };
+    count_list(rt, &path[..end], im, tasks, counts)
 }
 
 // Counts the lists one after another, each from the image as the one before left it.
-fn count_lists(im: &mut [u16], tasks: usize, counts: &mut [u32; COUNTS]) -> Outcome {
+fn count_lists(
+    rt: &HostRuntime,
+    im: &mut [u16],
+    tasks: usize,
+    counts: &mut [u32; COUNTS],
+) -> Outcome {
     let mut all = Outcome::Done;
-    for k in LISTS_AT..os::arg_count() {
-        all = joined(all, count_argument(k, im, tasks, counts));
+    for k in LISTS_AT..arg_count(rt) {
+        all = joined(all, count_argument(rt, k, im, tasks, counts));
     }
     all
 }
 
 // Saves the chart where a path is given for it, and answers what became of all.
-fn chart_counted(all: Outcome, counts: &[u32; COUNTS], tasks: usize) -> Outcome {
-    let mut path = io::buffer();
-    let end = os::arg(CHART_AT, &mut path);
-    if os::errno() != 0 {
-        return too_long(&path);
-    }
+fn chart_counted(rt: &HostRuntime, all: Outcome, counts: &[u32; COUNTS], tasks: usize) -> Outcome {
+    let mut path = [0u8; ARG_BYTES];
+    let Loaded::Bytes(end) = arg(rt, CHART_AT, &mut path) else {
+        return too_long(rt, &path);
+    };
     if end == 0 {
         return all;
     }
-    joined(all, save_chart(&path[..end], counts, tasks))
+    joined(all, save_chart(rt, &path[..end], counts, tasks))
 }
 
 // Reports on an image of so many tasks.
-fn report_image(im: &mut [u16], tasks: usize) -> Outcome {
+fn report_image(rt: &HostRuntime, im: &mut [u16], tasks: usize) -> Outcome {
     let mut counts = [0u32; COUNTS];
-    let counted = count_lists(im, tasks, &mut counts);
-    let all = joined(counted, print_table(&counts, tasks));
+    let counted = count_lists(rt, im, tasks, &mut counts);
+    let all = joined(counted, print_table(rt, &counts, tasks));
     if let Outcome::Unwritten = all {
         return Outcome::Unwritten;
     }
-    chart_counted(all, &counts, tasks)
+    chart_counted(rt, all, &counts, tasks)
 }
 
 // Builds the image of a plan in its place and reports on it.
-fn report_fresh(plan: &[u16], im: &mut [u16], tasks: usize) -> Outcome {
+fn report_fresh(rt: &HostRuntime, plan: &[u16], im: &mut [u16], tasks: usize) -> Outcome {
     build(plan, im);
-    report_image(im, tasks)
+    report_image(rt, im, tasks)
 }
 
 // Reports on the image of an accepted plan.
-fn report_plan(plan: &[u16]) -> Outcome
+fn report_plan(rt: &HostRuntime, plan: &[u16]) -> Outcome
     requires { check_plan plan.now ≡ Fine }
 {
     let s = shape_of_plan(plan);
     let size = total_of(s);
     let mut image = [0u16; MOST_WORDS];
-    report_fresh(plan, &mut image[..size], s.n)
+    report_fresh(rt, plan, &mut image[..size], s.n)
 }
 
 // Refuses a plan's file.
-fn refuse_plan(path: &[u8], plan: &[u16], odd: bool, r: Refusal) -> Outcome {
-    say_refused_plan(path, plan, odd, r);
+fn refuse_plan(rt: &HostRuntime, path: &[u8], plan: &[u16], odd: bool, r: Refusal) -> Outcome {
+    say_refused_plan(rt, path, plan, odd, r);
     Outcome::Refused
 }
 
 // Reads a plan's file to its end; where it cannot, that is said.
-fn load_plan(path: &[u8], buffer: &mut [u8]) -> Start
+fn load_plan(rt: &HostRuntime, path: &[u8], buffer: &mut [u8]) -> Start
     ensures { Starts buffer.new result }
 {
-    match open_source(path) {
-        Source::File(fd) => {
-            let start = load_start(path, fd, buffer);
-            libc::close(fd);
-            start
-        }
+    match open_source(rt, path) {
+        Source::File(mut file) => load_start(rt, path, &mut file, buffer),
         Source::Missing => {
-            os::fail(path);
+            fail_missing(rt, path);
             Start::Nothing
         }
         Source::Nothing => Start::Nothing,
@@ -127,7 +137,7 @@ fn load_plan(path: &[u8], buffer: &mut [u8]) -> Start
 }
 
 // Reports on the plan of a file, of which so many bytes are in a buffer, with an odd count of bytes after them or not.
-fn report_loaded(path: &[u8], buffer: &[u8], found: usize, odd: bool) -> Outcome
+fn report_loaded(rt: &HostRuntime, path: &[u8], buffer: &[u8], found: usize, odd: bool) -> Outcome
     requires buffer_len { length buffer.now ≡ enough }
     requires found_in_bounds { (found ≤ length buffer.now) × (odd ≡ true → length buffer.now ≤ found) }
 {
@@ -136,33 +146,32 @@ fn report_loaded(path: &[u8], buffer: &[u8], found: usize, odd: bool) -> Outcome
     let count = plan.words;
     let verdict = plan.verdict;
     match verdict {
-        Verdict::Fine => report_plan(&words[..count]),
-        Verdict::Refused(r) => refuse_plan(path, &words[..count], is_odd(odd, found), r),
+        Verdict::Fine => report_plan(rt, &words[..count]),
+        Verdict::Refused(r) => refuse_plan(rt, path, &words[..count], is_odd(odd, found), r),
     }
 }
 
 // Reports on the plan of a file.
-fn report_file(path: &[u8]) -> Outcome {
+fn report_file(rt: &HostRuntime, path: &[u8]) -> Outcome {
     let mut buffer = [0u8; PLAN_BYTES];
-    let Start::Bytes(found, odd) = load_plan(path, &mut buffer) else {
+    let Start::Bytes(found, odd) = load_plan(rt, path, &mut buffer) else {
         return Outcome::Unread;
     };
-    report_loaded(path, &buffer, found, odd)
+    report_loaded(rt, path, &buffer, found, odd)
 }
 
 // Reports as the arguments say.
-fn run() -> Outcome {
-    if os::arg_count() <= LISTS_AT {
-        return misused();
+fn run(rt: &HostRuntime) -> Outcome {
+    if arg_count(rt) <= LISTS_AT {
+        return misused(rt);
     }
-    let mut path = io::buffer();
-    let end = os::arg(PLAN_AT, &mut path);
-    if os::errno() != 0 {
-        return too_long(&path);
-    }
-    report_file(&path[..end])
+    let mut path = [0u8; ARG_BYTES];
+    let Loaded::Bytes(end) = arg(rt, PLAN_AT, &mut path) else {
+        return too_long(rt, &path);
+    };
+    report_file(rt, &path[..end])
 }
 
-fn main() {
-    tell(run());
+fn main(rt: HostRuntime) {
+    tell(&rt, run(&rt));
 }

@@ -1,6 +1,5 @@
 // The report of the counts: its table on standard output, its chart as a file.
-ghost use Rattle.std.specs.Prelude.{◌≤◌, length};
-ghost use Rattle.io.specs.Counts.{IsPrefixLen};
+ghost use Rattle.std.specs.Prelude.{◌≡◌, ◌≤◌, length, take};
 ghost use Rattle.disk.specs.Bytes.{chunk_bytes};
 
 use crate::lists::put_all;
@@ -14,14 +13,14 @@ const ROOM_BYTES: usize = 65536;
 const ROOM_WORDS: usize = 32768;
 
 // Says that a report is too long for its room.
-fn too_long() -> Outcome {
-    say(b"the report is too long\n");
+fn too_long(rt: &HostRuntime) -> Outcome {
+    say(rt, b"the report is too long\n");
     Outcome::Unwritten
 }
 
 // Where a page ends in its room.
 fn end_of(page: Page, room: &[u8]) -> usize
-    ensures { IsPrefixLen result room.now }
+    ensures { (result ≤ length room.now) × (result ≡ length (take result room.now)) }
 {
     if room.len() < page.end {
         return room.len();
@@ -30,23 +29,23 @@ fn end_of(page: Page, room: &[u8]) -> usize
 }
 
 // Prints the table of so many tasks.
-pub fn print_table(counts: &[u32; COUNTS], tasks: usize) -> Outcome {
+pub fn print_table(rt: &HostRuntime, counts: &[u32; COUNTS], tasks: usize) -> Outcome {
     let mut room = [0u8; ROOM_BYTES];
     let page = put_table(blank_page(), &mut room, counts, tasks);
     if page.whole {
         let end = end_of(page, &room);
-        return ended(put_text(standard_output(), &room[..end]));
+        return ended(rt, put_text(standard_output(rt), &room[..end]));
     }
-    too_long()
+    too_long(rt)
 }
 
 // Saves a text of whole words.
-fn save_text(path: &[u8], text: &[u8]) -> Outcome
+fn save_text(rt: &HostRuntime, path: &[u8], text: &[u8]) -> Outcome
     requires { length text.now ≤ chunk_bytes }
 {
     let mut words = [0u16; ROOM_WORDS];
     let count = put_all(text, &mut words);
-    save_at(path, &words[..count])
+    save_at(rt, path, &words[..count])
 }
 
 // A page of whole words: with one more line end where its bytes are not.
@@ -58,13 +57,13 @@ fn even(page: Page, room: &mut [u8]) -> Page {
 }
 
 // Saves the chart of so many tasks.
-pub fn save_chart(path: &[u8], counts: &[u32; COUNTS], tasks: usize) -> Outcome {
+pub fn save_chart(rt: &HostRuntime, path: &[u8], counts: &[u32; COUNTS], tasks: usize) -> Outcome {
     let mut room = [0u8; ROOM_BYTES];
     let drawn = put_chart(blank_page(), &mut room, counts, tasks);
     let page = even(drawn, &mut room);
     if page.whole {
         let end = end_of(page, &room);
-        return save_text(path, &room[..end]);
+        return save_text(rt, path, &room[..end]);
     }
-    too_long()
+    too_long(rt)
 }

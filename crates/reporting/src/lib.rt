@@ -1,4 +1,6 @@
 // A report for people: the table of who used the machine, and its chart.
+#![tactic(auto)]
+
 mod bars;
 mod chart;
 mod headings;

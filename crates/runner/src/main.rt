@@ -1,6 +1,8 @@
 // Runs events.bin on plan.bin, both in the folder that it is run in; or as its arguments say: the files of the plan and of the
 // events, the image to start from in place of the plan, and the file to save the image in, empty where not asked for.
-use disk::{Outcome, misused, tell};
+#![tactic(auto)]
+
+use disk::{ARG_BYTES, Loaded, Outcome, arg, arg_count, misused, say_long_arg, tell};
 use runner_files::run_files;
 
 // How many arguments there are where none is given, and where all are, the program's own name among them.
@@ -18,34 +20,31 @@ const IMAGE_AT: usize = 3;
 const SAVED_AT: usize = 4;
 
 // Says that an argument is longer than any path, of which the first bytes are given.
-fn too_long(path: &[u8]) -> Outcome {
-    os::fail(path);
+fn too_long(rt: &HostRuntime, path: &[u8]) -> Outcome {
+    say_long_arg(rt, path);
     Outcome::Unread
 }
 
 // Runs as the arguments say.
-fn run_given() -> Outcome {
-    let mut plan = io::buffer();
-    let plan_end = os::arg(PLAN_AT, &mut plan);
-    if os::errno() != 0 {
-        return too_long(&plan);
-    }
-    let mut events = io::buffer();
-    let events_end = os::arg(EVENTS_AT, &mut events);
-    if os::errno() != 0 {
-        return too_long(&events);
-    }
-    let mut image = io::buffer();
-    let image_end = os::arg(IMAGE_AT, &mut image);
-    if os::errno() != 0 {
-        return too_long(&image);
-    }
-    let mut saved = io::buffer();
-    let saved_end = os::arg(SAVED_AT, &mut saved);
-    if os::errno() != 0 {
-        return too_long(&saved);
-    }
+fn run_given(rt: &HostRuntime) -> Outcome {
+    let mut plan = [0u8; ARG_BYTES];
+    let Loaded::Bytes(plan_end) = arg(rt, PLAN_AT, &mut plan) else {
+        return too_long(rt, &plan);
+    };
+    let mut events = [0u8; ARG_BYTES];
+    let Loaded::Bytes(events_end) = arg(rt, EVENTS_AT, &mut events) else {
+        return too_long(rt, &events);
+    };
+    let mut image = [0u8; ARG_BYTES];
+    let Loaded::Bytes(image_end) = arg(rt, IMAGE_AT, &mut image) else {
+        return too_long(rt, &image);
+    };
+    let mut saved = [0u8; ARG_BYTES];
+    let Loaded::Bytes(saved_end) = arg(rt, SAVED_AT, &mut saved) else {
+        return too_long(rt, &saved);
+    };
     run_files(
+        rt,
         &plan[..plan_end],
         &events[..events_end],
         &image[..image_end],
@@ -54,14 +53,14 @@ fn run_given() -> Outcome {
 }
 
 // Runs the folder's files, or as the arguments say.
-fn run() -> Outcome {
-    match os::arg_count() {
-        BARE => run_files(b"plan.bin", b"events.bin", b"", b""),
-        ARGUMENTS => run_given(),
-        _ => misused(),
+fn run(rt: &HostRuntime) -> Outcome {
+    match arg_count(rt) {
+        BARE => run_files(rt, b"plan.bin", b"events.bin", b"", b""),
+        ARGUMENTS => run_given(rt),
+        _ => misused(rt),
     }
 }
 
-fn main() {
-    tell(run());
+fn main(rt: HostRuntime) {
+    tell(&rt, run(&rt));
 }

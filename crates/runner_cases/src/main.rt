@@ -1,7 +1,9 @@
 // Runs the plan and the events in each of the folders that its arguments name, and prints what the runner prints of them under the folder's name.
+#![tactic(auto)]
+
 ghost use Rattle.std.specs.Prelude.{◌+◌, ◌≤◌, length};
 
-use libc::STDOUT_FILENO;
+use disk::{arg_count, short_arg};
 use runner_files::run_files;
 use runner_lines::put_text;
 
@@ -23,22 +25,22 @@ fn join(folder: &[u8], file: &[u8], path: &mut [u8]) -> usize
 }
 
 // Runs the case in a folder.
-fn run_case(folder: &[u8])
+fn run_case(rt: &HostRuntime, folder: &[u8])
     requires { length folder.now ≤ NAME_BYTES }
 {
-    io::write_all(STDOUT_FILENO, folder);
-    io::write_all(STDOUT_FILENO, b"\n");
+    let _ = rt.stdout().write_all(folder);
+    let _ = rt.stdout().write_all(b"\n");
     let mut plan = [0u8; PATH_BYTES];
     let mut events = [0u8; PATH_BYTES];
     let plan_end = join(folder, b"/plan.bin", &mut plan);
     let events_end = join(folder, b"/events.bin", &mut events);
-    run_files(&plan[..plan_end], &events[..events_end], b"", b"");
+    run_files(rt, &plan[..plan_end], &events[..events_end], b"", b"");
 }
 
-fn main() {
+fn main(rt: HostRuntime) {
     let mut name = [0u8; NAME_BYTES];
-    for i in FIRST..os::arg_count() {
-        let size = os::arg(i, &mut name);
-        run_case(&name[..size]);
+    for i in FIRST..arg_count(&rt) {
+        let size = short_arg(&rt, i, &mut name);
+        run_case(&rt, &name[..size]);
     }
 }

@@ -5,13 +5,14 @@ ghost use Rattle.order_table.specs.Entries.{OrderTable};
 ghost use Rattle.runner_files.specs.Turns.{Holds, Moved, Tooks, Turns, Buffers};
 
 use causes::{EventCause, event_cause};
-use disk::{Outcome, ended, put_text, standard_output};
+use disk::{Outcome, ended, fail, put_text, standard_output};
 use files::word;
 use order_table::laid_out;
 use paper::{HIGH_BYTES, Refusal, Shape, Verdict};
 use runner_events::{EVENT_BYTES, feed_buffer, whole_events};
 use runner_lines::MOST_LINE;
 use saying::say_refused_event;
+use std::io::Read;
 
 // The events that are read at a time.
 const EVENTS: usize = 4096;
@@ -50,20 +51,24 @@ pub enum Turn {
 }
 
 // Reads what there is of an open file, after the bytes that are kept; where it cannot, that is said.
-fn read_more(path: &[u8], fd: i32, buffer: &mut [u8], kept: usize) -> Held
+fn read_more<R: Read>(
+    rt: &HostRuntime,
+    path: &[u8],
+    source: &mut R,
+    buffer: &mut [u8],
+    kept: usize,
+) -> Held
     requires { kept ≤ length buffer.old }
     ensures { Holds (length buffer.new) result }
 {
-    let got = libc::read(fd, &mut buffer[kept..]);
-    if got < 0 {
-        os::fail(path);
-        return Held::Nothing;
+    match source.read(&mut buffer[kept..]) {
+        Ok(0) => Held::Last(kept),
+        Ok(more) => Held::Bytes(kept + more),
+        Err(error) => {
+            fail(rt, path, error);
+            Held::Nothing
+        }
     }
-    let more = io::count(got, &buffer[kept..]);
-    if more == 0 {
-        return Held::Last(kept);
-    }
-    Held::Bytes(kept + more)
 }
 
 // Moves the bytes from one place to another to the start of a buffer, and answers how many they are.
@@ -88,12 +93,13 @@ fn cause_of(bytes: &[u8], tasks: usize) -> EventCause {
 }
 
 // Says that the event of a number is refused whose bytes come first, and why.
-fn refuse_event(path: &[u8], n: u64, r: Refusal, bytes: &[u8], tasks: usize) {
-    say_refused_event(path, n, r, cause_of(bytes, tasks));
+fn refuse_event(rt: &HostRuntime, path: &[u8], n: u64, r: Refusal, bytes: &[u8], tasks: usize) {
+    say_refused_event(rt, path, n, r, cause_of(bytes, tasks));
 }
 
 // Takes the events of the first bytes of a buffer, the first of which has the number n, and prints their lines.
 fn take_events(
+    rt: &HostRuntime,
     path: &[u8],
     s: Shape,
     im: &mut [u16],
@@ -114,13 +120,13 @@ fn take_events(
     let printed = fed.text;
     let stop = fed.stop;
     let from = EVENT_BYTES * fed.taken;
-    if let Outcome::Unwritten = ended(put_text(standard_output(), &text[..printed])) {
+    if let Outcome::Unwritten = ended(rt, put_text(standard_output(rt), &text[..printed])) {
         return Took::Ended(Outcome::Unwritten);
     }
     match stop {
         Verdict::Fine => Took::Events(fed.taken),
         Verdict::Refused(r) => {
-            refuse_event(path, n + fed.taken as u64, r, &buffer[from..end], s.n);
+            refuse_event(rt, path, n + fed.taken as u64, r, &buffer[from..end], s.n);
             Took::Ended(Outcome::Refused)
         }
     }
@@ -128,6 +134,7 @@ fn take_events(
 
 // Takes the events that are whole in a buffer that holds so many bytes, and keeps the rest.
 fn take_whole(
+    rt: &HostRuntime,
     path: &[u8],
     s: Shape,
     im: &mut [u16],
@@ -145,7 +152,7 @@ fn take_whole(
     ensures lawful_2 { Lawful s im.new }
 {
     let end = whole_events(held);
-    match take_events(path, s, im, table, buffer, end, n, text) {
+    match take_events(rt, path, s, im, table, buffer, end, n, text) {
         Took::Events(taken) => Turn::On(taken, keep(buffer, end, held)),
         Took::Ended(outcome) => Turn::Ended(outcome),
     }
@@ -153,6 +160,7 @@ fn take_whole(
 
 // Takes the last bytes of a file, those of no event or of a part of one.
 fn take_last(
+    rt: &HostRuntime,
     path: &[u8],
     s: Shape,
     im: &mut [u16],
@@ -168,16 +176,17 @@ fn take_last(
     requires held_in_bounds { held ≤ length buffer.now }
     ensures { Lawful s im.new }
 {
-    match take_events(path, s, im, table, buffer, held, n, text) {
+    match take_events(rt, path, s, im, table, buffer, held, n, text) {
         Took::Events(_) => Outcome::Done,
         Took::Ended(outcome) => outcome,
     }
 }
 
 // Reads events once, and takes them.
-fn run_turn(
+fn run_turn<R: Read>(
+    rt: &HostRuntime,
     path: &[u8],
-    fd: i32,
+    source: &mut R,
     s: Shape,
     im: &mut [u16],
     table: &[u16; HIGH_BYTES],
@@ -193,15 +202,21 @@ fn run_turn(
     ensures turns { Turns result }
     ensures lawful_2 { Lawful s im.new }
 {
-    match read_more(path, fd, buffer, kept) {
-        Held::Bytes(held) => take_whole(path, s, im, table, buffer, held, n, text),
-        Held::Last(held) => Turn::Ended(take_last(path, s, im, table, buffer, held, n, text)),
+    match read_more(rt, path, source, buffer, kept) {
+        Held::Bytes(held) => take_whole(rt, path, s, im, table, buffer, held, n, text),
+        Held::Last(held) => Turn::Ended(take_last(rt, path, s, im, table, buffer, held, n, text)),
         Held::Nothing => Turn::Ended(Outcome::Unread),
     }
 }
 
 // Reads events and takes them, up to the end or a refusal.
-pub fn run_events(path: &[u8], fd: i32, s: Shape, im: &mut [u16]) -> Outcome
+pub fn run_events<R: Read>(
+    rt: &HostRuntime,
+    path: &[u8],
+    source: &mut R,
+    s: Shape,
+    im: &mut [u16],
+) -> Outcome
     requires { Lawful s im.old }
 {
     let table = laid_out();
@@ -211,7 +226,18 @@ pub fn run_events(path: &[u8], fd: i32, s: Shape, im: &mut [u16]) -> Outcome
     let mut n = FIRST_EVENT;
     let mut turns = BUFFERS_END;
     while turns > 0 {
-        match run_turn(path, fd, s, im, &table, &mut buffer, kept, n, &mut text) {
+        match run_turn(
+            rt,
+            path,
+            source,
+            s,
+            im,
+            &table,
+            &mut buffer,
+            kept,
+            n,
+            &mut text,
+        ) {
             Turn::On(taken, rest) => {
                 n += taken as u64;
                 kept = rest;

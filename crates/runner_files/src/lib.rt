@@ -1,5 +1,7 @@
 // One run: takes a plan's file or an image's, and a file of events; prints a line for each event, says what became of them, and
 // saves the image where that is asked for.
+#![tactic(auto)]
+
 mod events;
 
 ghost use Rattle.std.specs.Prelude.{◌≡◌, length};
@@ -28,16 +30,16 @@ use saying::{say_refused_image, say_refused_plan};
 const REFUSED_START: u64 = 0;
 
 // Says that a file is missing.
-fn say_missing(path: &[u8]) {
-    say(path);
-    say(b": missing, it counts as empty\n");
+fn say_missing(rt: &HostRuntime, path: &[u8]) {
+    say(rt, path);
+    say(rt, b": missing, it counts as empty\n");
 }
 
 // Prints the line of a refused plan or image.
-fn print_refused(r: Refusal) -> Outcome {
+fn print_refused(rt: &HostRuntime, r: Refusal) -> Outcome {
     let mut text = [0u8; MOST_LINE];
     let end = put_line(&mut text, 0, REFUSED_START, Reply::Refused(r));
-    let printed = ended(put_text(standard_output(), &text[..end]));
+    let printed = ended(rt, put_text(standard_output(rt), &text[..end]));
     if let Outcome::Done = printed {
         return Outcome::Refused;
     }
@@ -45,31 +47,27 @@ fn print_refused(r: Refusal) -> Outcome {
 }
 
 // Refuses a plan's file.
-fn refuse_plan(path: &[u8], plan: &[u16], odd: bool, r: Refusal) -> Outcome {
-    let refused = print_refused(r);
-    say_refused_plan(path, plan, odd, r);
+fn refuse_plan(rt: &HostRuntime, path: &[u8], plan: &[u16], odd: bool, r: Refusal) -> Outcome {
+    let refused = print_refused(rt, r);
+    say_refused_plan(rt, path, plan, odd, r);
     refused
 }
 
 // Refuses an image's file.
-fn refuse_image(path: &[u8], im: &[u16], r: Refusal) -> Outcome {
-    let refused = print_refused(r);
-    say_refused_image(path, im, r);
+fn refuse_image(rt: &HostRuntime, path: &[u8], im: &[u16], r: Refusal) -> Outcome {
+    let refused = print_refused(rt, r);
+    say_refused_image(rt, path, im, r);
     refused
 }
 
 // Runs the events of a file on an image; a missing file counts as empty.
-fn run_events_file(s: Shape, im: &mut [u16], path: &[u8]) -> Outcome
+fn run_events_file(rt: &HostRuntime, s: Shape, im: &mut [u16], path: &[u8]) -> Outcome
     requires { Lawful s im.old }
 {
-    match open_source(path) {
-        Source::File(fd) => {
-            let ran = run_events(path, fd, s, im);
-            libc::close(fd);
-            ran
-        }
+    match open_source(rt, path) {
+        Source::File(mut file) => run_events(rt, path, &mut file, s, im),
         Source::Missing => {
-            say_missing(path);
+            say_missing(rt, path);
             Outcome::Done
         }
         Source::Nothing => Outcome::Unread,
@@ -77,11 +75,11 @@ fn run_events_file(s: Shape, im: &mut [u16], path: &[u8]) -> Outcome
 }
 
 // Saves the image after a run whose lines are all printed, and answers what became of both.
-fn save_after(ran: Outcome, im: &[u16], path: &[u8]) -> Outcome {
+fn save_after(rt: &HostRuntime, ran: Outcome, im: &[u16], path: &[u8]) -> Outcome {
     if let Outcome::Unwritten = ran {
         return ran;
     }
-    let saved = save(path, im);
+    let saved = save(rt, path, im);
     if let Outcome::Done = saved {
         return ran;
     }
@@ -89,47 +87,50 @@ fn save_after(ran: Outcome, im: &[u16], path: &[u8]) -> Outcome {
 }
 
 // Runs the events of a file on an image, and saves it where a path is given.
-fn run_image(s: Shape, im: &mut [u16], events: &[u8], saved: &[u8]) -> Outcome
+fn run_image(rt: &HostRuntime, s: Shape, im: &mut [u16], events: &[u8], saved: &[u8]) -> Outcome
     requires { Lawful s im.old }
 {
-    let ran = run_events_file(s, im, events);
+    let ran = run_events_file(rt, s, im, events);
     if saved.len() == 0 {
         return ran;
     }
-    save_after(ran, im, saved)
+    save_after(rt, ran, im, saved)
 }
 
 // Builds the image of an accepted plan in its place and runs on it.
-fn run_fresh(s: Shape, plan: &[u16], im: &mut [u16], events: &[u8], saved: &[u8]) -> Outcome
+fn run_fresh(
+    rt: &HostRuntime,
+    s: Shape,
+    plan: &[u16],
+    im: &mut [u16],
+    events: &[u8],
+    saved: &[u8],
+) -> Outcome
     requires plan { Plan s plan.now }
     requires im_len { length im.old ≡ total s }
 {
     build(plan, im);
-    run_image(s, im, events, saved)
+    run_image(rt, s, im, events, saved)
 }
 
 // Runs on the image of an accepted plan.
-fn run_plan(plan: &[u16], events: &[u8], saved: &[u8]) -> Outcome
+fn run_plan(rt: &HostRuntime, plan: &[u16], events: &[u8], saved: &[u8]) -> Outcome
     requires { check_plan plan.now ≡ Fine }
 {
     let s = shape_of_plan(plan);
     let size = total_of(s);
     let mut image = [0u16; MOST_WORDS];
-    run_fresh(s, plan, &mut image[..size], events, saved)
+    run_fresh(rt, s, plan, &mut image[..size], events, saved)
 }
 
 // Reads a plan's file to its end; a missing one counts as empty.
-fn load_plan(path: &[u8], buffer: &mut [u8]) -> Start
+fn load_plan(rt: &HostRuntime, path: &[u8], buffer: &mut [u8]) -> Start
     ensures { Starts buffer.new result }
 {
-    match open_source(path) {
-        Source::File(fd) => {
-            let start = load_start(path, fd, buffer);
-            libc::close(fd);
-            start
-        }
+    match open_source(rt, path) {
+        Source::File(mut file) => load_start(rt, path, &mut file, buffer),
         Source::Missing => {
-            say_missing(path);
+            say_missing(rt, path);
             Start::Bytes(0, false)
         }
         Source::Nothing => Start::Nothing,
@@ -138,6 +139,7 @@ fn load_plan(path: &[u8], buffer: &mut [u8]) -> Start
 
 // Runs on the plan of a file, of which so many bytes are in a buffer, with an odd count of bytes after them or not.
 fn run_loaded_plan(
+    rt: &HostRuntime,
     path: &[u8],
     buffer: &[u8],
     found: usize,
@@ -152,45 +154,57 @@ fn run_loaded_plan(
     let count = plan.words;
     let verdict = plan.verdict;
     match verdict {
-        Verdict::Fine => run_plan(&words[..count], events, saved),
-        Verdict::Refused(r) => refuse_plan(path, &words[..count], is_odd(odd, found), r),
+        Verdict::Fine => run_plan(rt, &words[..count], events, saved),
+        Verdict::Refused(r) => refuse_plan(rt, path, &words[..count], is_odd(odd, found), r),
     }
 }
 
 // Runs on the plan of a file.
-fn run_plan_file(path: &[u8], events: &[u8], saved: &[u8]) -> Outcome {
+fn run_plan_file(rt: &HostRuntime, path: &[u8], events: &[u8], saved: &[u8]) -> Outcome {
     let mut buffer = [0u8; PLAN_BYTES];
-    let Start::Bytes(found, odd) = load_plan(path, &mut buffer) else {
+    let Start::Bytes(found, odd) = load_plan(rt, path, &mut buffer) else {
         return Outcome::Unread;
     };
-    run_loaded_plan(path, &buffer, found, odd, events, saved)
+    run_loaded_plan(rt, path, &buffer, found, odd, events, saved)
 }
 
 // Runs on the words of an image's file.
-fn run_loaded_image(path: &[u8], im: &mut [u16], events: &[u8], saved: &[u8]) -> Outcome {
+fn run_loaded_image(
+    rt: &HostRuntime,
+    path: &[u8],
+    im: &mut [u16],
+    events: &[u8],
+    saved: &[u8],
+) -> Outcome {
     let found = inspect(im);
     let verdict = found.verdict;
     match verdict {
-        Verdict::Fine => run_image(found.shape, im, events, saved),
-        Verdict::Refused(r) => refuse_image(path, im, r),
+        Verdict::Fine => run_image(rt, found.shape, im, events, saved),
+        Verdict::Refused(r) => refuse_image(rt, path, im, r),
     }
 }
 
 // Runs on the image of a file.
-fn run_image_file(path: &[u8], events: &[u8], saved: &[u8]) -> Outcome {
+fn run_image_file(rt: &HostRuntime, path: &[u8], events: &[u8], saved: &[u8]) -> Outcome {
     let mut buffer = [0u8; IMAGE_BYTES];
     let mut words = [0u16; IMAGE_WORDS];
-    let Words::Count(count) = load_image(path, &mut buffer, &mut words) else {
+    let Words::Count(count) = load_image(rt, path, &mut buffer, &mut words) else {
         return Outcome::Unread;
     };
-    run_loaded_image(path, &mut words[..count], events, saved)
+    run_loaded_image(rt, path, &mut words[..count], events, saved)
 }
 
 // Runs the events of a file on the plan of another, or on the image of a file where a path is given for one; the image after the
 // run is saved where a path is given for it.
-pub fn run_files(plan: &[u8], events: &[u8], image: &[u8], saved: &[u8]) -> Outcome {
+pub fn run_files(
+    rt: &HostRuntime,
+    plan: &[u8],
+    events: &[u8],
+    image: &[u8],
+    saved: &[u8],
+) -> Outcome {
     if image.len() == 0 {
-        return run_plan_file(plan, events, saved);
+        return run_plan_file(rt, plan, events, saved);
     }
-    run_image_file(image, events, saved)
+    run_image_file(rt, image, events, saved)
 }

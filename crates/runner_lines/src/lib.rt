@@ -1,4 +1,6 @@
 // The text of a line: each call writes bytes from a place on and answers where the next byte goes.
+#![tactic(auto)]
+
 ghost use Rattle.std.specs.Prelude.{◌≡◌, [], ◌∷◌, ◌++◌, ◌+◌, ◌<◌, ◌≤◌, length};
 ghost use Rattle.paper.specs.Runner.{decimal, space, line};
 ghost use Rattle.writes.specs.Written.{written};

@@ -1,5 +1,7 @@
 // The words for what is refused, and for what a task is and does: each is said here, once, and put to a file that is written
 // piece by piece.
+#![tactic(auto)]
+
 mod rules;
 
 use causes::{EventCause, PlanCause, plan_cause};
@@ -152,8 +154,8 @@ pub fn put_refused(out: Output, number: u16) -> Output {
 }
 
 // Says on standard error that the image of a file is refused, and why.
-pub fn say_refused_image(path: &[u8], im: &[u16], r: Refusal) {
-    let named = put_text(standard_error(), path);
+pub fn say_refused_image(rt: &HostRuntime, path: &[u8], im: &[u16], r: Refusal) {
+    let named = put_text(standard_error(rt), path);
     let numbered = put_refused(named, number_of(r));
     let told = put_fault(numbered, im);
     put_text(told, b"\n");
@@ -168,16 +170,16 @@ fn file_cause(plan: &[u16], odd: bool) -> PlanCause {
 }
 
 // Says on standard error that the plan of a file is refused, and why.
-pub fn say_refused_plan(path: &[u8], plan: &[u16], odd: bool, r: Refusal) {
-    let named = put_text(standard_error(), path);
+pub fn say_refused_plan(rt: &HostRuntime, path: &[u8], plan: &[u16], odd: bool, r: Refusal) {
+    let named = put_text(standard_error(rt), path);
     let numbered = put_refused(named, number_of(r));
     let told = put_plan_cause(numbered, file_cause(plan, odd));
     put_text(told, b"\n");
 }
 
 // Says on standard error that the event of a number is refused, and why; the cause is that of a malformed one.
-pub fn say_refused_event(path: &[u8], n: u64, r: Refusal, cause: EventCause) {
-    let named = put_text(standard_error(), path);
+pub fn say_refused_event(rt: &HostRuntime, path: &[u8], n: u64, r: Refusal, cause: EventCause) {
+    let named = put_text(standard_error(rt), path);
     let counted = put_number(put_text(named, b": event "), n as usize);
     let numbered = put_refused(counted, number_of(r));
     let told = match r {

@@ -1,7 +1,10 @@
 // Shows an image in words on standard output: the argument is the image's file.
+#![tactic(auto)]
+
 use describing::describe;
 use disk::{
-    IMAGE_BYTES, IMAGE_WORDS, Outcome, Words, ended, load_image, misused, standard_output, tell,
+    ARG_BYTES, IMAGE_BYTES, IMAGE_WORDS, Outcome, Words, arg_count, ended, load_image, misused,
+    short_arg, standard_output, tell,
 };
 use inspect::inspect;
 use paper::Verdict;
@@ -13,36 +16,36 @@ const ARGUMENTS: usize = 2;
 const IMAGE_AT: usize = 1;
 
 // Shows an image; where it is refused, it is said why.
-fn show_image(path: &[u8], im: &[u16]) -> Outcome {
+fn show_image(rt: &HostRuntime, path: &[u8], im: &[u16]) -> Outcome {
     let found = inspect(im);
     let verdict = found.verdict;
     if let Verdict::Refused(r) = verdict {
-        say_refused_image(path, im, r);
+        say_refused_image(rt, path, im, r);
         return Outcome::Refused;
     }
-    ended(describe(standard_output(), found.shape, im))
+    ended(rt, describe(standard_output(rt), found.shape, im))
 }
 
 // Shows the image of the file that is asked for.
-fn show_file() -> Outcome {
-    let mut path = io::buffer();
-    let end = os::arg(IMAGE_AT, &mut path);
+fn show_file(rt: &HostRuntime) -> Outcome {
+    let mut path = [0u8; ARG_BYTES];
+    let end = short_arg(rt, IMAGE_AT, &mut path);
     let mut buffer = [0u8; IMAGE_BYTES];
     let mut words = [0u16; IMAGE_WORDS];
-    let Words::Count(count) = load_image(&path[..end], &mut buffer, &mut words) else {
+    let Words::Count(count) = load_image(rt, &path[..end], &mut buffer, &mut words) else {
         return Outcome::Unread;
     };
-    show_image(&path[..end], &words[..count])
+    show_image(rt, &path[..end], &words[..count])
 }
 
 // Shows an image as the arguments say.
-fn run() -> Outcome {
-    if os::arg_count() == ARGUMENTS {
-        return show_file();
+fn run(rt: &HostRuntime) -> Outcome {
+    if arg_count(rt) == ARGUMENTS {
+        return show_file(rt);
     }
-    misused()
+    misused(rt)
 }
 
-fn main() {
-    tell(run());
+fn main(rt: HostRuntime) {
+    tell(&rt, run(&rt));
 }

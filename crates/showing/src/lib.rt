@@ -1,4 +1,6 @@
 // What is said of a task of an image, as comments of a script, and the task's segment as its text.
+#![tactic(auto)]
+
 mod zeros;
 
 ghost use Rattle.std.specs.Prelude.{◌≡◌, ◌<◌, ◌≤◌, length, take};

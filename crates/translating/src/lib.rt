@@ -1,4 +1,6 @@
 // Translating files: what a run does, and all that it says.
+#![tactic(auto)]
+
 ghost use Rattle.std.specs.Prelude.{◌≤◌, length};
 ghost use Rattle.tokens.specs.Shown.{part};
 ghost use Rattle.texts.specs.Reads.{Within};
@@ -20,57 +22,73 @@ const TEXT_BYTES: usize = 524288;
 const TARGET_WORDS: usize = 32715;
 
 // Says what a word of a line has to do with its refusal, and the word.
-fn say_word(text: &[u8], line: &[u8], from: usize, to: usize)
+fn say_word(rt: &HostRuntime, text: &[u8], line: &[u8], from: usize, to: usize)
     requires { Lies line.now from to }
 {
-    say(text);
-    say(&line[from..to]);
+    say(rt, text);
+    say(rt, &line[from..to]);
 }
 
 // Says a reason.
-fn say_reason(r: Reason, line: &[u8])
+fn say_reason(rt: &HostRuntime, r: Reason, line: &[u8])
     requires { Fits line.now r }
 {
     match r {
-        Reason::NinthBracket => say(b"a ninth bracket inside eight"),
-        Reason::TooManyNames => say(b"the 8193rd name or label"),
+        Reason::NinthBracket => say(rt, b"a ninth bracket inside eight"),
+        Reason::TooManyNames => say(rt, b"the 8193rd name or label"),
         Reason::KeptWord(from, to) => say_word(
+            rt,
             b"a kept word where a name stands: ",
             line,
             from,
             to,
         ),
-        Reason::LaterOrder(from, to) => say_word(b"an order of a later edition: ", line, from, to),
-        Reason::StrayByte => say(b"a byte that never stands there"),
-        Reason::Other => say(b"not a line of the grammar"),
-        Reason::GivenTwice(from, to) => say_word(b"given before: ", line, from, to),
-        Reason::NotGiven(from, to) => say_word(b"not given: ", line, from, to),
-        Reason::OutOfRange => say(b"a value outside 0..65535"),
-        Reason::NoRoom => say(b"more than 32715 words"),
+        Reason::LaterOrder(from, to) => say_word(
+            rt,
+            b"an order of a later edition: ",
+            line,
+            from,
+            to,
+        ),
+        Reason::StrayByte => say(rt, b"a byte that never stands there"),
+        Reason::Other => say(rt, b"not a line of the grammar"),
+        Reason::GivenTwice(from, to) => say_word(rt, b"given before: ", line, from, to),
+        Reason::NotGiven(from, to) => say_word(rt, b"not given: ", line, from, to),
+        Reason::OutOfRange => say(rt, b"a value outside 0..65535"),
+        Reason::NoRoom => say(rt, b"more than 32715 words"),
     }
 }
 
 // Says a refusal: the file, the number of the line, the refusal's number with its reason, and the line.
-fn say_refusal(path: &[u8], text: &[u8], from: usize, to: usize, r: Refusal, why: Reason)
+fn say_refusal(
+    rt: &HostRuntime,
+    path: &[u8],
+    text: &[u8],
+    from: usize,
+    to: usize,
+    r: Refusal,
+    why: Reason,
+)
     requires lies { Lies text.now from to }
     requires text_len_bound { length text.now ≤ most_text }
     requires fits { Fits (part text.now from to) why }
 {
     let line = &text[from..to];
-    say(path);
-    say(b": line ");
-    say_number(line_number(text, from));
-    say(b": refused ");
-    say_number(number_of(r) as usize);
-    say(b": ");
-    say_reason(why, line);
-    say(b"\n");
-    say(line);
-    say(b"\n");
+    say(rt, path);
+    say(rt, b": line ");
+    say_number(rt, line_number(text, from));
+    say(rt, b": refused ");
+    say_number(rt, number_of(r) as usize);
+    say(rt, b": ");
+    say_reason(rt, why, line);
+    say(rt, b"\n");
+    say(rt, line);
+    say(rt, b"\n");
 }
 
 // Says why two texts are refused.
 fn say_refused<'a>(
+    rt: &HostRuntime,
     names_path: &[u8],
     script_path: &[u8],
     names: &'a [u8],
@@ -86,23 +104,30 @@ fn say_refused<'a>(
     let from = line.from;
     let to = line.from + line.count;
     match text {
-        Text::Names => say_refusal(names_path, names, from, to, r, why),
-        Text::Script => say_refusal(script_path, script, from, to, r, why),
+        Text::Names => say_refusal(rt, names_path, names, from, to, r, why),
+        Text::Script => say_refusal(rt, script_path, script, from, to, r, why),
     }
 }
 
 // Says what is wrong with two texts that are refused.
-fn refuse<'a>(names_path: &[u8], script_path: &[u8], names: &'a [u8], script: &'a [u8]) -> Outcome
+fn refuse<'a>(
+    rt: &HostRuntime,
+    names_path: &[u8],
+    script_path: &[u8],
+    names: &'a [u8],
+    script: &'a [u8],
+) -> Outcome
     requires { Short names.now script.now }
 {
     if let Judged::Refused(r, line) = judge(names, script, TARGET_WORDS) {
-        say_refused(names_path, script_path, names, script, r, line);
+        say_refused(rt, names_path, script_path, names, script, r, line);
     }
     Outcome::Refused
 }
 
 // Translates two texts to a file.
 fn translate_texts<'a>(
+    rt: &HostRuntime,
     names_path: &[u8],
     script_path: &[u8],
     program_path: &[u8],
@@ -113,22 +138,28 @@ fn translate_texts<'a>(
 {
     let mut words = [0u16; TARGET_WORDS];
     match translate(names, script, &mut words) {
-        Translation::Refused(_, _) => refuse(names_path, script_path, names, script),
-        Translation::Words(count) => save(program_path, &words[..count]),
+        Translation::Refused(_, _) => refuse(rt, names_path, script_path, names, script),
+        Translation::Words(count) => save(rt, program_path, &words[..count]),
     }
 }
 
 // Translates the texts of two files to a third.
-pub fn translate_files(names_path: &[u8], script_path: &[u8], program_path: &[u8]) -> Outcome {
+pub fn translate_files(
+    rt: &HostRuntime,
+    names_path: &[u8],
+    script_path: &[u8],
+    program_path: &[u8],
+) -> Outcome {
     let mut names = [0u8; TEXT_BYTES];
     let mut script = [0u8; TEXT_BYTES];
-    let Loaded::Bytes(names_end) = load(names_path, &mut names) else {
+    let Loaded::Bytes(names_end) = load(rt, names_path, &mut names) else {
         return Outcome::Unread;
     };
-    let Loaded::Bytes(script_end) = load(script_path, &mut script) else {
+    let Loaded::Bytes(script_end) = load(rt, script_path, &mut script) else {
         return Outcome::Unread;
     };
     translate_texts(
+        rt,
         names_path,
         script_path,
         program_path,
