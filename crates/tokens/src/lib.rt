@@ -1,4 +1,6 @@
 // The tokens of a line, found one at a time from a place on.
+#![tactic(auto)]
+
 ghost use Rattle.std.specs.Prelude.{◌≡◌, ◌≤◌, length, drop};
 ghost use Rattle.grammar.specs.Tokens.{letter, digit, blank, is_mark, word_byte, tokens};
 ghost use Rattle.grammar.specs.Tokens.Open.{in_number, in_word};
