@@ -1,4 +1,6 @@
 // The counts of who used the machine: where an answer is counted, one count growing, and whether counts have room.
+#![tactic(auto)]
+
 ghost use Rattle.std.specs.Prelude.{◌≡◌, false, ◌<◌, length};
 ghost use Rattle.paper.specs.Counts.{tally, count_place, column, grown, counted, at_end as end_at, passes_end};
 ghost use Rattle.counting.specs.Room.{RoomAt, AllUpto, RoomIf};
