@@ -1,4 +1,6 @@
 // The services: what a pending one does for the first task, on a sound image in which a task that waits finds room. Each decides everything before it writes.
+#![tactic(auto)]
+
 ghost use Rattle.std.specs.Prelude.{◌≡◌, false, ◌&&◌, ◌<◌, ◌≤◌, eqb};
 ghost use Rattle.paper.specs.Image.{at, clock as clock_cell, status as status_of, peer as peer_of};
 ghost use Rattle.paper.specs.Flags.{flags_of, cc, error};
