@@ -1,43 +1,7 @@
 -- Laws of Words. Assumes nothing.
-use mathlib.Core.Path.{◌≡◌, refl, ap, ◌∙◌}
-use mathlib.Core.Bool.{Bool, true, false}
-use mathlib.Core.List.{List}
-use Prim.Native.Nat.{ℕ, ◌+◌, ◌*◌, ◌-◌, ◌<◌, ◌≤◌}
-use borrow.Author.Tests.{ltb-true, ltb-false}
-use lib.Dec.{ltb}
-use native.Mathlib.Numerals.{add-one}
-use native.Mathlib.Omega.{arith}
-use lib.ListN.{length, get_or, take, drop, set, length-take, length-drop}
-use native.Mathlib.Nat.{min-le_left}
-use lib.Seq.{length-take-le, take-suc, take-suc-set, take_all, get_or-set_same, get_or-set_other, set-set, set-get_or}
+use Rattle.std.proofs.Common.{◌≡◌, refl, ap, ◌∙◌, Bool, true, false, ltb, ltb-true, ltb-false, List, ℕ, ◌+◌, ◌*◌, ◌<◌, length, get_or, set, add-one, arith, get_or-set_same, get_or-set_other, set-set}
+use Rattle.std.proofs.lemmas.List.{set-get_or}
 use Rattle.vectors.specs.Words.{SaltedTo, salted_word, with_changes}
-
-module _ (a b : List ℕ) (i : ℕ) (e : take i a ≡ take i b) where
-  -- one word more is the same
-  pub same_more : i < length a → i < length b → get_or a i 0 ≡ get_or b i 0 → take (i + 1) a ≡ take (i + 1) b
-  same_more ha hb g = rw (add-one, take-suc a i 0 ha, take-suc b i 0 hb, e, g)
-
-  -- one word more is laid out
-  pub laid_more : i < length a → i < length b → take (i + 1) (set a i (get_or b i 0)) ≡ take (i + 1) b
-  laid_more ha hb = rw (add-one, take-suc-set a i (get_or b i 0) ha, take-suc b i 0 hb, e)
-
-  -- all of the first are the first of the second
-  pub same_first : length a ≤ i → i ≤ length a → take (length a) b ≡ a
-  same_first ha ia =
-      let l : length a ≡ i = omega arith in
-      rw (l, ← e) (take_all i a ha)
-
-  -- all of them are
-  pub same_all : length a ≤ i → length b ≤ i → a ≡ b
-  same_all ha hb = rw (take_all i a ha, take_all i b hb) at e
-
--- the first bytes of a buffer are not more than the words of a part have
-pub part_room : (bytes words : List ℕ) (size at end : ℕ) → at ≤ end → end ≤ length words → size ≡ 2 * (end - at)
-    → length (take size bytes) < 2 * length (take (end - at) (drop at words)) + 2
-part_room bytes words size at end below inside e =
-    let few : length (take size bytes) ≤ size = rw length-take (min-le_left size (length bytes)) in
-    let many : length (take (end - at) (drop at words)) ≡ end - at = length-take-le (end - at) (drop at words) (rw length-drop (omega arith)) in
-    omega (arith, few, many)
 
 pub no_changes : (words changes : List ℕ) → with_changes words changes 0 ≡ words
 unfolding with_changes

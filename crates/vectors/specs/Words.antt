@@ -1,5 +1,5 @@
 -- Words that are the same up to a place, and words that are as salted. Assumes nothing.
-use Rattle.std.specs.Prelude.{◌≡◌, List, ℕ, zero, suc, ◌+◌, ◌*◌, ◌-◌, ◌%◌, ◌<◌, ◌≤◌, length, get_or, set}
+use Rattle.std.specs.Prelude.{◌≡◌, List, ℕ, zero, suc, ◌+◌, ◌*◌, ◌%◌, ◌<◌, ◌≤◌, length, get_or, set}
 
 -- words with a count of changes made in them, each a place and its word, the last one first
 unfoldable pub with_changes : List ℕ → List ℕ → ℕ → List ℕ

@@ -59,9 +59,7 @@ pub fn lay_out(trial: &mut [u16], image: &[u16])
     requires { length trial.old ≡ length image.now }
     ensures { trial.new ≡ image.now }
 {
-    for i in 0..trial.len() {
-        trial[i] = image[i];
-    }
+    trial.copy_from_slice(image);
 }
 
 // Whether some words are the same as others: a yes means that all are.
@@ -69,10 +67,5 @@ pub fn are_same(words: &[u16], others: &[u16]) -> bool
     requires { length words.now ≡ length others.now }
     ensures { result ≡ true → words.now ≡ others.now }
 {
-    for i in 0..words.len() {
-        if words[i] != others[i] {
-            return false;
-        }
-    }
-    true
+    words == others
 }

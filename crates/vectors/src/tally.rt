@@ -86,12 +86,7 @@ fn more(n: u64) -> u64 {
 
 // Whether a number is one of those listed.
 pub fn listed(numbers: &[u16], number: u16) -> bool {
-    for i in 0..numbers.len() {
-        if numbers[i] == number {
-            return true;
-        }
-    }
-    false
+    numbers.contains(&number)
 }
 
 // The answer to what is the same or differs.
