@@ -1,0 +1,5 @@
+-- The number falls to its tenth.
+use Rattle.runner_lines.proofs.+put_decimal.Given as goal
+
+abbrev pub decreases-put_decimal : goal.decreases-put_decimal
+decreases-put_decimal l = l.n
