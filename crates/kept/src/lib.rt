@@ -1,4 +1,6 @@
 // What a word is: a name, a register, or an order of this edition or of a later one.
+#![tactic(auto)]
+
 ghost use Rattle.std.specs.Prelude.{◌≡◌, ◌≤◌, length};
 ghost use Rattle.grammar.specs.Kept.{kept_as};
 ghost use Rattle.kept.specs.Keys.{counted, key, kept_by, most_letters, names_register};
@@ -117,6 +119,7 @@ fn key_of(word: &[u8]) -> u64
 }
 
 // The order whose name has this number.
+#[tactic(auto, unfolding(crate::specs::Keys::kept_by, crate::specs::Keys::kept_under, crate::specs::Keys::key, crate::specs::Keys::counted, grammar::specs::Kept::kept_words, grammar::specs::Tokens::bytes))]
 fn order_of(number: u64) -> Kept
     ensures { result ≡ kept_by number }
 {
