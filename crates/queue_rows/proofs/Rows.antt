@@ -1,13 +1,13 @@
 -- What the tests of one row come to: all its slots, its free slots, its words. Assumes nothing.
 use mathlib.Core.Path.{◌≡◌, refl, sym, ap, ◌∙◌}
 use mathlib.Core.List.{List}
-use mathlib.Core.Bool.{Bool, true, false, not, So, and-eq-true_iff, true≢false, false≢true}
+use mathlib.Core.Bool.{Bool, true, false, So, and-eq-true_iff, true≢false, false≢true}
 use mathlib.Core.Logic.{◌≢◌, ◌↔◌, ◌⊎◌, inl, inr, ⊎_elim, dite}
 use Prim.Native.Nat.{ℕ, ◌+◌, ◌-◌, ◌*◌, ◌%◌, ◌<◌, ◌≤◌}
 use native.Mathlib.Numerals.{add-one}
 use native.Mathlib.Decide.{dec_lt}
 use native.Mathlib.Omega.{arith}
-use borrow.Author.Tests.{eqb-true, eq-eqb, lt-ltb, le-ltb, not-true, not-false}
+use borrow.Author.Tests.{eqb-true, eq-eqb, lt-ltb, le-ltb}
 use lib.Bits.{bit_and, bit_or}
 use lib.Dec.{eqb, ltb}
 use lib.ListN.{get_or}
@@ -94,29 +94,29 @@ module _ (im : List ℕ) (p : Place) (given : ℕ) (ok : row_queued im p given �
     unfolding row_right
     parts = all_three _ _ _
 
-    pub untyped_wrong : (r : Bool) → r ≡ implies typed (row_typed im p given) → not r ≡ true → false ≡ row_right im p given typed
-    untyped_wrong r e n = refuted _ (λ a. true≢false (sym (parts.0 a).2 ∙ sym e ∙ not-true r n))
+    pub untyped_wrong : (r : Bool) → r ≡ implies typed (row_typed im p given) → r ≡ false → false ≡ row_right im p given typed
+    untyped_wrong r e n = refuted _ (λ a. true≢false (sym (parts.0 a).2 ∙ sym e ∙ n))
 
-    pub free_decide : (r o : Bool) → r ≡ implies typed (row_typed im p given) → not r ≡ false → o ≡ row_cleared im p given → o ≡ row_right im p given typed
-    free_decide r o e n eo = together o _ (λ t. parts.1 (ok, sym eo ∙ t, sym e ∙ not-false r n)) (λ a. eo ∙ (parts.0 a).1)
+    pub free_decide : (r o : Bool) → r ≡ implies typed (row_typed im p given) → r ≡ true → o ≡ row_cleared im p given → o ≡ row_right im p given typed
+    free_decide r o e n eo = together o _ (λ t. parts.1 (ok, sym eo ∙ t, sym e ∙ n)) (λ a. eo ∙ (parts.0 a).1)
 
     module _ (r : Bool) (e : SlotsTyped im p given typed r) where
-      pub slots_wrong : not r ≡ true → false ≡ row_right im p given typed
+      pub slots_wrong : r ≡ false → false ≡ row_right im p given typed
       unfolding SlotsTyped
       slots_wrong n =
           refuted _ (λ a.
           let h = parts.0 a in
-          true≢false (sym (e.1 (λ t. all_typed h.1 ((implied typed _).0 h.2 t))) ∙ not-true r n))
+          true≢false (sym (e.1 (λ t. all_typed h.1 ((implied typed _).0 h.2 t))) ∙ n))
 
-      typing : not r ≡ false → So (implies typed (row_typed im p given))
+      typing : r ≡ true → So (implies typed (row_typed im p given))
       unfolding SlotsTyped
-      typing n = (implied typed _).1 (λ t. held_typed (e.0 (not-false r n) t))
+      typing n = (implied typed _).1 (λ t. held_typed (e.0 n t))
 
-      pub full_right : not r ≡ false → (w : ℕ) → w ≡ get_or im (p.0 + 2) 0 → w ≡ given → true ≡ row_right im p given typed
+      pub full_right : r ≡ true → (w : ℕ) → w ≡ get_or im (p.0 + 2) 0 → w ≡ given → true ≡ row_right im p given typed
       full_right n w ew full =
           sym (parts.1 (ok, (words_are _ _ 1).1 (λ i l. absurd (omega arith)), typing n))
 
-      pub slots_decide : not r ≡ false → (o : Bool) → o ≡ row_cleared im p given → o ≡ row_right im p given typed
+      pub slots_decide : r ≡ true → (o : Bool) → o ≡ row_cleared im p given → o ≡ row_right im p given typed
       slots_decide n o eo = together o _ (λ t. parts.1 (ok, sym eo ∙ t, typing n)) (λ a. eo ∙ (parts.0 a).1)
 
   -- the marks of a slot differ where it lies outside of the words held
@@ -145,9 +145,9 @@ module _ (im : List ℕ) (p : Place) (given : ℕ) (ok : row_queued im p given �
         (λ c. eq-eqb _ 0 (both.1 (λ k l ne. cleared_are.0 c k l ((marks_differ k l).0 ne))))
 
 -- a row that is no queue
-pub unqueued_wrong : (im : List ℕ) (p : Place) (given : ℕ) (typed r : Bool) → r ≡ row_queued im p given → not r ≡ true → false ≡ row_right im p given typed
+pub unqueued_wrong : (im : List ℕ) (p : Place) (given : ℕ) (typed r : Bool) → r ≡ row_queued im p given → r ≡ false → false ≡ row_right im p given typed
 unfolding row_right
-unqueued_wrong im p given typed r e n = refuted _ (λ a. true≢false (sym ((all_three _ _ _).0 a).0 ∙ sym e ∙ not-true r n))
+unqueued_wrong im p given typed r e n = refuted _ (λ a. true≢false (sym ((all_three _ _ _).0 a).0 ∙ sym e ∙ n))
 
 -- a row never used
 module _ (im : List ℕ) (p : Place) (given : ℕ) (some : 0 < given) where
@@ -172,25 +172,25 @@ module _ (im : List ℕ) (p : Place) (given : ℕ) (some : 0 < given) where
       )
 
 -- a row that is not typed, and one that is
-pub untyped_implies : (typed b : Bool) → not typed ≡ true → true ≡ implies typed b
-untyped_implies true b e = absurd (false≢true e)
+pub untyped_implies : (typed b : Bool) → typed ≡ false → true ≡ implies typed b
+untyped_implies true b e = absurd (true≢false e)
 untyped_implies false b e = refl
 
-pub typed_implies : (im : List ℕ) (p : Place) (given : ℕ) (typed o : Bool) (h n : ℕ) → not typed ≡ false → h ≡ word im p → n ≡ get_or im (p.0 + 2) 0
+pub typed_implies : (im : List ℕ) (p : Place) (given : ℕ) (typed o : Bool) (h n : ℕ) → typed ≡ true → h ≡ word im p → n ≡ get_or im (p.0 + 2) 0
     → o ≡ row_words_below im p given h n (most_character + 1) → o ≡ implies typed (row_typed im p given)
 typed_implies im p given true o h n e eh en eo = eo ∙ rw (eh, en)
-typed_implies im p given false o h n e eh en eo = absurd (true≢false e)
+typed_implies im p given false o h n e eh en eo = absurd (false≢true e)
 
-pub untyped_slots : (im : List ℕ) (p : Place) (given : ℕ) (typed : Bool) → not typed ≡ true → SlotsTyped im p given typed true
+pub untyped_slots : (im : List ℕ) (p : Place) (given : ℕ) (typed : Bool) → typed ≡ false → SlotsTyped im p given typed true
 unfolding SlotsTyped
-untyped_slots im p given typed n = (λ _ t. absurd (true≢false (sym t ∙ not-true typed n)), λ _. refl)
+untyped_slots im p given typed n = (λ _ t. absurd (true≢false (sym t ∙ n)), λ _. refl)
 
 pub gathered_typed : (im : List ℕ) (p : Place) (given : ℕ) (typed : Bool) → ((k : ℕ) → get_or im k 0 < 65536) → (r : ℕ) → Gathers im (p.0 + lead) given r
-    → not typed ≡ false → SlotsTyped im p given typed (eqb (bit_and r 18374966859414961920) 0)
+    → typed ≡ true → SlotsTyped im p given typed (eqb (bit_and r 18374966859414961920) 0)
 unfolding SlotsTyped
 gathered_typed im p given typed small r g n =
     let low = gathers_low im small (p.0 + lead) given r g in
-    (λ e _ k l. omega (arith, low.0 (eqb-true _ 0 e) k l), λ f. eq-eqb _ 0 (low.1 (λ k l. omega (arith, f (not-false typed n) k l))))
+    (λ e _ k l. omega (arith, low.0 (eqb-true _ 0 e) k l), λ f. eq-eqb _ 0 (low.1 (λ k l. omega (arith, f n k l))))
 
 -- words below m, one after another: the next is in a slot, so many are left
 pub record Below (im : List ℕ) (first given from count m slot left : ℕ) : Type 0 where

@@ -1,4 +1,6 @@
 // Queues as rows of an image: the tests of one that begins at a place, and of many that follow one another.
+#![tactic(auto)]
+
 ghost use Rattle.std.specs.Prelude.{◌≡◌, true, ◌+◌, ◌%◌, ◌<◌, ◌≤◌, length};
 ghost use Rattle.paper.specs.Image.{lead, most_capacity, most_words};
 ghost use Rattle.paper.specs.Tests.{implies};

@@ -1,0 +1,35 @@
+-- The words before the next are below m.
+use mathlib.Core.Path.{refl}
+use native.Mathlib.Omega.{arith}
+use Rattle.queue_rows.specs.BufferRows.{row_words_below}
+use Rattle.queue_rows.proofs.Rows.{below_none, slot_in, below_wrong, below_more, below_done}
+use Rattle.queue_rows.proofs.slots_below.Goals as goal
+
+pub loop-left-init : goal.loop-left-init
+loop-left-init c = below_none _ _ _ _ _ _ c.requires.from_lt_given.0
+
+pub overflow_add-first-in-loop-left : goal.overflow_add-first-in-loop-left
+overflow_add-first-in-loop-left c = omega (arith, slot_in _ _ _ _ _ _ c.requires.from_lt_given.0 _ _ c.loop-left.invariant)
+
+pub offset_bounds-im-first : goal.offset_bounds-im-first
+offset_bounds-im-first c = omega (arith, slot_in _ _ _ _ _ _ c.requires.from_lt_given.0 _ _ c.loop-left.invariant)
+
+pub bounds-im-first : goal.bounds-im-first
+bounds-im-first c = omega (arith, slot_in _ _ _ _ _ _ c.requires.from_lt_given.0 _ _ c.loop-left.invariant)
+
+pub returns-then-m-wide : goal.returns-then-m-wide
+unfolding row_words_below
+returns-then-m-wide c = below_wrong _ _ _ _ _ _ c.requires.from_lt_given.0 _ _ c.loop-left.invariant _ _ c.loop-left-test.true c.wide.ensures refl c.if-m-wide.true
+
+pub overflow_add-slot : goal.overflow_add-slot
+overflow_add-slot c = omega (arith, slot_in _ _ _ _ _ _ c.requires.from_lt_given.0 _ _ c.loop-left.invariant)
+
+pub wrapped-slot-requires : goal.wrapped-slot-requires
+wrapped-slot-requires c = omega (arith, slot_in _ _ _ _ _ _ c.requires.from_lt_given.0 _ _ c.loop-left.invariant)
+
+pub loop-left-preserved : goal.loop-left-preserved
+loop-left-preserved c = below_more _ _ _ _ _ _ c.requires.from_lt_given.0 _ _ c.loop-left.invariant _ _ _ c.loop-left-test.true c.wide.ensures refl c.if-m-wide.false c.wrapped-slot.ensures
+
+pub returns : goal.returns
+unfolding row_words_below
+returns c = below_done _ _ _ _ _ _ c.requires.from_lt_given.0 _ _ c.loop-left.invariant c.loop-left-test.false
