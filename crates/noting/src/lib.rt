@@ -1,4 +1,6 @@
 // Ticks noted in lent counts as they are taken: one answer, orders in a row, or nothing where no counts are lent.
+#![tactic(auto)]
+
 ghost use Rattle.std.specs.Prelude.{◌≡◌, ◌<◌};
 ghost use Rattle.paper.specs.Image.{most_tasks};
 ghost use Rattle.paper.specs.Numbers.{answer_task};
