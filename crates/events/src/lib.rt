@@ -1,4 +1,6 @@
 // Events: the rules of a tick that come before an order, input and output done, on a sound image in which a task that waits finds room.
+#![tactic(auto)]
+
 ghost use Rattle.std.specs.Prelude.{◌≡◌, false, ◌≢◌, ◌<◌, ◌≤◌};
 ghost use Rattle.paper.specs.Image.{at as word_at, clock as clock_cell, flags as flags_cell};
 ghost use Rattle.paper.specs.Rules.{Flagged};
