@@ -1,5 +1,7 @@
 // The table of names and labels: an entry for each that is given, in their order, found by chains of entries whose words
 // have one bucket, the latest first.
+#![tactic(auto)]
+
 ghost use Rattle.std.specs.Prelude.{◌≡◌, ◌+◌, ◌<◌, ◌≤◌, length, take, drop};
 ghost use Rattle.grammar.specs.Sums.{find as found_in};
 ghost use Rattle.tables.specs.Tables.{table, text_at, entry_word, entries, bucket, Chained, Headed, Links, above, Added, most};
