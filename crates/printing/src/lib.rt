@@ -1,4 +1,6 @@
 // The public calls that print a list of words as a text: how many bytes it needs, and the text itself.
+#![tactic(auto)]
+
 ghost use Rattle.std.specs.Prelude.{◌≡◌, ◌+◌, ◌*◌, ◌<◌, ◌≤◌, length, drop};
 ghost use Rattle.grammar.specs.Printing.{printed, most_printed};
 ghost use Rattle.grammar.specs.Promises.{Prints, MeasuresText};

@@ -1,4 +1,6 @@
 // How a word is spelt where it begins a line: the row of its order, and the bytes of that row as two numbers, the front and the tail.
+#![tactic(auto)]
+
 ghost use Rattle.std.specs.Prelude.{◌≡◌, ◌+◌, ◌<◌, ◌≤◌, length};
 ghost use Rattle.packing.specs.Packed.{bytes_of};
 ghost use Rattle.rows.specs.Rows.{row_of, rows_end, front, tail, second, RowTable, FormTable, NameTable, TailTable, PlaceTable};
