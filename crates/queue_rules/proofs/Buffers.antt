@@ -1,13 +1,13 @@
 -- All buffers at once: the rows of a part are its queues, and lie in the image. Assumes nothing.
 use mathlib.Core.Path.{◌≡◌, refl, sym, ◌∙◌}
 use mathlib.Core.List.{List}
-use mathlib.Core.Bool.{Bool, true, false, not, ◌&&◌, So, and-eq-true_iff, true≢false, false≢true}
+use mathlib.Core.Bool.{Bool, true, false, ◌&&◌, So, and-eq-true_iff, true≢false, false≢true}
 use mathlib.Core.Logic.{◌↔◌, dite}
 use Prim.Native.Nat.{ℕ, ◌+◌, ◌-◌, ◌*◌, ◌/◌, ◌%◌, ◌<◌, ◌≤◌}
 use native.Mathlib.Nat.{mul-le-mul_right, mod-lt, div-add-mod', div-lt_iff_lt-mul}
 use native.Mathlib.Decide.{dec_lt}
 use native.Mathlib.Omega.{arith}
-use borrow.Author.Tests.{eqb-true, lt-ltb, le-ltb, ltb-true, not-true, not-false}
+use borrow.Author.Tests.{eqb-true, lt-ltb, le-ltb, ltb-true}
 use lib.Dec.{eqb, ltb}
 use lib.ListN.{length, get_or}
 use Rattle.paper.specs.Image.{lead, most_character, most_words, most_capacity, begin, start, total, place_at, place, at, task}
@@ -204,11 +204,11 @@ module _ (s : Shape) (im : List ℕ) (z : Sized s im) where
     pub messages_fit : ((0 < s.cm) × (s.cm ≤ most_capacity)) × (RowsBetween m end s.cm × ((end.0 ≤ length im) × (length im ≤ most_words)))
     messages_fit = fits m end s.cm (s.n * s.n) 7 (sized_fit s im z).messages (omega (arith, em, ee)) (omega arith) ee
 
-    pub inputs_wrong : (r : Bool) → AllRight im p q s.ci m r → not r ≡ true → false ≡ all
-    inputs_wrong r a n = refuted _ (λ h. true≢false (sym ((inputs_are m em p q ep eq r a).1 (λ k l. ((all_is.0 h).0 k l).0)) ∙ not-true r n))
+    pub inputs_wrong : (r : Bool) → AllRight im p q s.ci m r → r ≡ false → false ≡ all
+    inputs_wrong r a n = refuted _ (λ h. true≢false (sym ((inputs_are m em p q ep eq r a).1 (λ k l. ((all_is.0 h).0 k l).0)) ∙ n))
 
-    pub outputs_wrong : (r : Bool) → AllRight im q m s.co m r → not r ≡ true → false ≡ all
-    outputs_wrong r a n = refuted _ (λ h. true≢false (sym ((outputs_are m em q m eq em r a).1 (λ k l. ((all_is.0 h).0 k l).1)) ∙ not-true r n))
+    pub outputs_wrong : (r : Bool) → AllRight im q m s.co m r → r ≡ false → false ≡ all
+    outputs_wrong r a n = refuted _ (λ h. true≢false (sym ((outputs_are m em q m eq em r a).1 (λ k l. ((all_is.0 h).0 k l).1)) ∙ n))
 
     sent_is : (x given : ℕ) → given ≡ s.cm → (k : ℕ) → k < s.n * s.n → x ≡ start s Part.MessageBuffers + k * (lead + s.cm)
         → So (row_fine im (place_at x) given m) ↔ Sent k
@@ -216,11 +216,11 @@ module _ (s : Shape) (im : List ℕ) (z : Sized s im) where
         let i = pair_is k l in
         message_is m em x given (k / s.n) (k % s.n) (rw i.2 e) same i.0 i.1
 
-    pub messages_decide : (a b r : Bool) → AllRight im p q s.ci m a → not a ≡ false → AllRight im q m s.co m b → not b ≡ false → AllRight im m end s.cm m r → r ≡ all
+    pub messages_decide : (a b r : Bool) → AllRight im p q s.ci m a → a ≡ true → AllRight im q m s.co m b → b ≡ true → AllRight im m end s.cm m r → r ≡ all
     messages_decide a b r ra na rb nb rr =
         let is = rows_are m em m end s.cm (s.n * s.n) Sent (omega (arith, em, ee)) (λ k l. sent_is _ s.cm refl k l (omega (arith, em))) r rr in
         together r _
-        (λ t. all_is.1 (λ k l. ((inputs_are m em p q ep eq a ra).0 (not-false a na) k l, (outputs_are m em q m eq em b rb).0 (not-false b nb) k l), sent_all (is.0 t)))
+        (λ t. all_is.1 (λ k l. ((inputs_are m em p q ep eq a ra).0 na k l, (outputs_are m em q m eq em b rb).0 nb k l), sent_all (is.0 t)))
         (λ h. is.1 (λ k l. let i = pair_is k l in (all_is.0 h).1 _ _ i.0 i.1))
 
     -- all of them at once, where they have one capacity

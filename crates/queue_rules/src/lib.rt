@@ -1,4 +1,6 @@
 // The rules of an image's queues, tested.
+#![tactic(auto)]
+
 ghost use Rattle.std.specs.Prelude.{◌≡◌, true, ◌&&◌, ◌+◌, ◌<◌};
 ghost use Rattle.paper.specs.Image.{lead, at as word_at};
 ghost use Rattle.paper.specs.Queues.{Has, header_capacity, queue_word, words_from, held};
