@@ -1,4 +1,6 @@
 // A task's own machine in one lent part, which begins at the task's row: the registers, the flags, and further on the segment. What an order does there, once its words are in hand.
+#![tactic(auto)]
+
 ghost use Rattle.std.specs.Prelude.{◌≡◌, cond, ◌+◌, ◌-◌, ◌/◌, ◌%◌, ◌<◌, ◌≤◌, eqb, set as set_word, length};
 ghost use Rattle.paper.specs.Image.{address as address_at};
 ghost use Rattle.paper.specs.Orders.{op_of, order_of, two_registers, mod_word, stack, compared as compared_by, reading, storing, sets, unless_zero, calls as calls_by, found, effect, decided};
