@@ -6,7 +6,7 @@ use mathlib.Core.Logic.{◌≢◌, dite}
 use Prim.Native.Nat.{ℕ, ◌/◌, ◌%◌, ◌<◌}
 use native.Mathlib.Decide.{ℕ_discrete}
 use native.Mathlib.Omega.{arith}
-use borrow.Author.Tests.{ltb-true, lt-leb, eq-eqb, ne_eqb, not-true, not-false}
+use borrow.Author.Tests.{ltb-true, lt-leb, eq-eqb, ne_eqb}
 use lib.Dec.{eqb, leb, ltb}
 use lib.ListN.{get_or}
 use Rattle.paper.specs.Image.{most_tasks, most_character, at, task, reg, flags, status, peer, busy, character}
@@ -66,15 +66,15 @@ module _ (s : Shape) (im : List ℕ) (i : Task) where
 
   -- what a task that waits for a message asks
   module _ (k : ℕ) (a b : Bool) (ek : k ≡ pending s im i) (v : ℕ) (eb : b ≡ peered s im i) (ea : a ≡ (eqb k v && b)) where
-    pub not_asked : (rest : Bool) → not a ≡ true → false ≡ (eqb (pending s im i) v && peered s im i && rest)
-    not_asked rest n = let e = not-true a n in rw (← ek, ← eb, ← ea, e)
+    pub not_asked : (rest : Bool) → a ≡ false → false ≡ (eqb (pending s im i) v && peered s im i && rest)
+    not_asked rest n = rw (← ek, ← eb, ← ea, n)
 
-    pub asked_so : (r rest : Bool) → r ≡ rest → not a ≡ false → r ≡ (eqb (pending s im i) v && peered s im i && rest)
-    asked_so r rest er n = let e = not-false a n in rw (er, ← ek, ← eb, ← ea, e)
+    pub asked_so : (r rest : Bool) → r ≡ rest → a ≡ true → r ≡ (eqb (pending s im i) v && peered s im i && rest)
+    asked_so r rest er n = rw (er, ← ek, ← eb, ← ea, n)
 
-    pub partner_in : (p : ℕ) → p ≡ at s im (peer i) → not a ≡ false → p < s.n
+    pub partner_in : (p : ℕ) → p ≡ at s im (peer i) → a ≡ true → p < s.n
     partner_in p ep n =
-        let t : (eqb k v && b) ≡ true = sym ea ∙ not-false a n in
+        let t : (eqb k v && b) ≡ true = sym ea ∙ n in
         ltb-true p s.n (rw ep (right (eqb (at s im (reg i 2)) (at s im (peer i))) _ (sym eb ∙ right (eqb k v) b t)))
       where
         right : (x y : Bool) → (x && y) ≡ true → y ≡ true

@@ -1,4 +1,6 @@
 // The rules of a task, tested: its place in the ready queue, its port, its flags and its status.
+#![tactic(auto)]
+
 ghost use Rattle.std.specs.Prelude.{◌≡◌, ◌&&◌, ◌||◌, ◌<◌, eqb, leb, length};
 ghost use Rattle.paper.specs.Image.{at as word_at, reg as reg_cell, flags as flags_cell, status as status_cell, peer as peer_cell, busy as busy_cell, character as character_cell};
 ghost use Rattle.paper.specs.Queues.{Has, held, empty as empty_of, full as full_of};
