@@ -1,4 +1,6 @@
 // Values: numbers by their digits, and sums, differences and products in range.
+#![tactic(auto)]
+
 ghost use Rattle.std.specs.Prelude.{◌≡◌, ℕ, ◌+◌, ◌-◌, ◌*◌, ◌≤◌, min};
 ghost use Rattle.grammar.specs.Sums.{in_range, decimal, both, joins, end_of_range};
 ghost use Rattle.grammar.specs.Sums.{plus as plus_of, minus as minus_of, times as times_of};
