@@ -11,7 +11,6 @@ use lib.Seq.{take-suc, take-suc-set, take_all, length-take-le}
 use Rattle.paper.specs.Runner.{words_of}
 use Rattle.writes.specs.Written.{written, kept_length}
 use Rattle.files.specs.Bytes.{words_length}
-use Rattle.io.specs.Counts.{IsPrefixLen}
 use Rattle.disk.specs.declared.Loaded.{Loaded}
 use Rattle.disk.specs.declared.Start.{Start}
 use Rattle.disk.specs.declared.Words.{Words}
@@ -89,7 +88,7 @@ pub starts_full : (b : List ℕ) (n : ℕ) (odd : Bool) → n ≤ length b → n
 starts_full b n odd h e full = (h, (e, λ _. full))
 
 -- what was put lies in its target
-pub counted : (b : List ℕ) (n : ℕ) → n ≤ length b → IsPrefixLen n b
+pub counted : (b : List ℕ) (n : ℕ) → n ≤ length b → (n ≤ length b) × (n ≡ length (take n b))
 counted b n h = (h, sym (length-take-le n b h))
 
 -- a part of a buffer is no longer
