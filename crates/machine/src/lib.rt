@@ -1,4 +1,6 @@
 // Orders of a task's own machine, one after another: fetched, looked up in the table, told apart by kind, and carried out.
+#![tactic(auto)]
+
 ghost use Rattle.std.specs.Prelude.{◌≡◌, ◌/◌, ◌%◌, ◌<◌, get_or};
 ghost use Rattle.paper.specs.Orders.{two_registers};
 ghost use Rattle.paper.specs.declared.Op.{Op};
