@@ -1,9 +1,10 @@
 -- All rules, in whatever order they are tested, and numbers 1 to 6, one after another. Assumes nothing.
 use mathlib.Core.Path.{◌≡◌, refl, sym, ◌∙◌}
 use mathlib.Core.List.{List}
-use mathlib.Core.Bool.{Bool, true, false, not, ◌&&◌, and-eq-true_iff}
+use mathlib.Core.Bool.{Bool, true, false, ◌&&◌, and-eq-true_iff}
 use Prim.Native.Nat.{ℕ, ◌<◌, ◌≤◌}
-use borrow.Author.Tests.{lt-ltb, le-ltb, not-true, not-false}
+use borrow.Author.Tests.{lt-ltb, le-ltb}
+use Rattle.std.proofs.lemmas.Bool.{not_from_false}
 use lib.Dec.{eqb, leb}
 use lib.ListN.{length}
 use Rattle.paper.specs.Image.{header_words, mark, edition, header_word, shape_of, at, clock, task}
@@ -30,19 +31,19 @@ module _ (s : Shape) (im : List ℕ) (i : Task) where
   unfolding task_holds
   task_parts h = let p = simp and-eq-true_iff at h in (p.0.0.0.0.0, p.0.0.0.0.1, p.0.0.0.1, p.0.0.1, p.0.1)
 
-  pub once_fails : (b : Bool) → b ≡ readied_once s im i → not b ≡ true → false ≡ task_holds s im i
-  once_fails b e n = part_fails _ _ b (λ h. (task_parts h).2) e n
+  pub once_fails : (b : Bool) → b ≡ readied_once s im i → b ≡ false → false ≡ task_holds s im i
+  once_fails b e n = part_fails _ _ b (λ h. (task_parts h).2) e (not_from_false b n)
 
-  pub port_fails : (b : Bool) → b ≡ port_holds s im i → not b ≡ true → false ≡ task_holds s im i
-  port_fails b e n = part_fails _ _ b (λ h. (task_parts h).3) e n
+  pub port_fails : (b : Bool) → b ≡ port_holds s im i → b ≡ false → false ≡ task_holds s im i
+  port_fails b e n = part_fails _ _ b (λ h. (task_parts h).3) e (not_from_false b n)
 
-  pub flags_fail : (b : Bool) → b ≡ flags_hold s im i → not b ≡ true → false ≡ task_holds s im i
-  flags_fail b e n = part_fails _ _ b (λ h. (task_parts h).4) e n
+  pub flags_fail : (b : Bool) → b ≡ flags_hold s im i → b ≡ false → false ≡ task_holds s im i
+  flags_fail b e n = part_fails _ _ b (λ h. (task_parts h).4) e (not_from_false b n)
 
-  pub task_tested : (r p f t : Bool) → buffers_hold s im i ≡ true → characters s im i ≡ true → r ≡ readied_once s im i → not r ≡ false
-      → p ≡ port_holds s im i → not p ≡ false → f ≡ flags_hold s im i → not f ≡ false → t ≡ status_holds s im i → t ≡ task_holds s im i
+  pub task_tested : (r p f t : Bool) → buffers_hold s im i ≡ true → characters s im i ≡ true → r ≡ readied_once s im i → r ≡ true
+      → p ≡ port_holds s im i → p ≡ true → f ≡ flags_hold s im i → f ≡ true → t ≡ status_holds s im i → t ≡ task_holds s im i
   unfolding task_holds
-  task_tested r p f t hb hc er nr ep np ef nf et = rw (et, hb, hc, sym er ∙ not-false r nr, sym ep ∙ not-false p np, sym ef ∙ not-false f nf)
+  task_tested r p f t hb hc er nr ep np ef nf et = rw (et, hb, hc, sym er ∙ nr, sym ep ∙ np, sym ef ∙ nf)
 
 -- what holds for every task holds for one
 module _ (s : Shape) (im : List ℕ) (k : ℕ) (l : k < s.n) where
@@ -56,9 +57,9 @@ module _ (s : Shape) (im : List ℕ) (k : ℕ) (l : k < s.n) where
   each_task h = let p = task_parts s im (task k) ((every_is s.n _).0 h k l) in (p.0, p.1)
 
 -- one task after another
-pub tasks_fail : (s : Shape) (im : List ℕ) (k : ℕ) (r : Bool) → k < s.n → r ≡ task_holds s im (task k) → not r ≡ true
+pub tasks_fail : (s : Shape) (im : List ℕ) (k : ℕ) (r : Bool) → k < s.n → r ≡ task_holds s im (task k) → r ≡ false
     → false ≡ every_task s (task_holds s im)
-tasks_fail s im k r hk er nr = sym (every_fails s.n k _ hk (sym er ∙ not-true r nr))
+tasks_fail s im k r hk er nr = sym (every_fails s.n k _ hk (sym er ∙ nr))
 
 pub clock_tested : (s : Shape) (im : List ℕ) (c : ℕ) (e p o : Bool) → c ≡ at s im clock → e ≡ empty s im Queue.Ready
     → p ≡ implies e (eqb c 0) → o ≡ (leb c s.slice && p) → o ≡ clock_holds s im
@@ -72,32 +73,32 @@ module _ (s : Shape) (im : List ℕ) where
   unfolding rules_hold readied_tasks
   parts h = let p = simp and-eq-true_iff at h in (p.0.0.0, p.0.0.1, p.0.1, p.1)
 
-  pub ready_fails : (b : Bool) → b ≡ queue_holds s im Queue.Ready → not b ≡ true → false ≡ rules_hold s im
-  ready_fails b e n = part_fails _ _ b (λ h. (parts h).0) e n
+  pub ready_fails : (b : Bool) → b ≡ queue_holds s im Queue.Ready → b ≡ false → false ≡ rules_hold s im
+  ready_fails b e n = part_fails _ _ b (λ h. (parts h).0) e (not_from_false b n)
 
-  pub clock_fails : (b : Bool) → b ≡ clock_holds s im → not b ≡ true → false ≡ rules_hold s im
-  clock_fails b e n = part_fails _ _ b (λ h. (parts h).2) e n
+  pub clock_fails : (b : Bool) → b ≡ clock_holds s im → b ≡ false → false ≡ rules_hold s im
+  clock_fails b e n = part_fails _ _ b (λ h. (parts h).2) e (not_from_false b n)
 
-  pub buffers_fail : (b : Bool) → b ≡ (every_task s (buffers_hold s im) && every_task s (characters s im)) → not b ≡ true → false ≡ rules_hold s im
+  pub buffers_fail : (b : Bool) → b ≡ (every_task s (buffers_hold s im) && every_task s (characters s im)) → b ≡ false → false ≡ rules_hold s im
   buffers_fail b e n =
       part_fails _ _ b (λ h.
-      (and-eq-true_iff _ _).1 ((every_is s.n _).1 (λ k l. (each_task s im k l (parts h).3).0), (every_is s.n _).1 (λ k l. (each_task s im k l (parts h).3).1))) e n
+      (and-eq-true_iff _ _).1 ((every_is s.n _).1 (λ k l. (each_task s im k l (parts h).3).0), (every_is s.n _).1 (λ k l. (each_task s im k l (parts h).3).1))) e (not_from_false b n)
 
-  pub others_fail : (b : Bool) → b ≡ all_below s.n (held s im Queue.Ready) → not b ≡ true → false ≡ rules_hold s im
-  others_fail b e n = part_fails _ _ b (λ h. (parts h).1) e n
+  pub others_fail : (b : Bool) → b ≡ all_below s.n (held s im Queue.Ready) → b ≡ false → false ≡ rules_hold s im
+  others_fail b e n = part_fails _ _ b (λ h. (parts h).1) e (not_from_false b n)
 
-  pub rules_tested : (q c h t : Bool) → q ≡ queue_holds s im Queue.Ready → not q ≡ false → c ≡ clock_holds s im → not c ≡ false
-      → h ≡ all_below s.n (held s im Queue.Ready) → not h ≡ false → t ≡ every_task s (task_holds s im) → t ≡ rules_hold s im
+  pub rules_tested : (q c h t : Bool) → q ≡ queue_holds s im Queue.Ready → q ≡ true → c ≡ clock_holds s im → c ≡ true
+      → h ≡ all_below s.n (held s im Queue.Ready) → h ≡ true → t ≡ every_task s (task_holds s im) → t ≡ rules_hold s im
   unfolding rules_hold readied_tasks
-  rules_tested q c h t eq nq ec nc eh nh et = rw (et, sym eq ∙ not-false q nq, sym ec ∙ not-false c nc, sym eh ∙ not-false h nh)
+  rules_tested q c h t eq nq ec nc eh nh et = rw (et, sym eq ∙ nq, sym ec ∙ nc, sym eh ∙ nh)
 
   -- the ready queue is one where it obeys the rules
   pub ready_queued : queue_holds s im Queue.Ready ≡ true → queued s im Queue.Ready ≡ true
   ready_queued h = (queued_is s im Queue.Ready).1 ((kept_is s im Queue.Ready).0 h).0
 
 -- a test that was passed
-pub passed_so : (b x : Bool) → b ≡ x → not b ≡ false → x ≡ true
-passed_so b x e n = sym e ∙ not-false b n
+pub passed_so : (b x : Bool) → b ≡ x → b ≡ true → x ≡ true
+passed_so b x e n = sym e ∙ n
 
 -- what the tests 3, 4 and 5 leave to the later ones
 pub ranged_so : (s : Shape) (r : Bool) → r ≡ out_of_range s → r ≡ false → Ranged s
@@ -124,45 +125,38 @@ module _ (im : List ℕ) where
 
   module _ (long : header_words ≤ length im) (a b : ℕ) (m : Bool) (ea : a ≡ header_word im 0) (eb : b ≡ header_word im 1)
       (em : m ≡ (eqb a mark && eqb b edition)) where
-    pub not_marked_so : not m ≡ true → Verdict.Refused Refusal.NotMarked ≡ check im
+    pub not_marked_so : m ≡ false → Verdict.Refused Refusal.NotMarked ≡ check im
     unfolding check
-    not_marked_so n = let e = not-true m n in rw (le-ltb (length im) header_words long, ← ea, ← eb, ← em, e)
+    not_marked_so n = rw (le-ltb (length im) header_words long, ← ea, ← eb, ← em, n)
 
-    module _ (marked : not m ≡ false) (s : Shape) (es : s ≡ shape_of im) (r : Bool) (er : r ≡ out_of_range s) where
+    module _ (marked : m ≡ true) (s : Shape) (es : s ≡ shape_of im) (r : Bool) (er : r ≡ out_of_range s) where
       pub out_of_range_so : r ≡ true → Verdict.Refused Refusal.OutOfRange ≡ check im
       unfolding check
       out_of_range_so e =
-          let f = not-false m marked in
-          rw (le-ltb (length im) header_words long, ← ea, ← eb, ← em, f, ← es, ← er, e)
+          rw (le-ltb (length im) header_words long, ← ea, ← eb, ← em, marked, ← es, ← er, e)
 
       module _ (inside : r ≡ false) (p : Bool) (ep : p ≡ not_packed s) where
         pub not_packed_so : p ≡ true → Verdict.Refused Refusal.NotPacked ≡ check im
         unfolding check
         not_packed_so e =
-            let f = not-false m marked in
-            rw (le-ltb (length im) header_words long, ← ea, ← eb, ← em, f, ← es, ← er, inside, ← ep, e)
+            rw (le-ltb (length im) header_words long, ← ea, ← eb, ← em, marked, ← es, ← er, inside, ← ep, e)
 
         module _ (packed : p ≡ false) (w : Bool) (ew : w ≡ wrong_segments s im) where
           pub wrong_segments_so : w ≡ true → Verdict.Refused Refusal.WrongSegments ≡ check im
           unfolding check
           wrong_segments_so e =
-              let f = not-false m marked in
-              rw (le-ltb (length im) header_words long, ← ea, ← eb, ← em, f, ← es, ← er, inside, ← ep, packed, ← ew, e)
+              rw (le-ltb (length im) header_words long, ← ea, ← eb, ← em, marked, ← es, ← er, inside, ← ep, packed, ← ew, e)
 
           module _ (right : w ≡ false) (o : Bool) (eo : o ≡ rules_hold s im) where
-            pub rule_broken_so : not o ≡ true → Verdict.Refused Refusal.RuleBroken ≡ check im
+            pub rule_broken_so : o ≡ false → Verdict.Refused Refusal.RuleBroken ≡ check im
             unfolding check
             rule_broken_so n =
-                let f = not-false m marked in
-                let e = not-true o n in
-                rw (le-ltb (length im) header_words long, ← ea, ← eb, ← em, f, ← es, ← er, inside, ← ep, packed, ← ew, right, ← eo, e)
+                rw (le-ltb (length im) header_words long, ← ea, ← eb, ← em, marked, ← es, ← er, inside, ← ep, packed, ← ew, right, ← eo, n)
 
-            pub fine_so : not o ≡ false → Verdict.Fine ≡ check im
+            pub fine_so : o ≡ true → Verdict.Fine ≡ check im
             unfolding check
             fine_so n =
-                let f = not-false m marked in
-                let e = not-false o n in
-                rw (le-ltb (length im) header_words long, ← ea, ← eb, ← em, f, ← es, ← er, inside, ← ep, packed, ← ew, right, ← eo, e)
+                rw (le-ltb (length im) header_words long, ← ea, ← eb, ← em, marked, ← es, ← er, inside, ← ep, packed, ← ew, right, ← eo, n)
 
 -- the number of a verdict
 pub numbered : (im : List ℕ) (v : Verdict) (n : ℕ) → v ≡ check im → n ≡ verdict_number v → Checks im n

@@ -1,4 +1,6 @@
 // Checking an image: numbers 1 to 6.
+#![tactic(auto)]
+
 ghost use Rattle.std.specs.Prelude.{◌≡◌, true, ◌<◌};
 ghost use Rattle.paper.specs.Image.{shape_of as shape_given};
 ghost use Rattle.paper.specs.Queues.{held};
