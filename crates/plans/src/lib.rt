@@ -1,4 +1,6 @@
 // A plan: its verdict, its shape and its size.
+#![tactic(auto)]
+
 ghost use Rattle.std.specs.Prelude.{◌≡◌, ◌≤◌};
 ghost use Rattle.paper.specs.Plans.{plan_tasks, segment_length, program_length, segment_words, plan_shape as shape_planned};
 ghost use Rattle.paper.specs.Image.{most_tasks, start, total};
