@@ -1,4 +1,6 @@
 // Ticks: the rules of the first task, one after another, for as long as ticks follow.
+#![tactic(auto)]
+
 ghost use Rattle.std.specs.Prelude.{◌≡◌, false, ◌<◌, ◌≤◌, min};
 ghost use Rattle.paper.specs.Image.{at as word_at, clock as clock_cell, flags as flags_cell};
 ghost use Rattle.paper.specs.Queues.{empty as empty_of};
