@@ -2,6 +2,7 @@
 use Rattle.services.proofs.Needs.{not_full, then_some, too_large, small_enough, comes_to_wait, comes_to_pass, put_out}
 use mathlib.Core.Path.{refl}
 use borrow.Author.Rules.{rules}
+use Rattle.std.proofs.Common.{arith}
 use Rattle.services.proofs.output.Goals as goal
 
 pub returns-then-w-gt-MOST_CHARACTER : goal.returns-then-w-gt-MOST_CHARACTER
@@ -9,7 +10,7 @@ returns-then-w-gt-MOST_CHARACTER c = record { im_after = search too_large; sound
 
 pub returns-then-full : goal.returns-then-full
 returns-then-full c =
-    let small = small_enough _ _ _ _ c.own-w.ensures c.if-w-gt-MOST_CHARACTER.false in
+    let small = small_enough c.args.s c.args.im.now c.args.x.task c.own-w.result c.own-w.ensures (omega arith) in
     record { im_after = comes_to_wait _ _ _ _ small _ c.full.ensures _ _ c.if-full.true refl c.wait.ensures.im_after; sound_2 = search rules }
 
 pub append-requires : goal.append-requires
