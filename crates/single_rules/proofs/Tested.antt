@@ -6,7 +6,7 @@ use mathlib.Core.Logic.{◌≢◌}
 use Prim.Native.Nat.{ℕ, ◌+◌, ◌-◌, ◌*◌, ◌/◌, ◌%◌, ◌<◌, ◌≤◌}
 use native.Mathlib.Nat.{mod-lt, div-lt_iff_lt-mul, mul-le-mul_right}
 use native.Mathlib.Omega.{arith}
-use borrow.Author.Tests.{lt-ltb, le-ltb, eq-eqb, ne_eqb, not-true, not-false}
+use borrow.Author.Tests.{lt-ltb, le-ltb, eq-eqb, ne_eqb}
 use lib.Dec.{eqb, leb, ltb}
 use Rattle.paper.specs.Image.{most_tasks, most_character, at, task, clock, flags, status, peer, busy, character}
 use Rattle.paper.specs.Queues.{Has, header_capacity, head, tail, count, capacity, held, empty}
@@ -23,11 +23,11 @@ use Rattle.single_rules.specs.declared.Rule.{Rule}
 use Rattle.single_rules.specs.declared.Kind.{Kind}
 
 -- a test that was passed
-pub passed_so : (b x : Bool) → b ≡ x → not b ≡ false → x ≡ true
-passed_so b x e n = sym e ∙ not-false b n
+pub passed_so : (b x : Bool) → b ≡ x → b ≡ true → x ≡ true
+passed_so b x e n = sym e ∙ n
 
-failed_so : (b x : Bool) → b ≡ x → not b ≡ true → x ≡ false
-failed_so b x e n = sym e ∙ not-true b n
+failed_so : (b x : Bool) → b ≡ x → b ≡ false → x ≡ false
+failed_so b x e n = sym e ∙ n
 
 -- the rules of a task
 module _ (s : Shape) (im : List ℕ) (i : Task) where
@@ -81,16 +81,16 @@ module _ (s : Shape) (im : List ℕ) (i : Task) where
 
   -- its place in the ready queue
   module _ (q : Bool) (eq : q ≡ queued s im Queue.Ready) where
-    pub unqueued : not q ≡ true → true ≡ once_if_ready s im i
+    pub unqueued : q ≡ false → true ≡ once_if_ready s im i
     unfolding once_if_ready
     unqueued n = let e = failed_so q _ eq n in rw e
 
-    module _ (nq : not q ≡ false) (t : Bool) (et : t ≡ all_below s.n (held s im Queue.Ready)) where
-      pub others_held : not t ≡ true → true ≡ once_if_ready s im i
+    module _ (nq : q ≡ true) (t : Bool) (et : t ≡ all_below s.n (held s im Queue.Ready)) where
+      pub others_held : t ≡ false → true ≡ once_if_ready s im i
       unfolding once_if_ready readied_tasks
       others_held n = let e = failed_so t _ et n in let f = passed_so q _ eq nq in rw (f, e)
 
-      pub once_tested : not t ≡ false → (o : Bool) → o ≡ readied_once s im i → o ≡ once_if_ready s im i
+      pub once_tested : t ≡ true → (o : Bool) → o ≡ readied_once s im i → o ≡ once_if_ready s im i
       unfolding once_if_ready readied_tasks
       once_tested n o eo = let e = passed_so t _ et n in let f = passed_so q _ eq nq in rw (eo, f, e)
 
@@ -139,19 +139,19 @@ module _ (s : Shape) (im : List ℕ) (q : Queue) where
   -- the words that it holds and its free slots, where it obeys the rules of queues
   module _ (b : Bool) (eb : b ≡ queued s im q) where
     module _ (m : ℕ) where
-      pub below_unqueued : not b ≡ true → true ≡ below s im q m
+      pub below_unqueued : b ≡ false → true ≡ below s im q m
       unfolding below
       below_unqueued n = let e = failed_so b _ eb n in rw e
 
-      pub below_tested : not b ≡ false → (o : Bool) → o ≡ all_below m (held s im q) → o ≡ below s im q m
+      pub below_tested : b ≡ true → (o : Bool) → o ≡ all_below m (held s im q) → o ≡ below s im q m
       unfolding below
       below_tested n o eo = let e = passed_so b _ eb n in rw (eo, e)
 
-    pub zeros_unqueued : not b ≡ true → true ≡ free_zeros s im q
+    pub zeros_unqueued : b ≡ false → true ≡ free_zeros s im q
     unfolding free_zeros
     zeros_unqueued n = let e = failed_so b _ eb n in rw e
 
-    pub zeros_tested : not b ≡ false → (o : Bool) → o ≡ cleared s im q → o ≡ free_zeros s im q
+    pub zeros_tested : b ≡ true → (o : Bool) → o ≡ cleared s im q → o ≡ free_zeros s im q
     unfolding free_zeros
     zeros_tested n o eo = let e = passed_so b _ eb n in rw (eo, e)
 

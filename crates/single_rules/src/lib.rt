@@ -1,4 +1,6 @@
 // The rules of an image one by one, each tested of one task, of one queue or of the clock.
+#![tactic(auto)]
+
 pub mod of_queues;
 pub mod of_tasks;
 
