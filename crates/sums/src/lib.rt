@@ -1,4 +1,6 @@
 // Sums, products and terms: three readers that call one another.
+#![tactic(auto)]
+
 ghost use Rattle.std.specs.Prelude.{◌≡◌, ℕ, ◌+◌, ◌*◌, ◌≤◌, length};
 ghost use Rattle.grammar.specs.Sums.{value_of, sum_of, sum as sum_by, product as product_by, term as term_by};
 ghost use Rattle.grammar.specs.declared.Sign.{Sign};
