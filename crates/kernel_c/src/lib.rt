@@ -1,4 +1,6 @@
 // The kernel for programs in C and Rust: the public calls of `kernel`, in the paper's numbers. No call requires anything.
+#![tactic(auto)]
+
 pub mod broken;
 pub mod looks;
 pub mod prints;
