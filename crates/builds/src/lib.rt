@@ -1,4 +1,6 @@
 // Building an image from a plan.
+#![tactic(auto)]
+
 ghost use Rattle.std.specs.Prelude.{◌≡◌, length};
 ghost use Rattle.paper.specs.Image.{ord, total};
 ghost use Rattle.paper.specs.Plans.{fresh_part, fresh};
