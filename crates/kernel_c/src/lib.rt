@@ -1,4 +1,5 @@
-// The kernel for programs in C and Rust: the public calls of `kernel`, in the paper's numbers. No call requires anything.
+// The kernel for programs in C and Rust, which have it from `kernel_archive`: the public calls of `kernel`, in the paper's numbers.
+// No call requires anything.
 #![tactic(auto)]
 
 pub mod broken;
