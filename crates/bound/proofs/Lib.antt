@@ -1,1 +1,3 @@
+pub mod Ticks
+pub mod Falls
 pub mod Reached

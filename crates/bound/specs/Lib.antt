@@ -2,4 +2,3 @@ pub mod Bound
 pub mod Measure
 pub mod Line
 pub mod Ticks
-pub mod Falls

@@ -25,9 +25,10 @@ use Rattle.laws.specs.Frame.{Frame, Apart, frame_none, frame_more, frame_appende
 use Rattle.laws.specs.Changes.{frame_woken, frame_next}
 use Rattle.event_laws.specs.Turns.{leads_list}
 use Rattle.event_laws.specs.Walk.{input_any, done_any, event_any}
-use Rattle.event_laws.specs.Stays.{first_leads, first_task, next_owner}
-use Rattle.event_laws.specs.Touched.{event_parts, TickCell, tick_frame}
-use Rattle.event_laws.specs.First.{held_some, held_first, off_table}
+use Rattle.event_laws.proofs.Stays.{first_leads, first_task, next_owner}
+use Rattle.event_laws.specs.Touched.{event_parts, TickCell}
+use Rattle.event_laws.proofs.Touched.{tick_frame}
+use Rattle.event_laws.proofs.First.{held_some, held_first, off_table}
 use Rattle.bound.specs.Bound.{Behind, IsFirst, Untouched}
 
 -- a wake changes the task's entry of the status table, the ready queue and perhaps the clock, and no other cell

@@ -1,17 +1,15 @@
--- What an accepted event does to the ready queue and to what the first task can still use. Assumes nothing.
+-- What an accepted event does to the ready queue and to what the first task can still use; the services, told apart. Assumes nothing.
 use Rattle.std.specs.Prelude.{◌≡◌, Bool, false, ◌||◌, ◌≢◌, ◌⊎◌, ℕ, ◌+◌, ◌<◌, ◌≤◌}
 use Rattle.std.proofs.Math.Path.{refl, sym}
-use Rattle.std.proofs.Common.{ap, ◌∙◌, true≢false, inl, inr}
+use Rattle.std.proofs.Common.{◌∙◌, inl}
 use mathlib.Core.List.{List, [], ◌∷◌, ◌++◌, append-nil}
 use native.Mathlib.Omega.{arith}
-use Rattle.paper.specs.Image.{at, clock, flags, status}
+use Rattle.paper.specs.Image.{at, clock, flags}
 use Rattle.paper.specs.Queues.{taken, held, empty}
-use Rattle.paper.specs.Flags.{flags_of, error, is_ready, cc as condition}
-use Rattle.paper.specs.Waking.{Answered, Outcome, with_status, woken, left}
+use Rattle.paper.specs.Flags.{flags_of, error, cc as condition}
+use Rattle.paper.specs.Waking.{Answered, with_status, woken, left}
 use Rattle.paper.specs.Services.{fault_of, service_faulted, waiting}
-use Rattle.paper.specs.Machines.{Machine, own}
-use Rattle.paper.specs.Orders.{after, order, after_order}
-use Rattle.paper.specs.Events.{event_of, running, turned, tick, input, output_done, happening}
+use Rattle.paper.specs.Events.{event_of, running, turned}
 use Rattle.paper.specs.Rules.{Good}
 use Rattle.paper.specs.Numbers.{kind, answer_task}
 use Rattle.paper.specs.declared.Task.{Task}
@@ -21,29 +19,24 @@ use Rattle.paper.specs.declared.Queue.{Queue}
 use Rattle.paper.specs.declared.Service.{Service}
 use Rattle.paper.specs.declared.Fault.{Fault}
 use Rattle.paper.specs.declared.Event.{Event}
-use Rattle.paper.specs.declared.Effect.{Effect}
 use Rattle.paper.specs.declared.Answer.{Answer}
 use Rattle.paper.specs.declared.Refusal.{Refusal}
 use Rattle.paper.specs.declared.Reply.{Reply}
 use Rattle.laws.specs.Cells.{at_same}
 use Rattle.laws.specs.Sound.{Sound, sound}
-use Rattle.laws.specs.Effects.{fields, error_after}
-use Rattle.laws.specs.Orders.{own_flags}
-use Rattle.laws.specs.Agree.{own_after}
+use Rattle.laws.specs.Effects.{fields}
 use Rattle.laws.specs.Checked.{good_sound}
-use Rattle.laws.specs.Events.{Formed, event_formed, words_any}
-use Rattle.laws.specs.Frame.{Apart, frame_none, frame_put, kept, kept_clock, kept_empty}
-use Rattle.laws.specs.Room.{waits_not}
+use Rattle.laws.specs.Events.{words_any}
+use Rattle.laws.specs.Frame.{Apart, frame_none, frame_put, kept_clock, kept_empty}
 use Rattle.laws.specs.Changes.{header_part, moved_parts, small_error}
-use Rattle.event_laws.specs.Own.{own_parts, own_picked, clock_apart}
+use Rattle.event_laws.specs.Own.{own_parts}
 use Rattle.event_laws.specs.Turns.{joined_clock, Leads, leads_sound, leads_in, leads_list, left_list, turned_list}
 use Rattle.event_laws.specs.Serving.{served_nearly, wakes_whom}
-use Rattle.event_laws.specs.Walk.{ServiceCases, Begins, Spends, tick_any, input_any, done_any, event_any}
-use Rattle.event_laws.specs.Stays.{begins_leads, served_apart, stopped_is, order_frame, order_clock, first_leads, input_apart, next_apart}
-use Rattle.event_laws.specs.Touched.{event_parts}
-use Rattle.event_laws.specs.First.{KeepsPlace, apart_keeps, woke_keeps, faulted_keeps, served_keeps, served_woke, begins_held, begins_keeps}
+use Rattle.event_laws.specs.Walk.{ServiceCases, Begins}
+use Rattle.event_laws.proofs.Stays.{begins_leads, served_apart, first_leads}
+use Rattle.event_laws.specs.First.{KeepsPlace}
+use Rattle.event_laws.proofs.First.{faulted_keeps, served_keeps, served_woke, begins_held, begins_keeps}
 use Rattle.bound.specs.Bound.{tick_count}
-use Rattle.bound.specs.Line.{input_sound, next_sound, input_frame, done_frame}
 
 -- the first task is gone from its place: every other one moved up
 pub record LeavesPlace (s : Shape) (im m : List ℕ) : Type 0 where
@@ -54,10 +47,10 @@ pub record LeavesPlace (s : Shape) (im m : List ℕ) : Type 0 where
   pub now : held s m Queue.Ready ≡ others ++ joined
 
 module _ {s : Shape} {im : List ℕ} {i : Task} (l : Leads s im i) where
-  left_leaves : (k p : ℕ) → LeavesPlace s im (left s (with_status s im i k p))
+  pub left_leaves : (k p : ℕ) → LeavesPlace s im (left s (with_status s im i k p))
   left_leaves k p = record { leader = i.0; others = held s _ Queue.Ready; joined = []; was = left_list l k p; now = sym (append-nil _) }
 
-  turned_leaves : LeavesPlace s im (turned s im i)
+  pub turned_leaves : LeavesPlace s im (turned s im i)
   turned_leaves = record { leader = i.0; others = held s (taken s im Queue.Ready) Queue.Ready; joined = i.0 ∷ []; was = leads_list l; now = turned_list l }
 
 -- also from the image that a service begins from
@@ -84,25 +77,25 @@ pub data Step (s : Shape) (im : List ℕ) : ℕ → Reply → List ℕ → Type 
   refused : (r : Refusal) → Step s im 0 (Reply.Refused r) im
 
 -- and so a tick, which is accepted
-abbrev TickStep : Shape → List ℕ → Answered → Type 0
+abbrev pub TickStep : Shape → List ℕ → Answered → Type 0
 TickStep s im t = Step s im 1 (Reply.Accepted t.answer) t.image
 
 -- the parts that an order changes, the clock with it
-abbrev order_parts : Part → Bool
+abbrev pub order_parts : Part → Bool
 order_parts p = own_parts p || header_part p
 
 -- how many of the ticks that the first task can use an event is
-abbrev uses : Event → ℕ
+abbrev pub uses : Event → ℕ
 uses Event.Tick = 1
 uses (Event.Input i c) = 0
 uses (Event.OutputDone i) = 0
 uses Event.Malformed = 0
 
-uses_count : (s : Shape) (k d c : ℕ) → tick_count k d c ≡ uses (event_of s k d c)
+pub uses_count : (s : Shape) (k d c : ℕ) → tick_count k d c ≡ uses (event_of s k d c)
 uses_count s k d c = words_any s k d c (λ e. tick_count k d c ≡ uses e) (λ t. rw t) (λ f _ _. rw f) (λ f _. rw f) (λ f. rw f)
 
 -- a word moved and a task woken, where the ready queue is not empty: no dispatch
-woke_clock : {s : Shape} {im m : List ℕ} → Apart s moved_parts im m → Sound s m → (k : Task) → k.0 < s.n → empty s im Queue.Ready ≡ false → at s (woken s m k) clock ≡ at s im clock
+pub woke_clock : {s : Shape} {im m : List ℕ} → Apart s moved_parts im m → Sound s m → (k : Task) → k.0 < s.n → empty s im Queue.Ready ≡ false → at s (woken s m k) clock ≡ at s im clock
 unfolding woken
 woke_clock {s} {im} {m} a h k hk some = rw (kept_empty moved_parts a Queue.Ready tt refl ∙ some) (joined_clock s m k hk h ∙ kept_clock moved_parts a refl)
 
@@ -129,7 +122,7 @@ module _ (s : Shape) (im : List ℕ) (g : Good s im) (some : empty s im Queue.Re
   l = first_leads s im g some
 
   -- rule 4: the clock falls by 1 before the service
-  service_steps : error s im i ≡ 0 → at s im clock ≢ 0 → (v : Service) → (m : List ℕ) → Begins s im m → ServiceCases s m i v (TickStep s im)
+  pub service_steps : error s im i ≡ 0 → at s im clock ≢ 0 → (v : Service) → (m : List ℕ) → Begins s im m → ServiceCases s m i v (TickStep s im)
   unfolding waiting
   service_steps calm runs v m b =
       let here = begins_leads l b in
@@ -145,69 +138,3 @@ module _ (s : Shape) (im : List ℕ) (g : Good s im) (some : empty s im Queue.Re
     where
       stays : {o : List ℕ} → KeepsPlace s m o → at s o clock ≡ at s m clock → Stays s im o 1
       stays k c = (begins_keeps b (good_sound s im g) k, omega (arith, runs, c, b.clock_is (good_sound s im g)))
-
-  -- rule 5
-  ordered_stays : at s im clock ≢ 0 → {m : List ℕ} → Spends s im i m → Stays s im m 1
-  ordered_stays runs b =
-      (apart_keeps order_parts (order_frame l b (λ c own. rw (own_picked s im i c own)) refl) refl (leads_sound l), omega (arith, runs, order_clock l b))
-
-  ordered_error : error s im i ≡ 0 → {m : List ℕ} → Spends s im i m → (e : ℕ) → order s im i ≡ Effect.Faults e → error s m i ≢ 0
-  ordered_error calm {m} b e f z =
-      let n = after_order s im i (order s im i) in
-      let kept_flags : at s m (flags i) ≡ at s n (flags i) = kept header_part (clock_apart b.but_clock) (flags i) (leads_in l, omega arith) refl in
-      let written : at s n (flags i) ≡ (after (own s im i) (order s im i)).flags =
-      own_flags s n i ∙ ap (λ (x : Machine). x.flags) (own_after s im i (leads_in l) (sound (leads_sound l)).laid (order s im i)) in
-      error_after (own s im i) (rw (own_flags s im i) at calm) e f (rw (kept_flags, written) at z)
-
-  -- a tick uses one
-  tick_steps : TickStep s im (tick s im)
-  tick_steps =
-      tick_any (TickStep s im)
-      record {
-        idle = λ none. absurd (true≢false (sym none ∙ some));
-        stops = λ _ _. Step.stops (rw (stopped_is l) (left_leaves l _ _));
-        turns = λ _ calm z. Step.passes calm z (turned_leaves l);
-        serves = λ _ calm runs v _ m b. service_steps calm runs v m b;
-        orders = λ _ calm runs _ m b.
-            record {
-              does = λ _ _ _. Step.does calm (inr refl) refl (ordered_stays runs b);
-              faults = λ e f. Step.faults calm (inr refl) refl (ordered_stays runs b) (ordered_error calm b e f);
-            };
-      }
-
-  -- device events use none: the first task keeps its place, the clock and its flags
-  module _ (j : Task) (hj : j.0 < s.n) where
-    alone_stays : {m : List ℕ} → Apart s moved_parts im m → Stays s im m 0
-    alone_stays a = (apart_keeps moved_parts a refl (leads_sound l), omega (arith, kept_clock moved_parts a refl))
-
-    woke_stays : {m : List ℕ} → Apart s moved_parts im m → Sound s m → at s im (status j) ≢ is_ready → Stays s im (woken s m j) 0
-    woke_stays a h waited = (woke_keeps a g h j hj waited, omega (arith, woke_clock a h j hj some))
-
-    device_steps : {m : List ℕ} {a : Answer} → 8 ≤ kind a → Stays s im m 0 → Apart s event_parts im m → Step s im 0 (Reply.Accepted a) m
-    device_steps d k u = Step.device d k (rw (kept event_parts u (flags i) (leads_in l, omega arith) refl))
-
-    -- an outcome that changes no word of a task's
-    abbrev StepApart : Outcome → Type 0
-    StepApart o = Apart s event_parts im o.image → Step s im 0 o.reply o.image
-
-    input_steps : (c : ℕ) → Step s im 0 (input s im j c).reply (input s im j c).image
-    input_steps c =
-        input_any s im j StepApart c (λ _ _. Step.refused _) (λ _ _. device_steps (omega arith) (alone_stays (input_apart s im g j hj c)))
-        (λ clear w. device_steps (omega arith) (woke_stays (input_apart s im g j hj c) (input_sound s im g j hj c clear) (λ z. waits_not Service.Input (sym z ∙ w))))
-        (input_frame s im g j hj c)
-
-    output_steps : Step s im 0 (output_done s im j).reply (output_done s im j).image
-    output_steps =
-        done_any s im j StepApart (λ _ _. Step.refused _) (λ _ _. device_steps (omega arith) (alone_stays (next_apart s im g j hj)))
-        (λ _ w. device_steps (omega arith) (woke_stays (next_apart s im g j hj) (next_sound s im g j hj) (λ z. waits_not Service.Output (sym z ∙ w))))
-        (done_frame s im g j hj)
-
-  -- whatever event comes
-  steps : (e : Event) → Formed s e → Step s im (uses e) (happening s im e).reply (happening s im e).image
-  unfolding Formed
-  steps =
-      event_any s im (λ e o. Formed s e → Step s im (uses e) o.reply o.image) (λ _. tick_steps) (λ i c f. input_steps i f.0 c) output_steps
-      (λ _. Step.refused _)
-
-  pub event_steps : (k d c : ℕ) → Step s im (tick_count k d c) (happening s im (event_of s k d c)).reply (happening s im (event_of s k d c)).image
-  event_steps k d c = rw (uses_count s k d c) (steps (event_of s k d c) (event_formed s k d c))

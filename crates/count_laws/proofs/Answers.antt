@@ -25,8 +25,9 @@ use Rattle.paper.specs.declared.Verdict.{Verdict}
 use Rattle.paper.specs.declared.Reply.{Reply}
 use Rattle.laws.specs.Cases.{when}
 use Rattle.laws.specs.Events.{words_any}
-use Rattle.event_laws.specs.Walk.{tick_any, input_any, done_any, event_any}
-use Rattle.event_laws.specs.Stays.{first_task}
+use Rattle.event_laws.specs.Walk.{input_any, done_any, event_any}
+use Rattle.event_laws.proofs.Walk.{tick_any}
+use Rattle.event_laws.proofs.Stays.{first_task}
 use Rattle.count_laws.proofs.Counting.{Inside, times}
 
 -- how many ticks an event is

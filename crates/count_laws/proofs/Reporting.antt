@@ -22,7 +22,7 @@ use Rattle.paper.specs.declared.Refusal.{Refusal}
 use Rattle.paper.specs.declared.Reply.{Reply}
 use Rattle.paper.specs.declared.Verdict.{Verdict}
 use Rattle.laws.specs.Checked.{all_three, never_fine}
-use Rattle.event_laws.specs.Stays.{words_good}
+use Rattle.event_laws.proofs.Stays.{words_good}
 use Rattle.event_laws.specs.Walk.{happening_unchanged}
 use Rattle.user_laws.specs.Taken.{first_events}
 use Rattle.count_laws.specs.Used.{ticks_in, counted_in, as_ran, all_reported, one_and, Bounded}

@@ -21,13 +21,13 @@ use Rattle.laws.specs.Checked.{checked_good, good_checked, zero_is, then_fine, c
 use Rattle.laws.specs.Fresh.{fresh_checked}
 use Rattle.laws.specs.Events.{event_formed}
 use Rattle.laws.specs.Room.{good_listed, listed_none, waits_not}
-use Rattle.event_laws.specs.Stays.{words_good}
-use Rattle.event_laws.specs.Wakes.{wake_finds_room, wakes_exactly}
+use Rattle.event_laws.proofs.Stays.{words_good}
+use Rattle.event_laws.proofs.Wakes.{wake_finds_room, wakes_exactly}
 use Rattle.user_laws.specs.Folded.{event_is, event_unchanged, run_refused}
-use Rattle.user_laws.specs.Balance.{calls_good, calls_words}
+use Rattle.user_laws.proofs.Balance.{calls_good, calls_words}
 use Rattle.user_laws.specs.Slots.{slots_held}
 use Rattle.user_laws.specs.Asked.{asked_waits, asked_done}
-use Rattle.user_laws.specs.Waiting.{calls_stay}
+use Rattle.user_laws.proofs.Waiting.{calls_stay}
 use Rattle.demands.specs.Demands.{due, run_tests, word_of, Demand1, Asks, Demand2, Demand3, Request5, Request6, Demands}
 use Rattle.demands.proofs.Numbers.{image_due, plan_due, build_due, run_due, exactly, call_due}
 use Rattle.demands.proofs.AsCalls.{is_calls, took_whole, stopped_at as stops}

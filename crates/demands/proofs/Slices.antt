@@ -21,13 +21,15 @@ use Rattle.paper.specs.declared.Event.{Event}
 use Rattle.paper.specs.declared.Reply.{Reply}
 use Rattle.laws.specs.Checked.{good_sound, check_zero}
 use Rattle.event_laws.specs.Turns.{Leads, turned_list, turned_clock}
-use Rattle.event_laws.specs.Walk.{tick_any, input_any, done_any, event_any}
-use Rattle.event_laws.specs.Stays.{first_leads}
-use Rattle.event_laws.specs.First.{held_some, keeps_some, keeps_first}
+use Rattle.event_laws.specs.Walk.{input_any, done_any, event_any}
+use Rattle.event_laws.proofs.Walk.{tick_any}
+use Rattle.event_laws.proofs.Stays.{first_leads}
+use Rattle.event_laws.proofs.First.{held_some, keeps_some, keeps_first}
 use Rattle.user_laws.specs.Folded.{event_is}
-use Rattle.user_laws.specs.Balance.{calls_good}
+use Rattle.user_laws.proofs.Balance.{calls_good}
 use Rattle.bound.specs.Bound.{IsFirst, tick_count, if_accepted}
-use Rattle.bound.specs.Ticks.{Stays, Step, event_steps}
+use Rattle.bound.specs.Ticks.{Stays, Step}
+use Rattle.bound.proofs.Ticks.{event_steps}
 use Rattle.demands.specs.Demands.{word_of, Tells, Calls, ticks_in, Quiet, Undisturbed, IsTick, Answered, UsesClock, UsesSlice, Request2}
 
 -- kind k is that of a service or an order, done, or faulted, and then there is an error

@@ -15,12 +15,12 @@ use Rattle.paper.specs.declared.Shape.{Shape}
 use Rattle.paper.specs.declared.Queue.{Queue}
 use Rattle.paper.specs.declared.Reply.{Reply}
 use Rattle.laws.specs.Checked.{check_zero}
-use Rattle.event_laws.specs.Stays.{words_good}
+use Rattle.event_laws.proofs.Stays.{words_good}
 use Rattle.user_laws.specs.Folded.{event_is}
 use Rattle.bound.specs.Bound.{Behind, most_ticks, IsFirst, Untouched, tick_count, if_accepted}
 use Rattle.bound.specs.Measure.{measure, Nears}
 use Rattle.bound.specs.Line.{behind_first}
-use Rattle.bound.specs.Falls.{event_nears, event_untouched}
+use Rattle.bound.proofs.Falls.{event_nears, event_untouched}
 use Rattle.demands.specs.Demands.{Calls, ReadyBehind, ticks_in, FirstAfter, NotBefore, TurnComes}
 
 -- what a call on a good image does to a task with others ahead of it

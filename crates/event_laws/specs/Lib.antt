@@ -6,7 +6,6 @@ pub mod Buffers
 pub mod Moving
 pub mod Serving
 pub mod Walk
-pub mod Stays
 pub mod Touched
 pub mod First
 pub mod Begun

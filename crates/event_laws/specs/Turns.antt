@@ -27,7 +27,8 @@ use Rattle.laws.specs.Queues.{same_task, appended_held, appended_count, appended
 use Rattle.laws.specs.Checked.{good_sound}
 use Rattle.laws.specs.Sound.{Sound, sound, has_space, has_word, put_sound, appended_sound, taken_sound}
 use Rattle.laws.specs.Frame.{Frame, Apart, frame_none, frame_more, frame_put, frame_appended, frame_taken, kept, kept_flags, kept_clock, kept_status, kept_peer, kept_count, kept_empty, kept_full, kept_held, kept_free, kept_same}
-use Rattle.laws.specs.Room.{Listed, listed_room}
+use Rattle.laws.specs.Room.{Listed}
+use Rattle.laws.proofs.Room.{listed_room}
 use Rattle.laws.specs.Changes.{header_part, dispatch_parts, turn_parts, status_sound, status_is, peer_is, frame_status, frame_left}
 use Rattle.event_laws.specs.Standing.{ready_stands}
 use Rattle.event_laws.specs.Kept.{Spared, Clocked, Nearly, good_nearly, nearly_good, kept_stands, kept_nearly}

@@ -1,15 +1,15 @@
 -- Every outcome of an event, told apart once: what holds of each holds of the event. Assumes nothing.
-use Rattle.std.specs.Prelude.{◌≡◌, List, [], ◌∷◌, true, false, not, cond, ◌≢◌, ℕ, zero, suc, ◌-◌, ◌<◌, ◌≤◌, eqb, length}
+use Rattle.std.specs.Prelude.{◌≡◌, List, [], ◌∷◌, true, false, cond, ◌≢◌, ℕ, zero, suc, ◌-◌, ◌<◌, ◌≤◌, eqb, length}
 use Rattle.std.proofs.Math.Path.{refl}
-use Rattle.std.proofs.Common.{arith, eqb-true, eq-eqb, ne_eqb}
-use Rattle.std.proofs.lemmas.Bool.{eqb-false, not-true, not-false}
+use Rattle.std.proofs.Common.{arith, eqb-true}
+use Rattle.std.proofs.lemmas.Bool.{eqb-false}
 use Rattle.paper.specs.Image.{at, clock, status, busy}
 use Rattle.paper.specs.Queues.{appended, empty, full}
 use Rattle.paper.specs.Flags.{error, pending, waits}
 use Rattle.paper.specs.Waking.{Answered, answered, Outcome, accepted, accepting, refused, woken, one_if, with_woken}
 use Rattle.paper.specs.Services.{services, numbered, asked, fault_of, unless_wrong, service_faulted, blocked, waiting, served, wakes, finished, service}
 use Rattle.paper.specs.Orders.{order, after_order, order_answer}
-use Rattle.paper.specs.Events.{running, stopped, turned, spent, serving, ordered, acting, turn_of, tick, input, port_next, output_done, happening}
+use Rattle.paper.specs.Events.{running, stopped, turned, spent, serving, ordered, tick, input, port_next, output_done, happening}
 use Rattle.paper.specs.declared.Task.{Task}
 use Rattle.paper.specs.declared.Shape.{Shape}
 use Rattle.paper.specs.declared.Queue.{Queue}
@@ -98,7 +98,7 @@ spends s m =
 abbrev pub Begins : Shape → List ℕ → List ℕ → Type 0
 Begins s im m = ButClock s im (at s im clock - 1) m
 
-serving_any : {s : Shape} {im : List ℕ} {i : Task} {v : Service} (P : Answered → Type 0) → ((m : List ℕ) → Begins s im m → ServiceCases s m i v P)
+pub serving_any : {s : Shape} {im : List ℕ} {i : Task} {v : Service} (P : Answered → Type 0) → ((m : List ℕ) → Begins s im m → ServiceCases s m i v P)
     → P (serving s im i v)
 serving_any {s} {im} P c = service_any P (c (spent s im) (spends s im))
 
@@ -131,24 +131,6 @@ pub record TickCases (s : Shape) (im : List ℕ) (P : Answered → Type 0) : Typ
       → (m : List ℕ) → Begins s im m → ServiceCases s m (running s im) v P
   pub orders : empty s im Queue.Ready ≡ false → error s im (running s im) ≡ 0 → at s im clock ≢ 0 → asked (pending s im (running s im)) ≡ Asked.Nothing
       → (m : List ℕ) → Spends s im (running s im) m → OrderCases s im m (running s im) P
-
-pub tick_any : {s : Shape} {im : List ℕ} (P : Answered → Type 0) → TickCases s im P → P (tick s im)
-unfolding tick turn_of
-tick_any {s} {im} P c =
-    when P (empty s im Queue.Ready) c.idle (λ some.
-    when P (not (eqb (error s im (running s im)) 0)) (λ e. c.stops some (eqb-false _ 0 (not-true _ e))) (λ e.
-    when P (eqb (at s im clock) 0) (λ z. c.turns some (eqb-true _ 0 (not-false _ e)) (eqb-true _ 0 z)) (λ z. acts some (eqb-true _ 0 (not-false _ e)) (eqb-false _ 0 z) (asked (pending s im (running s im))) refl)))
-  where
-    acts : empty s im Queue.Ready ≡ false → error s im (running s im) ≡ 0 → at s im clock ≢ 0 → (x : Asked) → asked (pending s im (running s im)) ≡ x → P (acting s im (running s im) x)
-    acts some calm runs (Asked.For v) e = serving_any P (c.serves some calm runs v (asked_for _ v e))
-    acts some calm runs Asked.Nothing e = ordered_any P (c.orders some calm runs e)
-
--- where a service is pending, with no error and time left, a tick is by rule 4
-pub serves_any : (s : Shape) (im : List ℕ) → empty s im Queue.Ready ≡ false → error s im (running s im) ≡ 0 → at s im clock ≢ 0
-    → (v : Service) → pending s im (running s im) ≡ waits v → (P : Answered → Type 0) → ((m : List ℕ) → Begins s im m → ServiceCases s m (running s im) v P) → P (tick s im)
-unfolding tick turn_of
-serves_any s im some calm runs v asks P c =
-    rw (some, eq-eqb (error s im (running s im)) 0 calm, ne_eqb (at s im clock) 0 runs, asks, asked_waits v) (serving_any P c)
 
 -- what an event of a device comes to
 module _ (s : Shape) (im : List ℕ) (i : Task) (P : Outcome → Type 0) where

@@ -15,7 +15,7 @@ use Rattle.paper.specs.declared.Reply.{Reply}
 use Rattle.laws.specs.Sound.{Sound, sound}
 use Rattle.laws.specs.Checked.{good_sound}
 use Rattle.laws.specs.Events.{Formed, Lawful, lawful, good, event_formed}
-use Rattle.event_laws.specs.Stays.{words_good}
+use Rattle.event_laws.proofs.Stays.{words_good}
 use Rattle.ticks.specs.Ticks.{ticked, Told}
 use Rattle.happening.specs.Lists.{nth_event, ended, counted, onward, tells_on, told_from, Ends}
 use Rattle.happening.specs.Ahead.{Ahead}

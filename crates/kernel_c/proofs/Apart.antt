@@ -17,7 +17,7 @@ use Rattle.paper.specs.declared.Verdict.{Verdict}
 use Rattle.laws.specs.Checked.{checked_good}
 use Rattle.laws.specs.Events.{Formed, event_formed}
 use Rattle.event_laws.specs.Walk.{input_any, done_any, event_any}
-use Rattle.event_laws.specs.Stays.{tick_names}
+use Rattle.event_laws.proofs.Stays.{tick_names}
 use Rattle.kernel_c.specs.Answers.{no_answer, told_kind, told_task}
 
 -- an accepted event's kind and task are the paper's two values

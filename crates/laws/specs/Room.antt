@@ -4,18 +4,16 @@ use Rattle.std.proofs.Common.{sym, ◌∙◌, arith}
 use Rattle.std.proofs.Math.Logic.{dite}
 use Rattle.std.proofs.Math.Decide.{ℕ_discrete, dec_lt}
 use borrow.Author.Tests.{eq-eqb, ne_eqb}
-use Rattle.paper.specs.Image.{task, at, status}
-use Rattle.paper.specs.Queues.{count, capacity, held, full}
+use Rattle.paper.specs.Image.{at, status}
+use Rattle.paper.specs.Queues.{held, full}
 use Rattle.paper.specs.Flags.{is_ready, waits, is_stopped}
-use Rattle.paper.specs.Rules.{times, Ready, Queued, Good}
+use Rattle.paper.specs.Rules.{times, Ready, Good}
 use Rattle.paper.specs.declared.Task.{Task}
 use Rattle.paper.specs.declared.Shape.{Shape}
 use Rattle.paper.specs.declared.Part.{Part}
 use Rattle.paper.specs.declared.Queue.{Queue}
 use Rattle.paper.specs.declared.Service.{Service}
-use Rattle.laws.specs.Queues.{held_length}
 use Rattle.laws.specs.Frame.{Apart, kept_status, kept_full}
-use Rattle.laws.specs.Events.{Lawful, good}
 
 -- how often the numbers below n stand in a list, all together
 abbrev together : ℕ → List ℕ → ℕ
@@ -63,28 +61,10 @@ abbrev pub Listed : Shape → List ℕ → Type 0
 Listed s im = (i : Task) → (Ready s im i → times i.0 (held s im Queue.Ready) ≡ 1) × (¬ Ready s im i → times i.0 (held s im Queue.Ready) ≡ 0)
 
 module _ (s : Shape) (im : List ℕ) (l : Listed s im) where
-  ready_below : (x : ℕ) → s.n ≤ x → times x (held s im Queue.Ready) ≡ 0
-  ready_below x h = (l (task x)).1 (λ r. omega (arith, r.0))
-
-  ready_once : (x : ℕ) → times x (held s im Queue.Ready) ≤ 1
-  ready_once x =
-      dite (dec_lt x s.n) (λ h.
-      dite (ℕ_discrete (at s im (status (task x))) is_ready) (λ e. omega (arith, (l (task x)).0 (h, e))) (λ ne. omega (arith, (l (task x)).1 (λ r. ne r.1))))
-      (λ h. omega (arith, ready_below x (omega arith)))
-
-  -- so a task that is not ready does not stand in it, and it has room
+  -- so a task that is not ready does not stand in it
   module _ (i : Task) (hi : i.0 < s.n) (ne : at s im (status i) ≢ is_ready) where
     pub listed_none : times i.0 (held s im Queue.Ready) ≡ 0
     listed_none = (l i).1 (λ r. ne r.1)
-
-    pub listed_few : length (held s im Queue.Ready) < s.n
-    listed_few = fewer s.n (held s im Queue.Ready) ready_below ready_once i.0 hi listed_none
-
-    pub listed_room : Queued s im Queue.Ready → full s im Queue.Ready ≡ false
-    unfolding full
-    listed_room q =
-        let n = held_length s im Queue.Ready in
-        ne_eqb (at s im (count s Queue.Ready)) (at s im (capacity s Queue.Ready)) (λ e. omega (arith, n, listed_few, e, q.sized))
 
 -- a task that is not ready finds room; shut, as contracts say it
 unfoldable pub Roomy : Shape → List ℕ → Type 0
@@ -119,10 +99,3 @@ waiting_room s im r i hi v e = finds_room s im r i hi (λ z. waits_not v (sym z 
 -- a good image is such
 pub good_listed : {s : Shape} {im : List ℕ} → Good s im → Listed s im
 good_listed g i = (g.ready i, g.no_other i)
-
-pub good_roomy : {s : Shape} {im : List ℕ} → Good s im → Roomy s im
-unfolding Roomy
-good_roomy {s} {im} g i hi ne = listed_room s im (good_listed g) i hi ne (g.queues Queue.Ready tt)
-
-pub lawful_roomy : (s : Shape) (im : List ℕ) → Lawful s im → Roomy s im
-lawful_roomy s im h = good_roomy (good h)

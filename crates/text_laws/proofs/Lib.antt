@@ -1,1 +1,4 @@
+pub mod First
+pub mod Refused
+pub mod Named
 pub mod Impostors

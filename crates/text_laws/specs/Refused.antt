@@ -1,8 +1,7 @@
--- Which texts are refused, with which number and which line, and which are accepted. Assumes nothing.
-use Rattle.std.specs.Prelude.{◌≡◌, refl, Bool, true, false, List, [], ◌∷◌, ◌++◌, map, ◌⊎◌, ◌↔◌, ℕ, suc, ◌+◌, ◌-◌, ◌<◌, ◌≤◌, leb, ltb, length, get_or}
+-- Which texts are accepted, and what a refusal comes from. Assumes nothing.
+use Rattle.std.specs.Prelude.{◌≡◌, refl, Bool, true, false, List, [], ◌∷◌, ◌++◌, map, ◌⊎◌, ◌↔◌, ℕ, ◌+◌, ◌<◌, ◌≤◌, leb, ltb, length, get_or}
 use Rattle.std.proofs.Math.Path.{ap}
-use Rattle.std.proofs.Common.{sym, ◌∙◌, inl, inr, ⊎_elim, arith, ltb-true, ltb-false, leb-true, leb-false, le-leb}
-use Rattle.std.proofs.lemmas.Bool.{lt-leb}
+use Rattle.std.proofs.Common.{sym, ◌∙◌, inl, inr, arith, ltb-true, ltb-false, leb-true, le-leb}
 use Rattle.grammar.specs.Tokens.{lines, tokens}
 use Rattle.grammar.specs.Sums.{Entry, find}
 use Rattle.grammar.specs.Lines.{NamesLine, names_line, Label, label_of, body_of, size_of, given}
@@ -16,8 +15,8 @@ use Rattle.grammar.specs.declared.Judged.{Judged}
 use Rattle.grammar.specs.declared.Line.{Line}
 use Rattle.grammar.specs.declared.Text.{Text}
 use Rattle.grammar.specs.declared.Worked.{Worked}
-use Rattle.text_laws.specs.Lined.{Judgement, judgement, names_lines, script_lines, all_lines, placed, numbered, count, last, noted_all, NoneBelow, Each, Clean, First}
-use Rattle.text_laws.specs.First.{noted_kept, noted_first, first_noted, noted_clean, clean_noted, noted_more, each_both, each_at, each_so, first_is_lowest}
+use Rattle.text_laws.specs.Lined.{Judgement, judgement, names_lines, script_lines, all_lines, placed, count, last, noted_all, NoneBelow, Each, Clean, First}
+use Rattle.text_laws.specs.First.{noted_kept, noted_clean, clean_noted, noted_more, each_both, each_at}
 
 -- the fault of the texts is noted over their lines
 names_noted : (es : List Entry) (f : Fault) (at : ℕ) (ls : List (List ℕ)) → names_fault es f at ls ≡ noted_all f (names_lines es at ls)
@@ -140,7 +139,7 @@ number_at_most_16 Refusal.NoRoom = omega arith
 abbrev pub room_if : Bool → Flaw
 room_if t = elim t [ true ↦ Flaw.Nothing | false ↦ Flaw.Is Refusal.NoRoom ]
 
-room_after_line : (r : Refusal) (l m : Line) (t : Bool) → noted (Fault.At r l) (room_if t) m ≡ Fault.At r l
+pub room_after_line : (r : Refusal) (l m : Line) (t : Bool) → noted (Fault.At r l) (room_if t) m ≡ Fault.At r l
 room_after_line r l m true = refl
 room_after_line r l m false = noted_kept r l (Flaw.Is Refusal.NoRoom) m (number_at_most_16 r)
 
@@ -170,7 +169,7 @@ module _ (names script : List ℕ) (room : ℕ) where
   abbrev pub fits : Bool
   fits = leb (count names script) room
 
-  judged_by : (f : Fault) (t : Bool) → lines_fault names script ≡ f → fits ≡ t
+  pub judged_by : (f : Fault) (t : Bool) → lines_fault names script ≡ f → fits ≡ t
       → judged names script room ≡ judged_as (noted f (room_if t) (last script)) (count names script)
   unfolding judged
   judged_by f t e h =
@@ -189,36 +188,10 @@ module _ (names script : List ℕ) (room : ℕ) where
     λ h. judged_by Fault.Nothing true (clean_noted (all_lines names script) h.0) (le-leb (count names script) room h.1) ∙ ap Judged.Fine (sym h.2),
   )
 
-  why : (r : Refusal) (l : Line) → judged names script room ≡ Judged.Refused r l
+  pub why : (r : Refusal) (l : Line) → judged names script room ≡ Judged.Refused r l
       → (lines_fault names script ≡ Fault.At r l)
       ⊎ ((lines_fault names script ≡ Fault.Nothing) × (fits ≡ false) × (r ≡ Refusal.NoRoom) × (l ≡ last script))
   why r l e = refused_for (count names script) (last script) (lines_fault names script) fits r l (sym judged_is ∙ e)
-
-  -- a text is refused with 13, 14 or 15 exactly where a line has that number, none before it has it, and none at all a lower one
-  pub refused_for_line : (r : Refusal) (l : Line) → number r < 16 → (judged names script room ≡ Judged.Refused r l) ↔ First r l (all_lines names script)
-  refused_for_line r l h = (
-    λ e. ⊎_elim (noted_first r l (all_lines names script)) (λ x. absurd (let z : number r ≡ 16 = ap number x.2 in omega arith)) (why r l e),
-    λ x. judged_by (Fault.At r l) fits (first_noted r l (all_lines names script) x) refl
-        ∙ ap (λ f. judged_as f (count names script)) (room_after_line r l (last script) fits),
-  )
-
-  -- a text is refused with 16 exactly where nothing is wrong with any line and its words do not fit; the line is the script's last
-  pub refused_for_room : (l : Line) → (judged names script room ≡ Judged.Refused Refusal.NoRoom l)
-      ↔ ((l ≡ last script) × Clean (all_lines names script) × (room < count names script))
-  refused_for_room l = (
-    λ e. ⊎_elim
-        (λ z. absurd (omega (arith, line_is_below_16 names script Refusal.NoRoom l (noted_first Refusal.NoRoom l (all_lines names script) z))))
-        (λ x. (x.3, noted_clean (all_lines names script) x.0, leb-false (count names script) room x.1))
-        (why Refusal.NoRoom l e),
-    λ h. judged_by Fault.Nothing false (clean_noted (all_lines names script) h.1) (lt-leb (count names script) room h.2) ∙ ap (Judged.Refused Refusal.NoRoom) (sym h.0),
-  )
-
-  -- where a text is refused, no line of either text has a lower number
-  pub none_lower : (r : Refusal) (l : Line) → judged names script room ≡ Judged.Refused r l → Each (NoneBelow (number r)) (all_lines names script)
-  none_lower r l e =
-      ⊎_elim (λ z. first_is_lowest r l (all_lines names script) (noted_first r l (all_lines names script) z))
-      (λ x. each_so (λ w. w ≡ Flaw.Nothing) (NoneBelow (number r)) (λ w h. rw h tt) (all_lines names script) (noted_clean (all_lines names script) x.0))
-      (why r l e)
 
 -- the script's last line is the last of its lines
 pub last_placed : (k : Line) (at : ℕ) (l : List ℕ) (ls : List (List ℕ)) → last_line k at (l ∷ ls) ≡ get_or (placed Text.Script at (l ∷ ls)) (length ls) nowhere
@@ -235,15 +208,3 @@ words_need_lines all (l ∷ ls) h = omega arith
 pub program_needs_lines : (names script : List ℕ) → 0 < count names script → 0 < length (lines script)
 unfolding program
 program_needs_lines names script h = words_need_lines (given_all names script) (lines script) h
-
--- so 16 names a line of the script: the last
-pub room_names_the_last : (names script : List ℕ) (room : ℕ) (l : Line) → judged names script room ≡ Judged.Refused Refusal.NoRoom l
-    → (0 < length (lines script)) × (l ≡ numbered names script Text.Script (length (lines script) - 1))
-room_names_the_last names script room l e =
-    let h = (refused_for_room names script room l).0 e in
-    let some = program_needs_lines names script (omega arith) in
-    (some, h.0 ∙ go (lines script) some)
-  where
-    go : (ls : List (List ℕ)) → 0 < length ls → last_line nowhere 0 ls ≡ get_or (placed Text.Script 0 ls) (length ls - 1) nowhere
-    go [] h = absurd (omega arith)
-    go (m ∷ ls) h = let n : suc (length ls) - 1 ≡ length ls = omega arith in last_placed nowhere 0 m ls ∙ rw n

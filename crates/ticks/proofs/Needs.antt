@@ -26,8 +26,9 @@ use Rattle.laws.specs.Checked.{good_sound}
 use Rattle.laws.specs.Sound.{Sound, sound}
 use Rattle.laws.specs.Orders.{lies_apart}
 use Rattle.laws.specs.Events.{Lawful, good}
-use Rattle.event_laws.specs.Stays.{first_task}
-use Rattle.event_laws.specs.First.{stays_first, tick_stays}
+use Rattle.event_laws.proofs.Stays.{first_task}
+use Rattle.event_laws.specs.First.{stays_first}
+use Rattle.event_laws.proofs.First.{tick_stays}
 use Rattle.words.specs.Spots.{Rowed}
 use Rattle.words.specs.declared.Row.{Row}
 use Rattle.machine.specs.InRow.{row_length}

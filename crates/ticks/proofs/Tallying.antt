@@ -22,7 +22,7 @@ use Rattle.laws.specs.Checked.{good_sound}
 use Rattle.laws.specs.Events.{Lawful, good}
 use Rattle.counting.specs.Room.{Room}
 use Rattle.counting.specs.Growing.{grown_none, grown_twice, room_less, counted_length, counted_room}
-use Rattle.event_laws.specs.Stays.{tick_names}
+use Rattle.event_laws.proofs.Stays.{tick_names}
 use Rattle.noting.specs.Noted.{orders_counted, Ledger}
 use Rattle.noting.specs.Ledgers.{ledger_kept}
 use Rattle.ticks.specs.Ticks.{ticked}

@@ -23,7 +23,7 @@ use Rattle.laws.specs.Queues.{word_valid}
 use Rattle.laws.specs.Sound.{Sound, sound}
 use Rattle.laws.specs.Agree.{own_clock, order_agrees, after_clock}
 use Rattle.laws.specs.Events.{Lawful, lawful, good}
-use Rattle.event_laws.specs.Stays.{tick_good}
+use Rattle.event_laws.proofs.Stays.{tick_good}
 use Rattle.ticks.proofs.Row.{in_a_row, row_sound, row_empty, row_first}
 use Rattle.ticks.specs.Ticks.{ticked}
 

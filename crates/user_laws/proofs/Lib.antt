@@ -1,1 +1,3 @@
+pub mod Balance
+pub mod Waiting
 mod Seen

@@ -21,9 +21,10 @@ use Rattle.laws.specs.Frame.{Apart, frame_more, kept, kept_status, kept_peer}
 use Rattle.laws.specs.Changes.{dispatch_parts, turn_parts, status_is, peer_is, status_sound, frame_status, frame_left}
 use Rattle.laws.specs.Room.{waits_not}
 use Rattle.event_laws.specs.Turns.{Leads, leads_sound, leads_in, left_list, left_late}
-use Rattle.event_laws.specs.Walk.{Begins, serves_any}
-use Rattle.event_laws.specs.Stays.{begins_leads, first_leads, first_task}
-use Rattle.event_laws.specs.First.{begins_held}
+use Rattle.event_laws.specs.Walk.{Begins}
+use Rattle.event_laws.proofs.Walk.{serves_any}
+use Rattle.event_laws.proofs.Stays.{begins_leads, first_leads, first_task}
+use Rattle.event_laws.proofs.First.{begins_held}
 use Rattle.event_laws.specs.Begun.{reg_same, fault_same, blocked_same}
 
 -- task i has begun to wait with service v, which made im into m: its status and peer say so, it has left the ready queue,

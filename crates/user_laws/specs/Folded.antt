@@ -13,7 +13,7 @@ use Rattle.paper.specs.declared.Reply.{Reply}
 use Rattle.paper.specs.declared.Verdict.{Verdict}
 use Rattle.laws.specs.Layout.{shape_is}
 use Rattle.laws.specs.Checked.{checked_good, good_checked, then_fine}
-use Rattle.event_laws.specs.Stays.{words_good}
+use Rattle.event_laws.proofs.Stays.{words_good}
 use Rattle.event_laws.specs.Walk.{happening_unchanged}
 
 -- events one after another, each by a call of its own, up to the first refused one

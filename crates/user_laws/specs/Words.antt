@@ -8,6 +8,7 @@ use Rattle.paper.specs.declared.Task.{Task}
 use Rattle.paper.specs.declared.Shape.{Shape}
 use Rattle.paper.specs.declared.Queue.{Queue}
 use Rattle.paper.specs.declared.Service.{Service}
+use Rattle.paper.specs.declared.Answer.{Answer}
 use Rattle.paper.specs.declared.Reply.{Reply}
 
 -- accepted, and answered (k, i): kind k, of task i
@@ -18,6 +19,10 @@ told (Reply.Refused r) k i = false
 -- service v is done for task i: it was pending, and the answer is (3, i)
 unfoldable pub done : Shape → List ℕ → Reply → Task → Service → Bool
 done s im r i v = told r 3 i && eqb (pending s im i) (waits v)
+
+-- the reply that the service of task i is done
+abbrev pub served_reply : Task → Reply
+served_reply i = Reply.Accepted (Answer.ServiceDone i)
 
 -- the port of task i takes a word: at an output while it is idle, or at an output done, answered (9, i), while words are held
 abbrev pub prints : Shape → List ℕ → Reply → Task → Bool

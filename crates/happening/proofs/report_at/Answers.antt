@@ -1,5 +1,5 @@
 -- The three words make the event that is reported.
-use Rattle.laws.specs.Room.{lawful_roomy}
+use Rattle.laws.proofs.Room.{lawful_roomy}
 use Rattle.happening.proofs.AllZero.{words_no_tick}
 use Rattle.happening.proofs.Taking.{lawful_sound, made_formed, nth_outcome, nth_lawful}
 use Rattle.happening.proofs.report_at.Goals as goal

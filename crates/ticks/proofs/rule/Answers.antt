@@ -1,5 +1,5 @@
 -- The rule's answer is the tick's.
-use Rattle.laws.specs.Room.{lawful_roomy}
+use Rattle.laws.proofs.Room.{lawful_roomy}
 use Rattle.ticks.proofs.Needs.{rule_is, rule_few, rule_stays, lawful_sound, first_rowed, first_some, first_flagged}
 use borrow.Author.Rules.{rules}
 use Rattle.ticks.proofs.rule.Goals as goal

@@ -28,10 +28,10 @@ use Rattle.event_laws.specs.Standing.{awaits, waits_one}
 use Rattle.event_laws.specs.Serving.{one_is}
 use Rattle.event_laws.specs.Walk.{asked_for, input_any, done_any}
 use Rattle.event_laws.specs.Whom.{woken_unless, asked_wakes, whom, Unmoved}
-use Rattle.event_laws.specs.Wakes.{some_capacity, is_full, wakes_only}
+use Rattle.event_laws.proofs.Wakes.{some_capacity, is_full, wakes_only}
 use Rattle.user_laws.specs.Folded.{event_is}
-use Rattle.user_laws.specs.Words.{done, sent, got, all_sent, all_got, for_it}
-use Rattle.user_laws.specs.Balance.{send_told, receive_told, served_reply, calls_good}
+use Rattle.user_laws.specs.Words.{served_reply, done, sent, got, all_sent, all_got, for_it}
+use Rattle.user_laws.proofs.Balance.{send_told, receive_told, calls_good}
 use Rattle.user_laws.specs.Asked.{asked_done}
 
 -- a test that wakes somebody, and what it tells

@@ -33,7 +33,8 @@ use Rattle.event_laws.specs.Own.{own_nearly, clock_apart, clock_nearly}
 use Rattle.event_laws.specs.Turns.{status_part, entry_apart, woken_nearly, Leads, leads_sound, leads_in, leads_ready, leads_peer, left_good, turned_good}
 use Rattle.event_laws.specs.Moving.{free_input, free_output, append_nearly, appended_chars, next_nearly}
 use Rattle.event_laws.specs.Serving.{faulted_good, waiting_good, served_nearly, wakes_whom}
-use Rattle.event_laws.specs.Walk.{asked_nothing, ServiceCases, Begins, Spends, tick_any, input_any, done_any, event_any}
+use Rattle.event_laws.specs.Walk.{asked_nothing, ServiceCases, Begins, Spends, input_any, done_any, event_any}
+use Rattle.event_laws.proofs.Walk.{tick_any}
 
 -- an image good but for a task that waits, with that task woken
 module _ {s : Shape} {im m : List ℕ} (a : Apart s moved_parts im m) (k : Task) (hk : k.0 < s.n) (waited : at s im (status k) ≢ is_ready) where

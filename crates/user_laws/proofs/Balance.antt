@@ -36,11 +36,12 @@ use Rattle.laws.specs.Changes.{header_part, turn_parts, buffer_has, out_sound, s
 use Rattle.event_laws.specs.Standing.{waits_one}
 use Rattle.event_laws.specs.Turns.{Leads, leads_sound, leads_in, turned_frame}
 use Rattle.event_laws.specs.Serving.{served_nearly, wakes_whom}
-use Rattle.event_laws.specs.Walk.{ServiceCases, Begins, tick_any, input_any, done_any}
+use Rattle.event_laws.specs.Walk.{ServiceCases, Begins, input_any, done_any}
+use Rattle.event_laws.proofs.Walk.{tick_any}
 use Rattle.event_laws.specs.Begun.{clock_only, reg_same}
-use Rattle.event_laws.specs.Stays.{begins_leads, stopped_is, order_frame, first_leads, tick_good, next_owner, words_good}
+use Rattle.event_laws.proofs.Stays.{begins_leads, stopped_is, order_frame, first_leads, tick_good, next_owner, words_good}
 use Rattle.user_laws.specs.Folded.{event_is}
-use Rattle.user_laws.specs.Words.{told, done, word_if, sent, got, Balanced, all_sent, all_got}
+use Rattle.user_laws.specs.Words.{served_reply, told, done, word_if, sent, got, Balanced, all_sent, all_got}
 
 -- a test that cannot hold
 is_false : (b : Bool) → ¬ (b ≡ true) → b ≡ false
@@ -160,9 +161,6 @@ module _ {s : Shape} (m : List ℕ) {out : List ℕ} (i : Task) (hi : i.0 < s.n)
       take_out p m _ h some (frame_then f k) l (e ∙ at_same s _ (character i) _ (hi, omega arith) (length_put s _ (busy i) 1 ∙ (sound took).laid.words))
 
 -- the service that task i asked for, v, is done, and no other
-abbrev pub served_reply : Task → Reply
-served_reply i = Reply.Accepted (Answer.ServiceDone i)
-
 module _ (s : Shape) (im : List ℕ) (i : Task) (v : Service) (asks : pending s im i ≡ waits v) where
   done_now : done s im (served_reply i) i v ≡ true
   unfolding done

@@ -11,11 +11,12 @@ use Rattle.paper.specs.declared.Shape.{Shape}
 use Rattle.paper.specs.declared.Queue.{Queue}
 use Rattle.paper.specs.declared.Reply.{Reply}
 use Rattle.laws.specs.Events.{event_formed}
-use Rattle.event_laws.specs.Stays.{words_good}
+use Rattle.event_laws.proofs.Stays.{words_good}
 use Rattle.bound.specs.Bound.{Behind, Untouched, tick_count, if_accepted}
 use Rattle.bound.specs.Measure.{measure, Nears}
 use Rattle.bound.specs.Line.{event_frame, behind_some, frame_untouched}
-use Rattle.bound.specs.Ticks.{LeavesPlace, Stays, Step, event_steps}
+use Rattle.bound.specs.Ticks.{LeavesPlace, Stays, Step}
+use Rattle.bound.proofs.Ticks.{event_steps}
 
 module _ (s : Shape) (im : List ℕ) (i : Task) (k : ℕ) (b : Behind s im i (suc k)) where
   -- where the first task leaves its place every other one moves up: a tick was used, and the next one has a whole slice at most
