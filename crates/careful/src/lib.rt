@@ -1,4 +1,6 @@
 // Events counted one by one, where a count may be at its end: each event is tried on a copy of the image first, which tells its answer.
+#![tactic(auto)]
+
 ghost use Rattle.std.specs.Prelude.{◌≡◌, ◌%◌, ◌≤◌, length};
 ghost use Rattle.paper.specs.Image.{most_words};
 ghost use Rattle.paper.specs.Events.{event_of, happening};

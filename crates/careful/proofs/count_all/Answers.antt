@@ -1,0 +1,27 @@
+-- So many events are counted, and the rest of the list is left.
+use native.Mathlib.Omega.{arith}
+use Rattle.happening.proofs.Taking.{lawful_long, event_there}
+use Rattle.careful.proofs.Counted.{counted_none, counted_more, counted_refused, counted_all}
+use borrow.Author.Rules.{rules}
+use Rattle.careful.proofs.count_all.Goals as goal
+
+pub loop-taken-init : goal.loop-taken-init
+loop-taken-init c = (search rules, counted_none _ _ _ _, omega arith, search rules, search rules)
+
+pub count_event-reply-requires : goal.count_event-reply-requires
+count_event-reply-requires c = record { lawful = search rules; order_table = search rules; copy_len = omega arith }
+
+pub shape_of-im-in-Refused : goal.shape_of-im-in-Refused
+shape_of-im-in-Refused c = search lawful_long
+
+pub returns-in-Refused : goal.returns-in-Refused
+returns-in-Refused c = record { counts_all = search (counted_refused, event_there); lawful_2 = search rules }
+
+pub loop-taken-preserved : goal.loop-taken-preserved
+loop-taken-preserved c = (search rules, search (counted_more, event_there), omega arith, omega arith, omega arith)
+
+pub shape_of-im : goal.shape_of-im
+shape_of-im c = search lawful_long
+
+pub returns : goal.returns
+returns c = record { counts_all = search counted_all; lawful_2 = search rules }
