@@ -36,9 +36,9 @@ all_small : List Row → Bool
 all_small [] = true
 all_small (r ∷ rs) = small r.kept && all_small rs
 
-either_small : (t : Bool) (k later : Kept) → small k ≡ true → small later ≡ true → small (elim t as (λ _. Kept) [ true ↦ k | false ↦ later ]) ≡ true
-either_small true k later h g = h
-either_small false k later h g = g
+either_small : (t : Bool) (k other : Kept) → small k ≡ true → small other ≡ true → small (elim t as (λ _. Kept) [ true ↦ k | false ↦ other ]) ≡ true
+either_small true k other h g = h
+either_small false k other h g = g
 
 in_small : (rs : List Row) (w : List ℕ) → all_small rs ≡ true → small (kept_in rs w) ≡ true
 unfolding all_small kept_in

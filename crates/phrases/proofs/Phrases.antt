@@ -1,6 +1,5 @@
 -- Laws of Phrases. Assumes nothing.
 use mathlib.Core.Bool.{Bool, true, false}
-use Rattle.grammar.specs.Lines as Lines
 use Rattle.grammar.specs.declared.Kept.{Kept}
 use Rattle.tokens.specs.declared.Token.{Token}
 

@@ -1,7 +1,9 @@
 // The lines of the names and of the script, each by its tokens.
+#![tactic(auto)]
+
 ghost use Rattle.std.specs.Prelude.{◌≡◌, List, ℕ, ◌<◌, ◌≤◌};
 ghost use Rattle.grammar.specs.Tokens.{tokens};
-ghost use Rattle.grammar.specs.Lines.{size_of, register as register_of, words_by as words_of, one as one_of_lem, two as two_of, with_registers as registers_of, order as order_by, given as given_by};
+ghost use Rattle.grammar.specs.Lines.{size_of, register as register_of, words_by as words_of, one as one_of, two as two_of, with_registers as registers_of, order as order_by, given as given_by};
 ghost use Rattle.grammar.specs.Lines.{names_line, sum_line};
 ghost use Rattle.grammar.specs.Sums.{sum_of as sum_by};
 ghost use Rattle.tokens.specs.Shown.{shown, Inside};
@@ -186,7 +188,7 @@ fn register(line: &[u8], t: Token) -> Operand
 
 // One word, where the line ends.
 fn one(word: u16, t: Token) -> Given
-    ensures { (l : List ℕ) → result ≡ one_of_lem word (shown l t) }
+    ensures { (l : List ℕ) → result ≡ one_of word (shown l t) }
 {
     if ends(t) {
         return Given::One(Worked::Is(word));
