@@ -1,4 +1,6 @@
 // Who used the machine: the ticks of a task, all ticks, and the task's share of them.
+#![tactic(auto)]
+
 ghost use Rattle.std.specs.Prelude.{◌≡◌, ◌-◌, ◌<◌, ◌≤◌, length, take, drop};
 ghost use Rattle.paper.specs.Counts.{all_counts, sum, task_ticks as ticks_of_task, all_ticks as ticks_of_all};
 ghost use Rattle.paper.specs.Promises.{Shares};
