@@ -1,4 +1,6 @@
 // Looking into an image: a task, a port, a register, a queue. No call requires anything.
+#![tactic(auto)]
+
 ghost use Rattle.std.specs.Prelude.{◌≡◌, ◌<◌};
 ghost use Rattle.paper.specs.Queues.{Has, held};
 ghost use Rattle.laws.specs.Sound.{Sound};

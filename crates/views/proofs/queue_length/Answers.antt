@@ -1,0 +1,12 @@
+-- Where the check passes the image, what is seen of it is told; else its refusal.
+use Rattle.views.proofs.Looked.{looked_sound, length_looked, length_refused}
+use Rattle.views.proofs.queue_length.Goals as goal
+
+pub see_length-requires : goal.see_length-requires
+see_length-requires c = search looked_sound
+
+pub returns-in-Fine : goal.returns-in-Fine
+returns-in-Fine c = search length_looked
+
+pub returns-in-Refused : goal.returns-in-Refused
+returns-in-Refused c = search length_refused

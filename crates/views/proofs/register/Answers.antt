@@ -1,0 +1,12 @@
+-- Where the check passes the image, what is seen of it is told; else its refusal.
+use Rattle.views.proofs.Looked.{looked_sound, register_looked, register_refused}
+use Rattle.views.proofs.register.Goals as goal
+
+pub see_register-requires : goal.see_register-requires
+see_register-requires c = search looked_sound
+
+pub returns-in-Fine : goal.returns-in-Fine
+returns-in-Fine c = search register_looked
+
+pub returns-in-Refused : goal.returns-in-Refused
+returns-in-Refused c = search register_refused
