@@ -6,7 +6,7 @@ use mathlib.Core.Logic.{◌≢◌}
 use Prim.Native.Nat.{ℕ, ◌*◌, ◌<◌, ◌≤◌}
 use native.Mathlib.Nat.{mul-le-mul}
 use native.Mathlib.Omega.{arith}
-use borrow.Author.Tests.{eq-eqb, ne_eqb, not-true}
+use borrow.Author.Tests.{eq-eqb, ne_eqb}
 use lib.ListN.{length}
 use Rattle.paper.specs.Image.{task, most_tasks, shape_of}
 use Rattle.paper.specs.Rules.{Fit}
@@ -51,10 +51,10 @@ module _ (s : Shape) (im : List ℕ) (r : Rule) (κ : Kind) (end : ℕ) (eκ : �
   pub in_end : k < end → k < subjects s (kind r)
   in_end l = rw (ee, eκ) at l
 
-  pub breaks_at : k < end → every k (holds s im r) ≡ true → (b : Bool) → b ≡ holds s im r k → not b ≡ true → Failing.At k ≡ breaker s im r
+  pub breaks_at : k < end → every k (holds s im r) ≡ true → (b : Bool) → b ≡ holds s im r k → b ≡ false → Failing.At k ≡ breaker s im r
   unfolding breaker
   breaks_at l h b eb n =
-      sym (first_at (subjects s (kind r)) k (holds s im r) record { inside = in_end l; before = h; fails = sym eb ∙ not-true b n })
+      sym (first_at (subjects s (kind r)) k (holds s im r) record { inside = in_end l; before = h; fails = sym eb ∙ n })
 
   pub breaks_nowhere : end ≤ k → k ≤ end → every k (holds s im r) ≡ true → Failing.Nowhere ≡ breaker s im r
   unfolding breaker

@@ -1,4 +1,6 @@
 // Of the rules of an image, in their order, the first that is broken, and the first task or queue that breaks it.
+#![tactic(auto)]
+
 ghost use Rattle.std.specs.Prelude.{◌≡◌, ◌<◌, length};
 ghost use Rattle.paper.specs.Rules.{Fit};
 ghost use Rattle.laws.specs.Sound.{Sized};

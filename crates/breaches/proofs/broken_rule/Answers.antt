@@ -1,0 +1,15 @@
+-- The verdict tells whether there is a broken rule to look for.
+use Rattle.breaches.proofs.Told.{six_sized, tells_nothing, tells_breach, tells_refused}
+use Rattle.breaches.proofs.broken_rule.Goals as goal
+
+pub first_broken-requires : goal.first_broken-requires
+first_broken-requires c = six_sized _ _ c.inspect-found.ensures.0 _ c.in-Refused.is _ c.number_of.ensures _ c.inspect-found.ensures.1 c.if-number_of-eq-RULE_BROKEN.true
+
+pub returns-then-number_of-eq-RULE_BROKEN : goal.returns-then-number_of-eq-RULE_BROKEN
+returns-then-number_of-eq-RULE_BROKEN c = tells_breach _ _ c.inspect-found.ensures.0 _ c.in-Refused.is _ c.number_of.ensures _ c.inspect-found.ensures.1 c.if-number_of-eq-RULE_BROKEN.true _ c.first_broken.ensures
+
+pub returns-in-Fine : goal.returns-in-Fine
+returns-in-Fine c = tells_nothing _ _ c.inspect-found.ensures.0 c.in-Fine.is
+
+pub returns-else-number_of-eq-RULE_BROKEN : goal.returns-else-number_of-eq-RULE_BROKEN
+returns-else-number_of-eq-RULE_BROKEN c = tells_refused _ _ c.inspect-found.ensures.0 _ c.in-Refused.is _ c.number_of.ensures c.if-number_of-eq-RULE_BROKEN.false
