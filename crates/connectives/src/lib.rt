@@ -1,4 +1,6 @@
 // Tests joined without a branch in the caller, as the definitions join them.
+#![tactic(auto)]
+
 ghost use Rattle.std.specs.Prelude.{◌≡◌, ◌&&◌, ◌||◌};
 ghost use Rattle.paper.specs.Tests.{implies as if_then};
 

@@ -1,4 +1,6 @@
 // The paper's numbers.
+#![tactic(auto)]
+
 ghost use Rattle.std.specs.Prelude.{◌≡◌};
 ghost use Rattle.paper.specs.Numbers.{number, verdict_number, kind, answer_task};
 

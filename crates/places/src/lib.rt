@@ -1,4 +1,6 @@
 // Where a cell lies in an image of shape s, and the word there.
+#![tactic(auto)]
+
 ghost use Rattle.std.specs.Prelude.{◌≡◌, ◌<◌, set, length};
 ghost use Rattle.paper.specs.Image.{start, width, Valid, place, word, at as word_at};
 ghost use Rattle.paper.specs.Queues.{Has, head};
