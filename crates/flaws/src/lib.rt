@@ -1,4 +1,6 @@
 // What is wrong with a line, and the fault of the lines so far.
+#![tactic(auto)]
+
 ghost use Rattle.std.specs.Prelude.{◌≡◌, min, length};
 ghost use Rattle.grammar.specs.Sums.{end_of_range};
 ghost use Rattle.grammar.specs.Lines.{line_words};
