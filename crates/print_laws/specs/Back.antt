@@ -1,5 +1,5 @@
 -- A printed text gives the words that were printed, line by line. Assumes nothing.
-use Rattle.std.specs.Prelude.{◌≡◌, refl, true, List, [], ◌∷◌, ◌++◌, ℕ, suc, ◌+◌, ◌*◌, ◌<◌, ◌≤◌, length}
+use Rattle.std.specs.Prelude.{◌≡◌, refl, true, List, [], ◌∷◌, ◌++◌, ℕ, ◌+◌, ◌*◌, ◌<◌, ◌≤◌, length}
 use Rattle.std.proofs.Common.{ap, sym, subst, ◌∙◌, arith, length-append}
 use Rattle.paper.specs.Runner.{decimal, newline}
 use Rattle.laws.specs.Decimal.{decimal_short}
@@ -7,13 +7,12 @@ use Rattle.grammar.specs.Tokens.{lines, tokens}
 use Rattle.grammar.specs.Sums.{end_of_range}
 use Rattle.grammar.specs.Lines.{after, size_of, given, line_words}
 use Rattle.grammar.specs.Texts.{lower, given_flaw, label_gives, label_flaw, labels_given, script_words, next}
-use Rattle.grammar.specs.Printing.{named_as, Spelling, spelling, line_alone, line_of_two, number_text, printed}
+use Rattle.grammar.specs.Printing.{Spelling, line_alone, line_of_two, number_text}
 use Rattle.grammar.specs.declared.Flaw.{Flaw}
 use Rattle.grammar.specs.declared.Given.{Given}
 use Rattle.grammar.specs.declared.Worked.{Worked}
 use Rattle.text_laws.specs.Lined.{script_lines, Clean}
-use Rattle.print_laws.specs.RoundTrip.{Words}
-use Rattle.print_laws.specs.Spelt.{Line, passes, passed, line_first, number_line, one_line, two_line}
+use Rattle.print_laws.specs.Spelt.{Line, passes, line_first, number_line, one_line, two_line}
 
 -- a text that gives words: no label, nothing wrong with any line, the words, and at most 16 bytes for each
 pub record Spells (text ws : List ℕ) : Type 0 where
@@ -22,7 +21,7 @@ pub record Spells (text ws : List ℕ) : Type 0 where
   pub words : script_words [] (lines text) ≡ ws
   pub short : length text ≤ 16 * length ws
 
-nothing_spells : Spells [] []
+pub nothing_spells : Spells [] []
 unfolding lines labels_given script_lines script_words
 nothing_spells = record { labels = λ p. refl; clean = λ p at. tt; words = refl; short = omega arith }
 
@@ -59,12 +58,12 @@ module _ (w : ℕ) (small : w < end_of_range) where
   one_spells : (l t ws : List ℕ) → passes w (Spelling.one l) ≡ true → Spells t ws → Spells (l ++ (newline ++ t)) (w ∷ ws)
   one_spells l t ws e h = let x = one_line w l e in line_spells l t ws (Given.One (Worked.Is w)) x.0 refl (omega (arith, x.1)) h
 
-  last_spells : (s : Spelling) → passes w s ≡ true → Spells (line_alone s w ++ newline) (w ∷ [])
+  pub last_spells : (s : Spelling) → passes w s ≡ true → Spells (line_alone s w ++ newline) (w ∷ [])
   last_spells Spelling.plain e = plain_spells [] [] nothing_spells
   last_spells (Spelling.one l) e = one_spells l [] [] e nothing_spells
   last_spells (Spelling.two l) e = plain_spells [] [] nothing_spells
 
-  first_spells : (s : Spelling) (n : ℕ) (later past ws : List ℕ) → passes w s ≡ true → n < end_of_range → Spells later (n ∷ ws) → Spells past ws
+  pub first_spells : (s : Spelling) (n : ℕ) (later past ws : List ℕ) → passes w s ≡ true → n < end_of_range → Spells later (n ∷ ws) → Spells past ws
       → Spells (whole_of s w n later past) (w ∷ n ∷ ws)
   first_spells Spelling.plain n later past ws e r h g = plain_spells later (n ∷ ws) h
   first_spells (Spelling.one l) n later past ws e r h g = one_spells l later (n ∷ ws) e h
@@ -72,13 +71,3 @@ module _ (w : ℕ) (small : w < end_of_range) where
       let x = two_line w n l e r in
       let long : length (l ++ number_text n) + 1 ≤ 32 = rw (length-append l (number_text n)) (omega (arith, x.1, decimal_short 4 n (omega arith))) in
       line_spells (l ++ number_text n) past ws (Given.Two w (Worked.Is n)) x.0 refl (omega arith) g
-
--- the text of a list, word by word
-pub printed_spells : (ws : List ℕ) → Words ws → Spells (printed ws) ws
-unfolding printed
-printed_spells [] r = nothing_spells
-printed_spells (w ∷ []) r = last_spells w (r 0 (omega arith)) (spelling (named_as w) w) (passed w)
-printed_spells (w ∷ n ∷ ws) r =
-    first_spells w (r 0 (omega arith)) (spelling (named_as w) w) n (printed (n ∷ ws)) (printed ws) ws (passed w) (r 1 (omega arith))
-    (printed_spells (n ∷ ws) (λ k h. r (suc k) (omega arith)))
-    (printed_spells ws (λ k h. r (suc (suc k)) (omega arith)))

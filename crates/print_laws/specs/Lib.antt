@@ -3,5 +3,4 @@ pub mod Sweep
 pub mod Digits
 pub mod Spelt
 pub mod Back
-pub mod Proved
 pub mod Orders

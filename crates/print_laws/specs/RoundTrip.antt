@@ -1,5 +1,5 @@
 -- Request 3, a program printed back: printed and translated, a list of words comes again, and no other list has its text.
--- Of whatever any program may do that keeps the promises of the public calls: the records Prints, MeasuresText and Translates (crates/grammar/specs/Promises.antt). All of it is proved, in Proved.antt, and nothing is assumed.
+-- Of whatever any program may do that keeps the promises of the public calls: the records Prints, MeasuresText and Translates (crates/grammar/specs/Promises.antt). All of it is proved, in proofs/Proved.antt, and nothing is assumed.
 use Rattle.std.specs.Prelude.{◌≡◌, List, [], ◌++◌, ◌↔◌, ℕ, ◌*◌, ◌<◌, ◌≤◌, length, get_or, take, drop}
 use Rattle.grammar.specs.Texts.{program, judged}
 use Rattle.grammar.specs.Printing.{printed, most_printed}

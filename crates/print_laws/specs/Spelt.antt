@@ -5,17 +5,16 @@ use Rattle.std.proofs.Math.Bool.{and-eq-true_iff}
 use mathlib.Core.List.{List, [], ◌∷◌, ◌++◌, append_assoc}
 use Rattle.std.proofs.lemmas.Bool.{not-true}
 use Rattle.paper.specs.Runner.{decimal}
-use Rattle.grammar.specs.Tokens.{bytes, same, line_end, comment, joined, lines, digit, Token, Open, goes_on, longer, ended, begun, alone, tokens_on, tokens}
-use Rattle.grammar.specs.Kept.{kept_words, kept_in, kept_as}
+use Rattle.grammar.specs.Tokens.{line_end, comment, joined, lines, digit, Token, Open, goes_on, longer, ended, begun, alone, tokens_on, tokens}
+use Rattle.grammar.specs.Kept.{kept_as}
 use Rattle.grammar.specs.Sums.{sum_of, end_of_range}
 use Rattle.grammar.specs.Lines.{Label, label_of, Operand, register, register_as, two, with_sum, body_by, given}
-use Rattle.grammar.specs.Printing.{named_in, named_as, Spelling, spelling, number_text}
+use Rattle.grammar.specs.Printing.{Spelling, number_text}
 use Rattle.grammar.specs.declared.Given.{Given}
 use Rattle.grammar.specs.declared.Kept.{Kept}
 use Rattle.grammar.specs.declared.Operands.{Operands}
 use Rattle.grammar.specs.declared.Worked.{Worked}
 use Rattle.print_laws.specs.Digits.{each, each_first, each_both, each_so, digit_low, digit_high, are_digits, sum_back, token_back}
-use Rattle.print_laws.specs.Sweep.{swept}
 
 -- a byte that ends no line and begins no comment
 abbrev pub calm : ℕ → Bool
@@ -125,12 +124,7 @@ passes w Spelling.plain = true
 passes w (Spelling.one l) = short l && (no_label (label_of (tokens l)) && is_one w (given [] (tokens l)))
 passes w (Spelling.two l) = short l && opens w (tokens l)
 
--- one computed test: each word passes as it is spelt
-pub passed : (w : ℕ) → passes w (spelling (named_as w) w) ≡ true
-unfolding decimal bytes same tokens_on tokens kept_words kept_in kept_as label_of register given named_in named_as
-passed w = swept (λ v n. passes v (spelling n v)) refl (λ v l. refl) w
-
--- so such a line gives its word
+-- a line that passes gives its word
 short_parts : (l : List ℕ) (t : Bool) → (short l && t) ≡ true → (each calm l ≡ true) × (length l ≤ 15) × (t ≡ true)
 short_parts l t e =
     let both = (and-eq-true_iff (short l) t).0 e in

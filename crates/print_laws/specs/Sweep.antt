@@ -1,11 +1,9 @@
 -- A test of each word and the order that it is the first of, tried at the words that orders begin with. Assumes nothing.
-use Rattle.std.specs.Prelude.{◌≡◌, refl, Bool, true, false, ◌&&◌, List, [], ◌∷◌, ℕ, ◌+◌, ◌*◌, ◌/◌, ◌%◌, ◌<◌, ◌≤◌, eqb, ltb, get_or}
+use Rattle.std.specs.Prelude.{◌≡◌, refl, Bool, true, false, ◌&&◌, List, [], ◌∷◌, ℕ, ◌+◌, ◌*◌, ◌<◌, ◌≤◌, eqb, ltb, get_or}
 use Rattle.std.proofs.Common.{ap, sym, ◌∙◌, true≢false, arith, ltb-true, ne_eqb, eqb-true}
-use Rattle.std.proofs.Math.Bool.{So, and-eq-true_iff}
-use Rattle.std.proofs.Math.Logic.{dite}
-use Rattle.std.proofs.Math.Decide.{dec_lt}
+use Rattle.std.proofs.Math.Bool.{and-eq-true_iff}
 use Rattle.paper.specs.Orders.{a_of, b_of}
-use Rattle.order_table.specs.Reading.{all_below, all_below_at}
+use Rattle.order_table.specs.Reading.{all_below}
 use Rattle.grammar.specs.Tokens.{same}
 use Rattle.grammar.specs.Kept.{Row, kept_words}
 use Rattle.grammar.specs.Printing.{is_register, is_first, Named, named_by, named_in, named_as}
@@ -48,35 +46,20 @@ not_by (Kept.Register a) name w later t l e = e
 not_by (Kept.Order o f) name w later t l e = rw (not_first o f w (ltb-true _ _ t) l, named_by) e
 not_by Kept.Later name w later t l e = e
 
-not_in : (rs : List Row) (w : ℕ) → all_before rs ≡ true → end_of_orders ≤ w → named_in rs w ≡ Named.none
+pub not_in : (rs : List Row) (w : ℕ) → all_before rs ≡ true → end_of_orders ≤ w → named_in rs w ≡ Named.none
 unfolding named_in
 not_in [] w t l = refl
 not_in (r ∷ rs) w t l =
     let both = (and-eq-true_iff (kept_before r.kept) (all_before rs)).0 t in
     not_by r.kept r.spelt w (named_in rs w) both.0 l (not_in rs w both.1 l)
 
-before : all_before kept_words ≡ true
+pub before : all_before kept_words ≡ true
 unfolding kept_words
 before = refl
-
--- past the orders no word is the first of one
-pub none_past : (w : ℕ) → end_of_orders ≤ w → named_as w ≡ Named.none
-unfolding named_as
-none_past w l = not_in kept_words w before l
 
 -- a test of a word and of what it is the first of, at each op and low byte of the orders
 abbrev pub each_order : (ℕ → Named → Bool) → Bool
 each_order t = all_below 19 (λ op. all_below 256 (λ low. t (256 * op + low) (named_as (256 * op + low))))
-
--- one that passes there, and at the words past the orders, passes at any word
-pub swept : (t : ℕ → Named → Bool) → So (each_order t) → ((w : ℕ) → end_of_orders ≤ w → t w Named.none ≡ true) → (w : ℕ) → t w (named_as w) ≡ true
-swept t all past w = dite (dec_lt w end_of_orders) within (λ n. rw (none_past w (omega arith)) (past w (omega arith)))
-  where
-    within : w < end_of_orders → t w (named_as w) ≡ true
-    within h =
-        let row = all_below_at 19 (λ op. all_below 256 (λ low. t (256 * op + low) (named_as (256 * op + low)))) all (w / 256) (omega arith) in
-        let is : 256 * (w / 256) + w % 256 ≡ w = omega arith in
-        rw is at (all_below_at 256 (λ low. t (256 * (w / 256) + low) (named_as (256 * (w / 256) + low))) row (w % 256) (omega arith))
 
 -- whether a word is named the same in two ways: operands are told apart by a number
 abbrev all_operands : List Operands
@@ -110,8 +93,3 @@ named_same (Named.order l o) (Named.order m p) e =
     let numbers = eqb-true (operands_number o) (operands_number p) both.1 in
     let operands : o ≡ p = sym (of_number o) ∙ ap (λ n. get_or all_operands n Operands.Nothing) numbers ∙ of_number p in
     cc
-
--- a function that says for each word what it is the first of
-pub named_at : (f : ℕ → Named) → So (each_order (λ w n. same_named n (f w))) → ((w : ℕ) → end_of_orders ≤ w → f w ≡ Named.none) → (w : ℕ) → named_as w ≡ f w
-named_at f all past w =
-    named_same (named_as w) (f w) (swept (λ v n. same_named n (f v)) all (λ v l. rw (past v l)) w)

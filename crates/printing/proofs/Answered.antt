@@ -8,7 +8,7 @@ use Rattle.grammar.specs.Printing.{printed, most_printed, measured, printing, fi
 use Rattle.grammar.specs.Promises.{Prints, MeasuresText}
 use Rattle.grammar.specs.declared.Printing.{Printing}
 use Rattle.grammar.specs.declared.Refusal.{Refusal}
-use Rattle.print_laws.specs.Proved.{measured_is}
+use Rattle.print_laws.proofs.Proved.{measured_is}
 use Rattle.printing.specs.Pieces.{Inscribed}
 
 -- an answer that is the promised one has its numbers

@@ -18,8 +18,8 @@ use Rattle.grammar.specs.Promises.{Prints}
 use Rattle.grammar.specs.declared.Printing.{Printing}
 use Rattle.grammar.specs.declared.Refusal.{Refusal}
 use Rattle.print_laws.specs.RoundTrip.{Words}
-use Rattle.print_laws.specs.Proved.{request_3}
-use Rattle.print_laws.specs.Back.{printed_spells}
+use Rattle.print_laws.proofs.Proved.{request_3}
+use Rattle.print_laws.proofs.Back.{printed_spells}
 use Rattle.showing.specs.Zeros.{text_bytes, ZeroLines}
 
 -- the first segment starts at 53 at least

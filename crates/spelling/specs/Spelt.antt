@@ -8,7 +8,8 @@ use Rattle.grammar.specs.Tokens.{bytes, same}
 use Rattle.grammar.specs.Kept.{kept_words}
 use Rattle.grammar.specs.Printing.{named_in, named_as, Spelling, spelling}
 use Rattle.order_table.specs.Reading.{all_below, all_below_at}
-use Rattle.print_laws.specs.Sweep.{end_of_orders, swept}
+use Rattle.print_laws.specs.Sweep.{end_of_orders}
+use Rattle.print_laws.proofs.Sweep.{swept}
 use Rattle.text_laws.specs.Words.{same_is}
 use Rattle.packing.specs.Packed.{unpacked}
 use Rattle.rows.specs.Rows.{rows_end, row_from, row_named, row_of, row_at, front, tail, second, end_b, place, packed, form}

@@ -12,7 +12,7 @@ use Rattle.grammar.specs.declared.Refusal.{Refusal}
 use Rattle.text_laws.specs.Lined.{names_lines, all_lines, Clean}
 use Rattle.text_laws.specs.Refused.{accepted}
 use Rattle.print_laws.specs.RoundTrip.{Words, Request3}
-use Rattle.print_laws.specs.Back.{printed_spells}
+use Rattle.print_laws.proofs.Back.{printed_spells}
 
 -- the text of a list gives no name and no label, and nothing is wrong with any line
 module _ (ws : List ℕ) (r : Words ws) where
