@@ -1,0 +1,13 @@
+-- A good image takes the event as one step; any other is refused and left as it is.
+use Rattle.laws.specs.Events.{inspected_lawful}
+use Rattle.kernel.proofs.Promised.{event_fine, event_refused}
+use Rattle.kernel.proofs.event.Goals as goal
+
+pub step-requires : goal.step-requires
+step-requires c = search inspected_lawful
+
+pub returns-in-Fine : goal.returns-in-Fine
+returns-in-Fine c = search event_fine
+
+pub returns-in-Refused : goal.returns-in-Refused
+returns-in-Refused c = search event_refused
