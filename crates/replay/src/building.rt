@@ -1,6 +1,6 @@
 // Replays the record of a build.
 ghost use Rattle.std.specs.Prelude.{◌≡◌, true};
-ghost use Rattle.paper.specs.Calls.{size-number, size_value};
+ghost use Rattle.paper.specs.Calls.{size_number as numbered, size_value};
 
 use numbers::number_of;
 use paper::{NOT_REFUSED, Size};
@@ -85,7 +85,7 @@ fn size_words(size: Size) -> usize
 
 // The number of a plan's refusal, or 0.
 fn size_number(size: Size) -> u16
-    ensures { result ≡ size-number size }
+    ensures { result ≡ numbered size }
 {
     match size {
         Size::Words(_) => NOT_REFUSED,
@@ -95,7 +95,7 @@ fn size_number(size: Size) -> u16
 
 // Whether a plan's size is the one expected: a yes means that words and number are.
 fn is_sized(size: Size, case: Case) -> bool
-    ensures { result ≡ true → (size-number size ≡ case.size_number) × (size_value size ≡ case.size) }
+    ensures { result ≡ true → (numbered size ≡ case.size_number) × (size_value size ≡ case.size) }
 {
     if size_number(size) != case.size_number {
         return false;
