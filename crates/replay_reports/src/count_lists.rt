@@ -62,9 +62,7 @@ pub fn lay_out_counts(tried: &mut [u32], counts: &[u32])
     requires { length tried.old ≡ length counts.now }
     ensures { tried.new ≡ counts.now }
 {
-    for i in 0..tried.len() {
-        tried[i] = counts[i];
-    }
+    tried.copy_from_slice(counts);
 }
 
 // Whether some counts are the same as others: a yes means that all are.
@@ -72,12 +70,7 @@ fn are_counts(tried: &[u32], counts: &[u32]) -> bool
     requires { length tried.now ≡ length counts.now }
     ensures { result ≡ true → tried.now ≡ counts.now }
 {
-    for i in 0..tried.len() {
-        if tried[i] != counts[i] {
-            return false;
-        }
-    }
-    true
+    tried == counts
 }
 
 // Makes the next changes of a file in the counts, and answers whether their places ascend and lie in them.
