@@ -1,1 +1,1 @@
-mod Places
+pub mod Places

@@ -1,13 +1,5 @@
 -- What holds at each place up to one holds up to the next. Assumes nothing.
-use mathlib.Core.Path.{◌≡◌, refl, ◌∙◌}
-use mathlib.Core.Bool.{Bool, true, false}
-use mathlib.Core.List.{List}
-use Prim.Native.Nat.{ℕ, ◌+◌, ◌<◌, ◌≤◌}
-use borrow.Author.Tests.{ltb-true, ltb-false}
-use lib.Dec.{ltb}
-use native.Mathlib.Omega.{arith}
-use lib.ListN.{length, get_or, set}
-use lib.Seq.{get_or-set_same, get_or-set_other}
+use Rattle.std.proofs.Common.{◌≡◌, refl, ◌∙◌, Bool, true, false, ltb, ltb-true, ltb-false, List, ℕ, ◌+◌, ◌<◌, ◌≤◌, length, get_or, set, arith, get_or-set_same, get_or-set_other}
 
 -- from a place on and up to another, what stands in a list is what a function gives
 abbrev pub AgreeTo : (ℕ → ℕ) → ℕ → List ℕ → ℕ → Type 0

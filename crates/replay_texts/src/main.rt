@@ -91,9 +91,9 @@ fn replay_path(rt: &HostRuntime, path: &str, name: &str, numbers: &[u16]) -> io:
         Err(error) => return eprintln!(rt; "{path}: {error}"),
     };
     let mut source = BufReader::new(rt.alloc(), file)?;
-    let mut names = [0u8; NAMES_END];
-    let mut text = [0u8; TEXT_BYTES];
-    let mut words = [0u16; MOST_WORDS];
+    let mut names = vec![in rt.alloc(); 0u8; NAMES_END]?;
+    let mut text = vec![in rt.alloc(); 0u8; TEXT_BYTES]?;
+    let mut words = vec![in rt.alloc(); 0u16; MOST_WORDS]?;
     let tally = replay_file(&mut source, &mut names, &mut text, &mut words);
     print_tally(rt, name, numbers, tally)
 }

@@ -108,6 +108,13 @@ fn read_case<R: Read>(source: &mut R, head: Head) -> Asked {
     })
 }
 
+// Whether some bytes are the same as others: a yes means that all are.
+fn are_bytes(bytes: &[u8], others: &[u8]) -> bool
+    ensures { result ≡ true → bytes.now ≡ others.now }
+{
+    bytes == others
+}
+
 // Whether a part is what a text has from a start on: a yes means that all its bytes are.
 pub fn is_part(part: &[u8], text: &[u8], start: usize) -> bool
     ensures { result ≡ true → take (length part.now) (drop start text.now) ≡ part.now }
@@ -115,15 +122,11 @@ pub fn is_part(part: &[u8], text: &[u8], start: usize) -> bool
     if start > text.len() {
         return false;
     }
-    if part.len() > text.len() - start {
+    let rest = &text[start..];
+    if part.len() > rest.len() {
         return false;
     }
-    for i in 0..part.len() {
-        if part[i] != text[start + i] {
-            return false;
-        }
-    }
-    true
+    are_bytes(&rest[..part.len()], part)
 }
 
 // Whether the refused line is the one expected: where it begins, how many bytes it has, and which.
