@@ -1,4 +1,6 @@
 // Giving a name or label: what is wrong with it, and its entry.
+#![tactic(auto)]
+
 ghost use Rattle.std.specs.Prelude.{◌≡◌, ◌+◌, ◌<◌, ◌≤◌, length};
 ghost use Rattle.grammar.specs.Texts.{give_flaw};
 ghost use Rattle.tables.specs.Tables.{table, entries, Chained, Headed, most, text_at};
