@@ -1,0 +1,26 @@
+-- `read_labels` meets its contract. The loop's invariant: with the lines from `at` on, the lines so far give the labels that all lines do, and they
+-- have at most two words for each byte. The measure is what is left of the script. Assumes nothing.
+use native.Mathlib.Omega.{arith}
+use Rattle.giving.proofs.Lines.{line_within}
+use Rattle.naming.proofs.LabelsRead.{no_label_passed, label_passed, labels_passed}
+use Rattle.naming.proofs.labels.read_labels.Goals as goal
+
+pub loop-at-init : goal.loop-at-init
+loop-at-init c = no_label_passed _ _ _ _ c.requires.chained c.requires.headed
+
+pub overflow_add-end : goal.overflow_add-end
+overflow_add-end c = omega (arith, line_within _ _ _ c.loop-at-test.true c.line_count.ensures)
+
+pub read_label-past-requires : goal.read_label-past-requires
+read_label-past-requires c =
+    let i = c.loop-at.invariant in
+    record { chained = i.chained; headed = i.headed; split_le_filled = i.grows; at_le_end = (omega arith, line_within _ _ _ c.loop-at-test.true c.line_count.ensures); place_bound = omega (arith, i.few) }
+
+pub overflow_add-at : goal.overflow_add-at
+overflow_add-at c = omega (arith, line_within _ _ _ c.loop-at-test.true c.line_count.ensures)
+
+pub loop-at-preserved : goal.loop-at-preserved
+loop-at-preserved c = label_passed _ _ _ _ _ _ _ _ _ _ _ _ _ c.loop-at.invariant c.loop-at-test.true c.line_count.ensures c.read_label-past.ensures
+
+pub returns : goal.returns
+returns c = labels_passed _ _ _ _ _ _ _ _ c.loop-at.invariant c.loop-at-test.false
