@@ -11,6 +11,7 @@ use grammar::{Flaw, Refusal};
 use tables::{MOST_NAMES, insert, look, look_before};
 
 // What is wrong with a name that is given after all entries.
+#[tactic(auto, using(crate::proofs::Laws::full_flaw, crate::proofs::Laws::found_flaw))]
 pub fn name_flaw<'a>(
     names: &'a [u8],
     script: &'a [u8],
@@ -36,6 +37,7 @@ pub fn name_flaw<'a>(
 }
 
 // What is wrong with a label that is given after so many entries: it has the next one, unless the table is full.
+#[tactic(auto, using(crate::proofs::Laws::full_flaw, crate::proofs::Laws::found_flaw))]
 pub fn label_flaw<'a>(
     names: &'a [u8],
     script: &'a [u8],
