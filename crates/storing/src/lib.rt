@@ -1,4 +1,6 @@
 // The pass over the script that stores its words.
+#![tactic(auto)]
+
 ghost use Rattle.std.specs.Prelude.{◌≡◌, ◌+◌, ◌≤◌, length};
 ghost use Rattle.grammar.specs.Tokens.{tokens, lines};
 ghost use Rattle.grammar.specs.Lines.{body_of, given as given_by, line_words};
