@@ -1,4 +1,6 @@
 // The pass over the script for its faults and its count of words.
+#![tactic(auto)]
+
 ghost use Rattle.std.specs.Prelude.{◌≡◌, ◌+◌, ◌<◌, ◌≤◌, ◌^◌, length};
 ghost use Rattle.grammar.specs.Tokens.{tokens};
 ghost use Rattle.grammar.specs.Lines.{label_of};
