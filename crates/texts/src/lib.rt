@@ -1,4 +1,6 @@
 // The public calls on texts: translating a script with a list of names, and the line that is refused.
+#![tactic(auto)]
+
 ghost use Rattle.std.specs.Prelude.{◌≡◌};
 ghost use Rattle.grammar.specs.Texts.{judged};
 ghost use Rattle.grammar.specs.Promises.{Translates, IsLine, NamesLine};
