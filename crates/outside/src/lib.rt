@@ -1,4 +1,6 @@
 // Why a line is outside the grammar: its first token that no line goes on with.
+#![tactic(auto)]
+
 ghost use Rattle.std.specs.Prelude.{List, ℕ, length};
 ghost use Rattle.tokens.specs.Shown.{shown, Inside};
 ghost use Rattle.outside.specs.Reasons.{Fits, left, Steps, StepsTo, OperandFits};
