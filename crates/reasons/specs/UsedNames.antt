@@ -1,5 +1,5 @@
 -- The names that a line uses lie in it, and each token passed leaves fewer. Assumes nothing.
-use Rattle.std.specs.Prelude.{List, ℕ, ◌-◌, ◌<◌}
+use Rattle.std.specs.Prelude.{List, ℕ, ◌<◌}
 use Rattle.outside.specs.Reasons.{Lies, left}
 use Rattle.reasons.specs.declared.Word.{Word}
 use Rattle.reasons.specs.declared.Step.{Step}

@@ -1,4 +1,6 @@
 // Why a line is refused, and which line it is.
+#![tactic(auto)]
+
 ghost use Rattle.std.specs.Prelude.{◌≤◌, length};
 ghost use Rattle.grammar.specs.Texts.{part_of};
 ghost use Rattle.tokens.specs.Shown.{part};
