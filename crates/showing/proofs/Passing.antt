@@ -1,11 +1,10 @@
 -- The lines `0` that are passed from the end of a text. Assumes nothing.
 use mathlib.Core.Path.{◌≡◌, refl}
-use mathlib.Core.Bool.{Bool, true, false, not, ◌&&◌}
+use mathlib.Core.Bool.{Bool, true, false, ◌&&◌}
 use mathlib.Core.List.{List}
 use mathlib.Core.Logic.{◌≢◌}
 use Prim.Native.Nat.{ℕ, zero, suc, ◌+◌, ◌-◌, ◌*◌, ◌<◌, ◌≤◌}
 use native.Mathlib.Omega.{arith}
-use borrow.Author.Tests.{not-true, not-false}
 use lib.Dec.{eqb}
 use lib.ListN.{length, get_or}
 use Rattle.paper.specs.Tests.{every}
@@ -37,12 +36,12 @@ module _ (text : List ℕ) (lines end : ℕ) (p : Passed text lines end) where
   next : 2 ≤ end → length text - 2 * (lines + 1) ≡ end - 2
   next h = omega (arith, p.placed)
 
-  pub one_passed : 2 ≤ end → (r : Bool) → r ≡ is_zero_line text (end - 2) → not r ≡ false → Passed text (lines + 1) (end - 2)
+  pub one_passed : 2 ≤ end → (r : Bool) → r ≡ is_zero_line text (end - 2) → r ≡ true → Passed text (lines + 1) (end - 2)
   one_passed h r e t =
-      record { placed = omega (arith, p.placed); each = every_more lines _ p.each (rw (next h, ← e) (not-false r t)) }
+      record { placed = omega (arith, p.placed); each = every_more lines _ p.each (rw (next h, ← e) t) }
 
   pub passed_all : end < 2 → ZeroLines text lines
   passed_all h = record { inside = omega (arith, p.placed); each = p.each; last = λ l. absurd (omega (arith, p.placed)) }
 
-  pub passed_some : 2 ≤ end → (r : Bool) → r ≡ is_zero_line text (end - 2) → not r ≡ true → ZeroLines text lines
-  passed_some h r e t = record { inside = omega (arith, p.placed); each = p.each; last = λ _. rw (next h, ← e) (not-true r t) }
+  pub passed_some : 2 ≤ end → (r : Bool) → r ≡ is_zero_line text (end - 2) → r ≡ false → ZeroLines text lines
+  passed_some h r e t = record { inside = omega (arith, p.placed); each = p.each; last = λ _. rw (next h, ← e) t }
