@@ -25,6 +25,7 @@ pub fn rest(text: &[u8], at: usize) -> &[u8]
 }
 
 // How many bytes the first line of a text has.
+#[tactic(auto, using(crate::proofs::Lines::line_on, crate::proofs::Lines::line_ends, crate::proofs::Lines::line_over))]
 pub fn first_count(text: &[u8]) -> usize
     ensures { result ≡ length (first_line text.now) }
 {
