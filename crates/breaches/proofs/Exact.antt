@@ -1,4 +1,4 @@
--- The twenty-one rules are what number 6 goes by: all of them hold exactly where the tests of `rules-hold` do. Assumes nothing.
+-- The twenty-one rules are what number 6 goes by: all of them hold exactly where the tests of `rules_hold` do. Assumes nothing.
 use mathlib.Core.Path.{◌≡◌, refl, ap, ◌∙◌}
 use mathlib.Core.List.{List}
 use mathlib.Core.Bool.{Bool, true, and-eq-true_iff}

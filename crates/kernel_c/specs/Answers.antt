@@ -1,4 +1,4 @@
--- A reply in three numbers, of which the paper's own is `reply-number`: the kind and the task, and what stands for both where there is no answer.
+-- A reply in three numbers, of which the paper's own is `reply_number`: the kind and the task, and what stands for both where there is no answer.
 use Rattle.std.specs.Prelude.{ℕ}
 use Rattle.paper.specs.Numbers.{kind, answer_task}
 use Rattle.paper.specs.declared.Reply.{Reply}
