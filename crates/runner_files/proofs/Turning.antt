@@ -16,9 +16,9 @@ use Rattle.disk.proofs.Bytes.{started_end, started_full}
 use Rattle.files.specs.PlanFiles.{enough}
 use Rattle.runner_events.specs.Buffers.{event_bytes, Feeds, Buffered}
 use Rattle.runner_files.specs.Turns.{most_events, Buffers, Holds, Moved, Tooks, Turns, LoadedPlan}
-use Rattle.runner_files.specs.declared.events.Held.{Held}
-use Rattle.runner_files.specs.declared.events.Took.{Took}
-use Rattle.runner_files.specs.declared.events.Turn.{Turn}
+use Rattle.runner_files.specs.declared.taking.Held.{Held}
+use Rattle.runner_files.specs.declared.taking.Took.{Took}
+use Rattle.runner_files.specs.declared.taking.Turn.{Turn}
 
 -- the buffers serve the bytes that are found
 module _ (buffer text : List ℕ) (n end : ℕ) (b : Buffers buffer text n) (h : end ≤ length buffer) where

@@ -3,9 +3,9 @@ use Rattle.std.specs.Prelude.{◌≡◌, Bool, true, List, ℕ, ◌+◌, ◌*◌
 use Rattle.files.specs.PlanFiles.{enough}
 use Rattle.runner_lines.specs.Lines.{most_line}
 use Rattle.runner_events.specs.Buffers.{event_bytes, number_end}
-use Rattle.runner_files.specs.declared.events.Held.{Held}
-use Rattle.runner_files.specs.declared.events.Took.{Took}
-use Rattle.runner_files.specs.declared.events.Turn.{Turn}
+use Rattle.runner_files.specs.declared.taking.Held.{Held}
+use Rattle.runner_files.specs.declared.taking.Took.{Took}
+use Rattle.runner_files.specs.declared.taking.Turn.{Turn}
 
 -- the events that are read at a time
 abbrev pub most_events : ℕ

@@ -2,7 +2,7 @@
 // saves the image where that is asked for.
 #![tactic(auto)]
 
-mod events;
+mod taking;
 
 ghost use Rattle.std.specs.Prelude.{◌≡◌, length};
 ghost use Rattle.paper.specs.Image.{total};
@@ -18,13 +18,13 @@ use disk::{
     IMAGE_BYTES, IMAGE_WORDS, Outcome, Source, Start, Words, ended, load_image, load_start,
     open_source, put_text, save, say, standard_output,
 };
-use events::run_events;
 use files::{PLAN_BYTES, PLAN_WORDS, is_odd, read_plan};
 use inspect::inspect;
 use paper::{MOST_WORDS, Refusal, Reply, Shape, Verdict};
 use plans::{shape_of_plan, total_of};
 use runner_lines::{MOST_LINE, put_line};
 use saying::{say_refused_image, say_refused_plan};
+use taking::run_events;
 
 // The number that a refused plan or image has in place of an event's.
 const REFUSED_START: u64 = 0;

@@ -1,0 +1,8 @@
+-- The line fits its array, and only as much as was written is lent.
+use mathlib.Core.Path.{sym}
+use lib.Seq.{length-take-le}
+use borrow.Author.Rules.{rules}
+use Rattle.runner_files.proofs.print_refused.Goals as goal
+
+pub slice_bounds-put_text-end : goal.slice_bounds-put_text-end
+slice_bounds-put_text-end c = sym (length-take-le _ _ (search rules))
