@@ -4,9 +4,8 @@
 mod building;
 
 use building::build_answer;
-use std::fs::File;
-use std::io::{self, BufReader, Read};
-use vectors::records::{Found, Head, Next, RECORDS_END, read_head, read_words};
+use std::io::{self, Read};
+use vectors::records::{Found, Head, Next, RECORDS_END, open_records, read_head, read_words};
 use vectors::tally::{
     Answer, BUILD_NUMBERS, CHECK_NUMBERS, Tally, answered, compared, empty, listed, print_tally,
     spoiled, with_wrong,
@@ -140,11 +139,9 @@ fn replay_path(
     words: &mut [u16],
     target: &mut [u16],
 ) -> io::Result<()> {
-    let file = match File::open(rt, path) {
-        Ok(file) => file,
-        Err(error) => return eprintln!(rt; "{path}: {error}"),
+    let Some(mut source) = open_records(rt, path)? else {
+        return Ok(());
     };
-    let mut source = BufReader::new(rt.alloc(), file)?;
     let tally = replay_file(&mut source, kind, words, target);
     print_kind(rt, kind, tally)
 }

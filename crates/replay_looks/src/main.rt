@@ -7,10 +7,9 @@ mod looks;
 
 use looks::look_answer;
 use paper::MOST_WORDS;
-use std::fs::File;
-use std::io::{self, BufReader, Read};
+use std::io::{self, Read};
 use vectors::images::{KIND_IMAGE, Replayed, nothing_replayed, replay_image};
-use vectors::records::{Head, Next, RECORDS_END, read_head};
+use vectors::records::{Head, Next, RECORDS_END, open_records, read_head};
 use vectors::tally::{
     CHECK_NUMBERS, LOOK_NUMBERS, Tally, answered, empty, listed, print_tally, spoiled, with_wrong,
 };
@@ -71,11 +70,9 @@ fn replay_file<R: Read>(source: &mut R, image: &mut [u16]) -> Tally {
 
 // Replays the file of a path and prints its tally under a name, or why there is none.
 fn replay_path(rt: &HostRuntime, path: &str, name: &str, numbers: &[u16]) -> io::Result<()> {
-    let file = match File::open(rt, path) {
-        Ok(file) => file,
-        Err(error) => return eprintln!(rt; "{path}: {error}"),
+    let Some(mut source) = open_records(rt, path)? else {
+        return Ok(());
     };
-    let mut source = BufReader::new(rt.alloc(), file)?;
     let mut image = [0u16; MOST_WORDS];
     let tally = replay_file(&mut source, &mut image);
     print_tally(rt, name, numbers, tally)

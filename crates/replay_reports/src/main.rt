@@ -11,10 +11,9 @@ use count_lists::{MOST_COUNTS, read_counts};
 use paper::MOST_WORDS;
 use report_cases::{REPORT_NUMBERS, report_tally};
 use share_cases::{SHARE_NUMBERS, share_tally};
-use std::fs::File;
-use std::io::{self, BufReader, Read};
+use std::io::{self, Read};
 use vectors::images::{KIND_IMAGE, replay_image};
-use vectors::records::{Found, Head, Next, RECORDS_END, read_head};
+use vectors::records::{Found, Head, Next, RECORDS_END, open_records, read_head};
 use vectors::tally::{Tally, empty, print_tally, spoiled, with_wrong};
 
 // The kind of a record that gives the counts to go by.
@@ -160,11 +159,9 @@ fn replay_file<R: Read>(source: &mut R, image: &mut [u16], counts: &mut [u32]) -
 
 // Replays the file of a path and prints its tally under a name, or why there is none.
 fn replay_path(rt: &HostRuntime, path: &str, name: &str, numbers: &[u16]) -> io::Result<()> {
-    let file = match File::open(rt, path) {
-        Ok(file) => file,
-        Err(error) => return eprintln!(rt; "{path}: {error}"),
+    let Some(mut source) = open_records(rt, path)? else {
+        return Ok(());
     };
-    let mut source = BufReader::new(rt.alloc(), file)?;
     let mut image = [0u16; MOST_WORDS];
     let mut counts = [0u32; MOST_COUNTS];
     let tally = replay_file(&mut source, &mut image, &mut counts);

@@ -9,10 +9,9 @@ use order_cases::cases::orders_tally;
 use order_table::laid_out;
 use paper::{HIGH_BYTES, MOST_WORDS};
 use run_cases::cases::run_tally;
-use std::fs::File;
-use std::io::{self, BufReader, Read};
+use std::io::{self, Read};
 use vectors::images::{KIND_IMAGE, Replayed, nothing_replayed, replay_image};
-use vectors::records::{Head, Next, RECORDS_END, read_head};
+use vectors::records::{Head, Next, RECORDS_END, open_records, read_head};
 use vectors::tally::{
     EVENT_NUMBERS, ORDER_NUMBERS, RUN_NUMBERS, Tally, empty, print_tally, spoiled, with_wrong,
 };
@@ -136,11 +135,9 @@ fn replay_path(
 ) -> io::Result<()>
     requires { OrderTable table.now }
 {
-    let file = match File::open(rt, path) {
-        Ok(file) => file,
-        Err(error) => return eprintln!(rt; "{path}: {error}"),
+    let Some(mut source) = open_records(rt, path)? else {
+        return Ok(());
     };
-    let mut source = BufReader::new(rt.alloc(), file)?;
     let mut trial = [0u16; MOST_WORDS];
     let mut image = [0u16; MOST_WORDS];
     let tally = replay_file(&mut source, table, &mut trial, &mut image);

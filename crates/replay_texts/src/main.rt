@@ -6,10 +6,9 @@ mod printing;
 mod translating;
 
 use printing::print_answer;
-use std::fs::File;
-use std::io::{self, BufReader, Read};
+use std::io::{self, Read};
 use translating::translate_answer;
-use vectors::records::{Head, Next, RECORDS_END, read_head};
+use vectors::records::{Head, Next, RECORDS_END, open_records, read_head};
 use vectors::tally::{
     Answer, PRINT_NUMBERS, TEXT_NUMBERS, Tally, answered, empty, listed, print_tally, spoiled,
     with_wrong,
@@ -86,11 +85,9 @@ fn replay_file<R: Read>(
 
 // Replays the file of a path and prints its tally under a name, or why there is none.
 fn replay_path(rt: &HostRuntime, path: &str, name: &str, numbers: &[u16]) -> io::Result<()> {
-    let file = match File::open(rt, path) {
-        Ok(file) => file,
-        Err(error) => return eprintln!(rt; "{path}: {error}"),
+    let Some(mut source) = open_records(rt, path)? else {
+        return Ok(());
     };
-    let mut source = BufReader::new(rt.alloc(), file)?;
     let mut names = vec![in rt.alloc(); 0u8; NAMES_END]?;
     let mut text = vec![in rt.alloc(); 0u8; TEXT_BYTES]?;
     let mut words = vec![in rt.alloc(); 0u16; MOST_WORDS]?;

@@ -3,7 +3,8 @@ ghost use Rattle.std.specs.Prelude.{◌≡◌, ◌+◌, ◌*◌, ◌<◌, ◌≤
 
 use files::put_words;
 use paper::{WORD_BYTES, WORD_END};
-use std::io::Read;
+use std::fs::File;
+use std::io::{self, BufReader, Read};
 
 // The most words that are read at a time.
 pub const CHUNK_WORDS: usize = 4096;
@@ -55,6 +56,26 @@ pub enum Next {
     Record(Head),
     End,
     Bad,
+}
+
+// Opens a file of records, or says why there is none.
+pub fn open_records(rt: &HostRuntime, path: &str) -> io::Result<Option<BufReader<File>>> {
+    match File::open(rt, path) {
+        Ok(file) => Ok(Some(BufReader::new(rt.alloc(), file)?)),
+        Err(error) => {
+            say_missing(rt, path, &error)?;
+            Ok(None)
+        }
+    }
+}
+
+// Says why the file of a path is not opened, in the system's words for the error, without its number.
+fn say_missing(rt: &HostRuntime, path: &str, error: &io::Error) -> io::Result<()> {
+    let text = format!(in rt.alloc(); "{error}")?;
+    match text.split_once(" (os error ") {
+        Some((words, _)) => eprintln!(rt; "{path}: {words}"),
+        None => eprintln!(rt; "{path}: {text}"),
+    }
 }
 
 // A count from its two words.
