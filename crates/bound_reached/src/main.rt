@@ -120,14 +120,18 @@ fn ticks_of(k: usize) -> usize
     ticks_in(&plan[..words], &mut room, k)
 }
 
+// Prints the bound for a k, and how many ticks passed.
+fn print(rt: &impl Print, k: usize, bound: usize, ticks: usize) -> io::Result<()> {
+    println!(rt; "k {k}: bound {bound}, first after {ticks} ticks")
+}
+
 // Prints the bound and how many ticks passed, for each k.
 fn main(rt: HostRuntime) -> io::Result<()> {
     let slice = SLICE as usize;
     for i in 0..MOST_AHEAD {
         let k = i + 1;
         let bound = CLOCK + 1 + i * (slice + 1);
-        let ticks = ticks_of(k);
-        println!(rt; "k {k}: bound {bound}, first after {ticks} ticks")?;
+        print(&rt, k, bound, ticks_of(k))?;
     }
     Ok(())
 }
