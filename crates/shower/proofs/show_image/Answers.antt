@@ -1,0 +1,6 @@
+-- An image that is not refused is sound.
+use Rattle.views.proofs.Looked.{looked_sound}
+use Rattle.shower.proofs.show_image.Goals as goal
+
+pub describe-requires : goal.describe-requires
+describe-requires c = search looked_sound
