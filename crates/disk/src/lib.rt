@@ -3,10 +3,12 @@
 #![tactic(auto)]
 
 mod arguments;
+mod blanks;
 mod reading;
 mod saving;
 
 pub use arguments::{ARG_BYTES, arg, arg_count, say_long_arg, short_arg};
+pub use blanks::{blank_bytes, blank_words};
 pub use reading::{
     IMAGE_BYTES, IMAGE_WORDS, fail_missing, load, load_image, load_start, load_words, open_source,
     read_full,

@@ -6,8 +6,8 @@ ghost use Rattle.std.specs.Prelude.{◌≡◌, ◌+◌, ◌*◌, ◌<◌, ◌≤
 ghost use Rattle.laws.specs.Sound.{Sound};
 
 use disk::{
-    ARG_BYTES, Outcome, Output, Words, arg_count, ended, load_words, misused, put_text, say,
-    short_arg, standard_error, standard_output, tell,
+    ARG_BYTES, Outcome, Output, Words, arg_count, blank_bytes, blank_words, ended, load_words,
+    misused, put_text, say, short_arg, standard_error, standard_output, tell,
 };
 use flaws::number_of;
 use grammar::Printing;
@@ -39,7 +39,7 @@ const FILE_WORDS: usize = 262144;
 
 // Prints a program's words.
 fn print_words(rt: &HostRuntime, path: &[u8], words: &[u16]) -> Outcome {
-    let mut text = [0u8; TEXT_BYTES];
+    let mut text = blank_bytes::<TEXT_BYTES>();
     match print(words, &mut text) {
         Printing::Bytes(bytes) => ended(rt, put_text(standard_output(rt), &text[..bytes])),
         Printing::Refused(r) => {
@@ -123,8 +123,8 @@ fn print_file(rt: &HostRuntime, path_at: usize, buffer: &mut [u8], words: &mut [
 
 // Prints as the arguments say.
 fn run(rt: &HostRuntime) -> Outcome {
-    let mut buffer = [0u8; FILE_BYTES];
-    let mut words = [0u16; FILE_WORDS];
+    let mut buffer = blank_bytes::<FILE_BYTES>();
+    let mut words = blank_words::<FILE_WORDS>();
     match arg_count(rt) {
         PROGRAM_ARGUMENTS => print_file(rt, PROGRAM_AT, &mut buffer, &mut words),
         IMAGE_ARGUMENTS | TASK_ARGUMENTS => print_file(rt, IMAGE_AT, &mut buffer, &mut words),

@@ -1,0 +1,10 @@
+-- An image that is not refused is sound.
+use native.Mathlib.Omega.{arith}
+use Rattle.printer.proofs.Texts.{inspected_sound}
+use Rattle.printer.proofs.print_image.Goals as goal
+
+pub print_task-requires : goal.print_task-requires
+print_task-requires c = search inspected_sound
+
+pub show_tasks-requires : goal.show_tasks-requires
+show_tasks-requires c = record { sound = search inspected_sound; from_le_to = (omega arith, omega arith) }
