@@ -7,8 +7,8 @@ ghost use Rattle.planner.specs.Parts.{leading, pair, most_tasks, most_program, m
 
 use causes::plan_cause;
 use disk::{
-    ARG_BYTES, Outcome, Words, arg_count, load_words, misused, put_text, save, say, short_arg,
-    standard_error, tell,
+    ARG_BYTES, Outcome, Words, arg_count, blank_bytes, blank_words, load_words, misused, put_text,
+    save, say, short_arg, standard_error, tell,
 };
 use joining::{Asked, Task, read_task, read_word};
 use numbers::number_of;
@@ -79,7 +79,7 @@ fn put_program(rt: &HostRuntime, path: &[u8], plan: &mut [u16], at: usize) -> Jo
     requires { at + most_program ≤ length plan.old }
     ensures { Ends at most_program result }
 {
-    let mut bytes = [0u8; PROGRAM_BYTES];
+    let mut bytes = blank_bytes::<PROGRAM_BYTES>();
     let Words::Count(count) = load_words(rt, path, &mut bytes, &mut plan[at..]) else {
         return Joined::Nothing;
     };
@@ -149,7 +149,7 @@ fn write_plan(rt: &HostRuntime, plan: &[u16]) -> Outcome {
 fn join(rt: &HostRuntime, n: usize) -> Outcome
     requires { n ≤ most_tasks }
 {
-    let mut plan = [0u16; PLAN_WORDS];
+    let mut plan = blank_words::<PLAN_WORDS>();
     if !put_leading(rt, n, &mut plan) {
         return Outcome::Unread;
     }

@@ -8,7 +8,7 @@ ghost use Rattle.grammar.specs.Printing.{printed, most_printed};
 ghost use Rattle.laws.specs.Sound.{Sound};
 ghost use Rattle.showing.specs.Zeros.{text_bytes};
 
-use disk::{Output, put_number, put_text};
+use disk::{Output, blank_bytes, put_number, put_text};
 use grammar::Printing;
 use paper::{BASE, FLAGS, LENGTH, NEXT_ORDER, Shape, Task};
 use printing::print;
@@ -75,7 +75,7 @@ fn print_segment(words: &[u16], text: &mut [u8; TEXT_BYTES]) -> usize
 fn put_segment(out: Output, words: &[u16]) -> Output
     requires { length words.now ≤ most_printed }
 {
-    let mut text = [0u8; TEXT_BYTES];
+    let mut text = blank_bytes::<TEXT_BYTES>();
     let bytes = print_segment(words, &mut text);
     let lines = zero_lines(&text[..bytes]);
     let told = put_text(out, &text[..bytes - ZERO_LINE * lines]);

@@ -8,7 +8,7 @@ ghost use Rattle.outside.specs.Reasons.{Lies, Fits};
 ghost use Rattle.reasons.specs.UsedNames.{most_text};
 ghost use Rattle.translating.specs.Files.{Short};
 
-use disk::{Loaded, Outcome, load, save, say, say_number};
+use disk::{Loaded, Outcome, blank_bytes, blank_words, load, save, say, say_number};
 use flaws::number_of;
 use grammar::{Judged, Line, Refusal, Text, Translation};
 use outside::Reason;
@@ -136,7 +136,7 @@ fn translate_texts<'a>(
 ) -> Outcome
     requires { Short names.now script.now }
 {
-    let mut words = [0u16; TARGET_WORDS];
+    let mut words = blank_words::<TARGET_WORDS>();
     match translate(names, script, &mut words) {
         Translation::Refused(_, _) => refuse(rt, names_path, script_path, names, script),
         Translation::Words(count) => save(rt, program_path, &words[..count]),
@@ -150,8 +150,8 @@ pub fn translate_files(
     script_path: &[u8],
     program_path: &[u8],
 ) -> Outcome {
-    let mut names = [0u8; TEXT_BYTES];
-    let mut script = [0u8; TEXT_BYTES];
+    let mut names = blank_bytes::<TEXT_BYTES>();
+    let mut script = blank_bytes::<TEXT_BYTES>();
     let Loaded::Bytes(names_end) = load(rt, names_path, &mut names) else {
         return Outcome::Unread;
     };

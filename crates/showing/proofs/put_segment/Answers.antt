@@ -1,8 +1,5 @@
 -- What is left of the text lies in its buffer.
-use Prim.Native.Nat.{ℕ}
 use native.Mathlib.Omega.{arith}
-use lib.ListN.{length-replicate}
-use Rattle.showing.specs.Zeros.{text_bytes}
 use Rattle.showing.proofs.Segments.{text_count, lines_in, cut_count}
 use Rattle.showing.proofs.put_segment.Goals as goal
 
@@ -23,6 +20,3 @@ slice_bounds-text-end-2 c = omega (arith, c.print_segment-bytes.ensures.0)
 
 pub slice_bounds-put_text-length : goal.slice_bounds-put_text-length
 slice_bounds-put_text-length c = cut_count _ _ _ c.print_segment-bytes.ensures.0
-
-pub print_segment-bytes-requires-clause-text_len : goal.print_segment-bytes-requires-clause-text_len
-print_segment-bytes-requires-clause-text_len c = length-replicate {A = ℕ} text_bytes 0
