@@ -2,10 +2,10 @@
 #![tactic(auto)]
 
 mod buffers;
-mod printing;
+mod prints;
 mod translating;
 
-use printing::print_answer;
+use prints::print_answer;
 use std::io::{self, Read};
 use translating::translate_answer;
 use vectors::records::{Head, Next, RECORDS_END, open_records, read_head};
