@@ -5,6 +5,7 @@ mod buffers;
 mod prints;
 mod translating;
 
+use disk::{blank_bytes, blank_words};
 use prints::print_answer;
 use std::io::{self, Read};
 use translating::translate_answer;
@@ -88,9 +89,9 @@ fn replay_path(rt: &HostRuntime, path: &str, name: &str, numbers: &[u16]) -> io:
     let Some(mut source) = open_records(rt, path)? else {
         return Ok(());
     };
-    let mut names = vec![in rt.alloc(); 0u8; NAMES_END]?;
-    let mut text = vec![in rt.alloc(); 0u8; TEXT_BYTES]?;
-    let mut words = vec![in rt.alloc(); 0u16; MOST_WORDS]?;
+    let mut names = blank_bytes::<NAMES_END>();
+    let mut text = blank_bytes::<TEXT_BYTES>();
+    let mut words = blank_words::<MOST_WORDS>();
     let tally = replay_file(&mut source, &mut names, &mut text, &mut words);
     print_tally(rt, name, numbers, tally)
 }

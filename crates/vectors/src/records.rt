@@ -4,7 +4,7 @@ ghost use Rattle.std.specs.Prelude.{◌≡◌, ◌+◌, ◌*◌, ◌<◌, ◌≤
 use files::put_words;
 use paper::{WORD_BYTES, WORD_END};
 use std::fs::File;
-use std::io::{self, BufReader, Read};
+use std::io::{self, Read};
 
 // The most words that are read at a time.
 pub const CHUNK_WORDS: usize = 4096;
@@ -59,9 +59,9 @@ pub enum Next {
 }
 
 // Opens a file of records, or says why there is none.
-pub fn open_records(rt: &HostRuntime, path: &str) -> io::Result<Option<BufReader<File>>> {
+pub fn open_records(rt: &HostRuntime, path: &str) -> io::Result<Option<File>> {
     match File::open(rt, path) {
-        Ok(file) => Ok(Some(BufReader::new(rt.alloc(), file)?)),
+        Ok(file) => Ok(Some(file)),
         Err(error) => {
             say_missing(rt, path, &error)?;
             Ok(None)
@@ -71,7 +71,9 @@ pub fn open_records(rt: &HostRuntime, path: &str) -> io::Result<Option<BufReader
 
 // Says why the file of a path is not opened, in the system's words for the error, without its number.
 fn say_missing(rt: &HostRuntime, path: &str, error: &io::Error) -> io::Result<()> {
-    let text = format!(in rt.alloc(); "{error}")?;
+    let Ok(text) = format!(in rt.alloc(); "{error}") else {
+        return Ok(());
+    };
     match text.split_once(" (os error ") {
         Some((words, _)) => eprintln!(rt; "{path}: {words}"),
         None => eprintln!(rt; "{path}: {text}"),
