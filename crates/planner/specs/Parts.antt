@@ -1,5 +1,5 @@
 -- The parts of a plan, and where programs end in it. Assumes nothing.
-use Rattle.std.specs.Prelude.{ℕ, ◌+◌, ◌-◌, ◌≤◌}
+use Rattle.std.specs.Prelude.{ℕ, ◌+◌, ◌≤◌}
 use Rattle.planner.specs.declared.Joined.{Joined}
 
 -- the words before the pairs and of a pair, the most tasks, the longest program, and the longest plan
