@@ -1,5 +1,5 @@
 -- The step: an accepted tick brings a task nearer to its turn, nothing takes it back, and no event touches a word of it. Assumes nothing.
-use Rattle.std.specs.Prelude.{◌≡◌, List, ℕ, zero, suc, ◌+◌, ◌-◌, ◌<◌, ◌≤◌, length, get_or}
+use Rattle.std.specs.Prelude.{◌≡◌, List, ℕ, zero, suc, ◌+◌, ◌-◌, ◌<◌, ◌≤◌, length, get_or, Result}
 use Rattle.std.proofs.Common.{◌∙◌, arith, length-append}
 use Rattle.std.proofs.Math.ListN.{get_or-append}
 use Rattle.paper.specs.Queues.{held}
@@ -9,7 +9,6 @@ use Rattle.paper.specs.Rules.{Good}
 use Rattle.paper.specs.declared.Task.{Task}
 use Rattle.paper.specs.declared.Shape.{Shape}
 use Rattle.paper.specs.declared.Queue.{Queue}
-use Rattle.paper.specs.declared.Reply.{Reply}
 use Rattle.laws.specs.Events.{event_formed}
 use Rattle.event_laws.proofs.Stays.{words_good}
 use Rattle.bound.specs.Bound.{Behind, Untouched, tick_count, if_accepted}
@@ -17,6 +16,8 @@ use Rattle.bound.specs.Measure.{measure, Nears}
 use Rattle.bound.specs.Line.{event_frame, behind_some, frame_untouched}
 use Rattle.bound.specs.Ticks.{LeavesPlace, Stays, Step}
 use Rattle.bound.proofs.Ticks.{event_steps}
+use Rattle.paper.specs.declared.Answer.{Answer}
+use Rattle.paper.specs.declared.Refusal.{Refusal}
 
 module _ (s : Shape) (im : List ℕ) (i : Task) (k : ℕ) (b : Behind s im i (suc k)) where
   -- where the first task leaves its place every other one moves up: a tick was used, and the next one has a whole slice at most
@@ -47,7 +48,7 @@ module _ (s : Shape) (im : List ℕ) (i : Task) (k : ℕ) (b : Behind s im i (su
         falls = omega (arith, falls);
       }
 
-  step_nears : {m : List ℕ} {used : ℕ} {r : Reply} → Good s m → Step s im used r m → Nears s im m i (suc k) (if_accepted r used)
+  step_nears : {m : List ℕ} {used : ℕ} {r : Result Answer Refusal} → Good s m → Step s im used r m → Nears s im m i (suc k) (if_accepted r used)
   step_nears g (Step.stops v) = leaves_nears g v
   step_nears g (Step.passes _ _ v) = leaves_nears g v
   step_nears g (Step.waits _ _ v) = leaves_nears g v

@@ -1,4 +1,5 @@
 -- The bound is reached: three tasks of slice 1, each with an output pending when its turn comes. Proved by computation. Assumes nothing.
+use Rattle.std.specs.Prelude.{Ok}
 use mathlib.Core.Path.{◌≡◌, refl}
 use mathlib.Core.List.{List, [], ◌∷◌, map}
 use Prim.Native.Nat.{ℕ, ◌*◌}
@@ -17,7 +18,6 @@ use Rattle.paper.specs.Numbers.{out_of_range, not_packed, segment_right, wrong_s
 use Rattle.paper.specs.Calls.{run_from}
 use Rattle.paper.specs.declared.Shape.{Shape}
 use Rattle.paper.specs.declared.Queue.{Queue}
-use Rattle.paper.specs.declared.Verdict.{Verdict}
 use Rattle.bound.specs.Bound.{bound, InLine, most_ticks, ticks}
 
 -- n ticks
@@ -47,7 +47,7 @@ pub record Reached : Type 0 where
   pub in_line : InLine shape start (task 2) 2
   pub bound_is : most_ticks shape start 2 ≡ 4
   pub counted : ticks (some_ticks 4) ≡ most_ticks shape start 2
-  pub fine : (run_from shape start (some_ticks 4)).stop ≡ Verdict.Fine
+  pub fine : (run_from shape start (some_ticks 4)).stop ≡ Ok tt
   -- who is first after 0, 1, .. 4 ticks
   pub firsts : map (λ n. first shape (later n) Queue.Ready) (0 ∷ 1 ∷ 2 ∷ 3 ∷ 4 ∷ []) ≡ 0 ∷ 0 ∷ 1 ∷ 1 ∷ 2 ∷ []
 

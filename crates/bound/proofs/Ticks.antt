@@ -1,5 +1,5 @@
 -- What an accepted event does to the ready queue and to what the first task can still use, whatever event comes. Assumes nothing.
-use Rattle.std.specs.Prelude.{◌≡◌, false, ◌≢◌, ℕ, ◌<◌, ◌≤◌}
+use Rattle.std.specs.Prelude.{◌≡◌, false, ◌≢◌, ℕ, ◌<◌, ◌≤◌, Err, Ok}
 use Rattle.std.proofs.Math.Path.{refl, sym}
 use Rattle.std.proofs.Common.{ap, ◌∙◌, true≢false, inr}
 use mathlib.Core.List.{List}
@@ -18,9 +18,7 @@ use Rattle.paper.specs.declared.Shape.{Shape}
 use Rattle.paper.specs.declared.Queue.{Queue}
 use Rattle.paper.specs.declared.Service.{Service}
 use Rattle.paper.specs.declared.Event.{Event}
-use Rattle.paper.specs.declared.Effect.{Effect}
 use Rattle.paper.specs.declared.Answer.{Answer}
-use Rattle.paper.specs.declared.Reply.{Reply}
 use Rattle.laws.specs.Sound.{Sound, sound}
 use Rattle.laws.specs.Effects.{error_after}
 use Rattle.laws.specs.Orders.{own_flags}
@@ -53,7 +51,7 @@ module _ (s : Shape) (im : List ℕ) (g : Good s im) (some : empty s im Queue.Re
   ordered_stays runs b =
       (apart_keeps order_parts (order_frame l b (λ c own. rw (own_picked s im i c own)) refl) refl (leads_sound l), omega (arith, runs, order_clock l b))
 
-  ordered_error : error s im i ≡ 0 → {m : List ℕ} → Spends s im i m → (e : ℕ) → order s im i ≡ Effect.Faults e → error s m i ≢ 0
+  ordered_error : error s im i ≡ 0 → {m : List ℕ} → Spends s im i m → (e : ℕ) → order s im i ≡ Err e → error s m i ≢ 0
   ordered_error calm {m} b e f z =
       let n = after_order s im i (order s im i) in
       let kept_flags : at s m (flags i) ≡ at s n (flags i) = kept header_part (clock_apart b.but_clock) (flags i) (leads_in l, omega arith) refl in
@@ -85,7 +83,7 @@ module _ (s : Shape) (im : List ℕ) (g : Good s im) (some : empty s im Queue.Re
     woke_stays : {m : List ℕ} → Apart s moved_parts im m → Sound s m → at s im (status j) ≢ is_ready → Stays s im (woken s m j) 0
     woke_stays a h waited = (woke_keeps a g h j hj waited, omega (arith, woke_clock a h j hj some))
 
-    device_steps : {m : List ℕ} {a : Answer} → 8 ≤ kind a → Stays s im m 0 → Apart s event_parts im m → Step s im 0 (Reply.Accepted a) m
+    device_steps : {m : List ℕ} {a : Answer} → 8 ≤ kind a → Stays s im m 0 → Apart s event_parts im m → Step s im 0 (Ok a) m
     device_steps d k u = Step.device d k (rw (kept event_parts u (flags i) (leads_in l, omega arith) refl))
 
     -- an outcome that changes no word of a task's

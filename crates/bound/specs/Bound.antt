@@ -1,5 +1,5 @@
 -- How many ticks a task in the ready queue waits for its turn at most: the bound, and what it promises.
-use Rattle.std.specs.Prelude.{false, cond, List, [], ◌∷◌, ◌≡◌, ℕ, ◌+◌, ◌-◌, ◌*◌, ◌<◌, ◌≤◌, length, get_or}
+use Rattle.std.specs.Prelude.{false, cond, List, [], ◌∷◌, ◌≡◌, ℕ, ◌+◌, ◌-◌, ◌*◌, ◌<◌, ◌≤◌, length, get_or, Err, Ok, Result}
 use Rattle.paper.specs.Image.{shape_of, at, clock}
 use Rattle.paper.specs.Queues.{first, held, empty}
 use Rattle.paper.specs.Machines.{lies, own}
@@ -8,8 +8,8 @@ use Rattle.paper.specs.Numbers.{check}
 use Rattle.paper.specs.declared.Task.{Task}
 use Rattle.paper.specs.declared.Shape.{Shape}
 use Rattle.paper.specs.declared.Queue.{Queue}
-use Rattle.paper.specs.declared.Reply.{Reply}
-use Rattle.paper.specs.declared.Verdict.{Verdict}
+use Rattle.paper.specs.declared.Answer.{Answer}
+use Rattle.paper.specs.declared.Refusal.{Refusal}
 
 -- task i stands in the ready queue with k others ahead of it
 abbrev pub Behind : Shape → List ℕ → Task → ℕ → Type 0
@@ -21,7 +21,7 @@ bound S c k = (c + 1) + (k - 1) * (S + 1)
 
 -- an image of shape s passes the check, and task i stands in its ready queue with k others ahead of it, one at least
 pub record InLine (s : Shape) (im : List ℕ) (i : Task) (k : ℕ) : Type 0 where
-  pub checked : check im ≡ Verdict.Fine
+  pub checked : check im ≡ Ok tt
   pub shaped : s ≡ shape_of im
   pub behind : Behind s im i k
   pub others : 1 ≤ k
@@ -52,6 +52,6 @@ pub record Untouched (s : Shape) (im m : List ℕ) (i : Task) : Type 0 where
   pub own_kept : own s m i ≡ own s im i
 
 -- what counts of an accepted call; a refused one counts for nothing
-abbrev pub if_accepted : Reply → ℕ → ℕ
-if_accepted (Reply.Accepted a) n = n
-if_accepted (Reply.Refused r) n = 0
+abbrev pub if_accepted : Result Answer Refusal → ℕ → ℕ
+if_accepted (Ok a) n = n
+if_accepted (Err r) n = 0

@@ -1,5 +1,5 @@
 -- Which cells an event changes; a task in the ready queue with others ahead of it is not first, and so no event touches a word of it. Assumes nothing.
-use Rattle.std.specs.Prelude.{◌≡◌, refl, List, [], ◌∷◌, false, ◌≢◌, ◌⊎◌, ℕ, zero, suc, ◌+◌, ◌<◌, ◌≤◌, length, get_or}
+use Rattle.std.specs.Prelude.{◌≡◌, refl, List, [], ◌∷◌, false, ◌≢◌, ◌⊎◌, ℕ, zero, suc, ◌+◌, ◌<◌, ◌≤◌, length, get_or, Some}
 use Rattle.std.proofs.Common.{sym, ap, ◌∙◌, true≢false, inr, arith, eq-eqb}
 use Rattle.std.proofs.Math.Logic.{inl, dite}
 use Rattle.std.proofs.Math.Decide.{ℕ_discrete, dec_lt}
@@ -14,7 +14,6 @@ use Rattle.paper.specs.declared.Shape.{Shape}
 use Rattle.paper.specs.declared.Cell.{Cell}
 use Rattle.paper.specs.declared.Part.{Part}
 use Rattle.paper.specs.declared.Queue.{Queue}
-use Rattle.paper.specs.declared.Woken.{Woken}
 use Rattle.paper.specs.declared.Event.{Event}
 use Rattle.laws.specs.Sound.{Sound, appended_sound, has_space}
 use Rattle.laws.specs.Orders.{OwnCell}
@@ -45,7 +44,7 @@ module _ (s : Shape) (im : List ℕ) (g : Good s im) where
         appended_sound s im (Queue.Input i) hi h c (has_space s im h (Queue.Input i) hi clear)
 
     pub next_sound : Sound s (port_next s im i)
-    next_sound = (next_owner s im g i hi (Woken.One i) (λ _. refl)).lies
+    next_sound = (next_owner s im g i hi (Some i) (λ _. refl)).lies
 
     pub input_frame : (c : ℕ) → Apart s event_parts im (input s im i c).image
     input_frame c =

@@ -1,5 +1,5 @@
 -- What an accepted event does to the ready queue and to what the first task can still use; the services, told apart. Assumes nothing.
-use Rattle.std.specs.Prelude.{◌≡◌, Bool, false, ◌||◌, ◌≢◌, ◌⊎◌, ℕ, ◌+◌, ◌<◌, ◌≤◌}
+use Rattle.std.specs.Prelude.{◌≡◌, Bool, false, ◌||◌, ◌≢◌, ◌⊎◌, ℕ, ◌+◌, ◌<◌, ◌≤◌, Err, Ok, Result, Some}
 use Rattle.std.proofs.Math.Path.{refl, sym}
 use Rattle.std.proofs.Common.{◌∙◌, inl}
 use mathlib.Core.List.{List, [], ◌∷◌, ◌++◌, append-nil}
@@ -17,11 +17,9 @@ use Rattle.paper.specs.declared.Shape.{Shape}
 use Rattle.paper.specs.declared.Part.{Part}
 use Rattle.paper.specs.declared.Queue.{Queue}
 use Rattle.paper.specs.declared.Service.{Service}
-use Rattle.paper.specs.declared.Fault.{Fault}
 use Rattle.paper.specs.declared.Event.{Event}
 use Rattle.paper.specs.declared.Answer.{Answer}
 use Rattle.paper.specs.declared.Refusal.{Refusal}
-use Rattle.paper.specs.declared.Reply.{Reply}
 use Rattle.laws.specs.Cells.{at_same}
 use Rattle.laws.specs.Sound.{Sound, sound}
 use Rattle.laws.specs.Effects.{fields}
@@ -62,23 +60,23 @@ abbrev pub Stays : Shape → List ℕ → List ℕ → ℕ → Type 0
 Stays s im m used = KeepsPlace s im m × (used + at s m clock ≡ at s im clock)
 
 -- what an event does to the first task, as the reply tells: it uses so many ticks, 1 or none, and leaves the last image
-pub data Step (s : Shape) (im : List ℕ) : ℕ → Reply → List ℕ → Type 0 where
-  stops : {m : List ℕ} → LeavesPlace s im m → Step s im 1 (Reply.Accepted (Answer.ErrorStop (running s im))) m
-  passes : {m : List ℕ} → error s im (running s im) ≡ 0 → at s im clock ≡ 0 → LeavesPlace s im m → Step s im 1 (Reply.Accepted (Answer.TurnPassed (running s im))) m
-  waits : {m : List ℕ} → error s im (running s im) ≡ 0 → at s im clock ≢ 0 → LeavesPlace s im m → Step s im 1 (Reply.Accepted (Answer.ServiceWaits (running s im))) m
+pub data Step (s : Shape) (im : List ℕ) : ℕ → Result Answer Refusal → List ℕ → Type 0 where
+  stops : {m : List ℕ} → LeavesPlace s im m → Step s im 1 (Ok (Answer.ErrorStop (running s im))) m
+  passes : {m : List ℕ} → error s im (running s im) ≡ 0 → at s im clock ≡ 0 → LeavesPlace s im m → Step s im 1 (Ok (Answer.TurnPassed (running s im))) m
+  waits : {m : List ℕ} → error s im (running s im) ≡ 0 → at s im clock ≢ 0 → LeavesPlace s im m → Step s im 1 (Ok (Answer.ServiceWaits (running s im))) m
   -- a service or an order done
   does : {m : List ℕ} {a : Answer} → error s im (running s im) ≡ 0 → (kind a ≡ 3) ⊎ (kind a ≡ 6) → answer_task a ≡ (running s im).0 → Stays s im m 1
-      → Step s im 1 (Reply.Accepted a) m
+      → Step s im 1 (Ok a) m
   -- a service or an order faulted
   faults : {m : List ℕ} {a : Answer} → error s im (running s im) ≡ 0 → (kind a ≡ 5) ⊎ (kind a ≡ 7) → answer_task a ≡ (running s im).0 → Stays s im m 1
-      → error s m (running s im) ≢ 0 → Step s im 1 (Reply.Accepted a) m
+      → error s m (running s im) ≢ 0 → Step s im 1 (Ok a) m
   -- an event of a device
-  device : {m : List ℕ} {a : Answer} → 8 ≤ kind a → Stays s im m 0 → error s m (running s im) ≡ error s im (running s im) → Step s im 0 (Reply.Accepted a) m
-  refused : (r : Refusal) → Step s im 0 (Reply.Refused r) im
+  device : {m : List ℕ} {a : Answer} → 8 ≤ kind a → Stays s im m 0 → error s m (running s im) ≡ error s im (running s im) → Step s im 0 (Ok a) m
+  refused : (r : Refusal) → Step s im 0 (Err r) im
 
 -- and so a tick, which is accepted
 abbrev pub TickStep : Shape → List ℕ → Answered → Type 0
-TickStep s im t = Step s im 1 (Reply.Accepted t.answer) t.image
+TickStep s im t = Step s im 1 (Ok t.answer) t.image
 
 -- the parts that an order changes, the clock with it
 abbrev pub order_parts : Part → Bool
@@ -101,7 +99,7 @@ woke_clock {s} {im} {m} a h k hk some = rw (kept_empty moved_parts a Queue.Ready
 
 -- a service that does not wait leaves the clock that it began with
 module _ {s : Shape} {im : List ℕ} {i : Task} (l : Leads s im i) (v : Service) where
-  faulted_error : (e : ℕ) → fault_of s im i v ≡ Fault.Error e → error s (service_faulted s im i e) i ≢ 0
+  faulted_error : (e : ℕ) → fault_of s im i v ≡ Some e → error s (service_faulted s im i e) i ≢ 0
   unfolding service_faulted
   faulted_error e f z =
       let range = small_error s im i v e f in

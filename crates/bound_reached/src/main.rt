@@ -5,10 +5,7 @@ ghost use Rattle.std.specs.Prelude.{◌≡◌, ◌≤◌, length};
 
 use kernel::{build, event, size};
 use numbers::task_of;
-use paper::{
-    LEADING_WORDS, MOST_TASKS, MOST_WORDS, PAIR_WORDS, PLAN_CI_AT, PLAN_CM_AT, PLAN_CO_AT,
-    PLAN_SLICE_AT, PLAN_TASKS_AT, Reply, Size, TICK,
-};
+use paper::{LEADING_WORDS, MOST_TASKS, MOST_WORDS, PAIR_WORDS, PLAN_CI_AT, PLAN_CM_AT, PLAN_CO_AT, PLAN_SLICE_AT, PLAN_TASKS_AT, TICK};
 use std::io;
 
 // The most others that can be ahead.
@@ -62,8 +59,8 @@ fn plan_of(tasks: usize) -> [u16; PLAN_WORDS]
 fn is_first(im: &mut [u16], task: usize) -> bool {
     let reply = event(im, TICK, 0, 0);
     match reply {
-        Reply::Accepted(a) => task_of(a) as usize == task,
-        Reply::Refused(_) => false,
+        Ok(a) => task_of(a) as usize == task,
+        Err(_) => false,
     }
 }
 
@@ -99,13 +96,13 @@ fn ticks_in(plan: &[u16], room: &mut [u16], k: usize) -> usize
 {
     let needed = size(plan);
     match needed {
-        Size::Words(total) => {
+        Ok(total) => {
             if total > room.len() {
                 return TICKS_END;
             }
             ticks_on(plan, &mut room[..total], k)
         }
-        Size::Refused(_) => TICKS_END,
+        Err(_) => TICKS_END,
     }
 }
 

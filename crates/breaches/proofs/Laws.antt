@@ -1,5 +1,6 @@
 -- What is told of an image: where the check says 6, a rule; it is the first that is broken, by the first that breaks it; and where the image is good, all
 -- rules hold. Assumes nothing.
+use Rattle.std.specs.Prelude.{Err, Ok, Result, ⊤}
 use mathlib.Core.Path.{◌≡◌, refl, sym, ap, ◌∙◌}
 use mathlib.Core.List.{List}
 use mathlib.Core.Bool.{Bool, true, false, not, true≢false}
@@ -16,7 +17,6 @@ use Rattle.paper.specs.Tests.{every, rules_hold}
 use Rattle.paper.specs.Numbers.{number, verdict_number, too_short, not_marked, out_of_range, not_packed, wrong_segments, check}
 use Rattle.paper.specs.declared.Shape.{Shape}
 use Rattle.paper.specs.declared.Refusal.{Refusal}
-use Rattle.paper.specs.declared.Verdict.{Verdict}
 use Rattle.laws.specs.Checked.{every_is, passed, checked_good, good_checked}
 use Rattle.laws.specs.Sound.{Sized, sized_fit}
 use Rattle.single_rules.specs.Each.{kind, subjects, holds}
@@ -135,9 +135,9 @@ six_told : (im : List ℕ) → verdict_number (check im) ≡ 6 → broken im ≡
 unfolding broken
 six_told im = go (check im)
   where
-    go : (v : Verdict) → verdict_number v ≡ 6 → broken_as v im ≡ breach (shape_of im) im
-    go Verdict.Fine e = absurd (omega arith)
-    go (Verdict.Refused r) e = rw (eq-eqb (number r) 6 e)
+    go : (v : Result ⊤ Refusal) → verdict_number v ≡ 6 → broken_as v im ≡ breach (shape_of im) im
+    go (Ok tt) e = absurd (omega arith)
+    go (Err r) e = rw (eq-eqb (number r) 6 e)
 
 pub six_has_a_rule : (im : List ℕ) → verdict_number (check im) ≡ 6 → RuleTold im
 six_has_a_rule im e = go (breach (shape_of im) im) (breach_says (shape_of im) im) (six_told im e)
@@ -155,9 +155,9 @@ other_told : (im : List ℕ) → verdict_number (check im) ≢ 6 → (r : Rule) 
 unfolding broken
 other_told im = go (check im)
   where
-    go : (v : Verdict) → verdict_number v ≢ 6 → (r : Rule) (x : Subject) → broken_as v im ≡ Broken.Rule r x → ⊥
-    go Verdict.Fine n r x t = let z : ◌≡◌ {A = ℕ} 0 1 = cc in omega arith
-    go (Verdict.Refused q) n r x t = let u = rw (ne_eqb (number q) 6 n) at t in let z : ◌≡◌ {A = ℕ} 0 1 = cc in omega arith
+    go : (v : Result ⊤ Refusal) → verdict_number v ≢ 6 → (r : Rule) (x : Subject) → broken_as v im ≡ Broken.Rule r x → ⊥
+    go (Ok tt) n r x t = let z : ◌≡◌ {A = ℕ} 0 1 = cc in omega arith
+    go (Err q) n r x t = let u = rw (ne_eqb (number q) 6 n) at t in let z : ◌≡◌ {A = ℕ} 0 1 = cc in omega arith
 
 pub told_is_first : (im : List ℕ) (r : Rule) (x : Subject) → broken im ≡ Broken.Rule r x → (verdict_number (check im) ≡ 6) × FirstBroken (shape_of im) im r x
 told_is_first im r x t =
@@ -165,7 +165,7 @@ told_is_first im r x t =
     (λ n. absurd (other_told im n r x t))
 
 -- (c) of a good image all rules hold, and nothing is told; so the twenty-one rules are what number 6 goes by
-fine_so : (im : List ℕ) → check im ≡ Verdict.Fine → rules_hold (shape_of im) im ≡ true
+fine_so : (im : List ℕ) → check im ≡ Ok tt → rules_hold (shape_of im) im ≡ true
 unfolding check
 fine_so im e =
     let s : Shape = shape_of im in
@@ -174,7 +174,7 @@ fine_so im e =
     let c = ((passed (out_of_range s) Refusal.OutOfRange _).0 b).1 in
     let d = ((passed (not_packed s) Refusal.NotPacked _).0 c).1 in
     let f = ((passed (wrong_segments s im) Refusal.WrongSegments _).0 d).1 in
-    not_not (rules_hold s im) ((passed (not (rules_hold s im)) Refusal.RuleBroken Verdict.Fine).0 f).0
+    not_not (rules_hold s im) ((passed (not (rules_hold s im)) Refusal.RuleBroken (Ok tt)).0 f).0
   where
     not_not : (b : Bool) → not b ≡ false → b ≡ true
     not_not true e = refl
@@ -195,6 +195,6 @@ pub told_else : (im : List ℕ) → verdict_number (check im) ≢ 6 → (P : Bro
 unfolding broken
 told_else im ne P fine refused = go (check im) ne
   where
-    go : (v : Verdict) → verdict_number v ≢ 6 → P (broken_as v im) (verdict_number v)
-    go Verdict.Fine n = fine
-    go (Verdict.Refused r) n = rw (ne_eqb (number r) 6 n) (refused r)
+    go : (v : Result ⊤ Refusal) → verdict_number v ≢ 6 → P (broken_as v im) (verdict_number v)
+    go (Ok tt) n = fine
+    go (Err r) n = rw (ne_eqb (number r) 6 n) (refused r)

@@ -1,4 +1,5 @@
 -- The first broken rule, as the code finds it. Assumes nothing.
+use Rattle.std.specs.Prelude.{Err, Ok, Result, ⊤}
 use mathlib.Core.Path.{◌≡◌, refl, sym, ap, ◌∙◌}
 use mathlib.Core.List.{List}
 use mathlib.Core.Bool.{Bool, true, false, not}
@@ -15,7 +16,6 @@ use Rattle.paper.specs.Numbers.{number, verdict_number, refused_if, too_short, n
 use Rattle.paper.specs.declared.Shape.{Shape}
 use Rattle.paper.specs.declared.Queue.{Queue}
 use Rattle.paper.specs.declared.Refusal.{Refusal}
-use Rattle.paper.specs.declared.Verdict.{Verdict}
 use Rattle.laws.specs.Every.{every_fails}
 use Rattle.laws.specs.Sound.{Sized}
 use Rattle.inspect.proofs.Tested.{sized_so}
@@ -101,11 +101,11 @@ pub at_in : (s : Shape) (im : List ℕ) (r : Rule) (x : Failing) (at : ℕ) (κ 
 at_in s im r x at κ ex ea eκ = rw eκ (says s im r (Failing.At at) (sym ea ∙ ex)).inside
 
 -- an image that is refused with 6 has a shape, and not all its rules hold
-passed_by : (b : Bool) (r : Refusal) (v : Verdict) → number r ≢ 6 → verdict_number (refused_if b r v) ≡ 6 → (b ≡ false) × (verdict_number v ≡ 6)
+passed_by : (b : Bool) (r : Refusal) (v : Result ⊤ Refusal) → number r ≢ 6 → verdict_number (refused_if b r v) ≡ 6 → (b ≡ false) × (verdict_number v ≡ 6)
 passed_by true r v n e = absurd (n e)
 passed_by false r v n e = (refl, e)
 
-last_by : (b : Bool) → verdict_number (refused_if (not b) Refusal.RuleBroken Verdict.Fine) ≡ 6 → b ≡ false
+last_by : (b : Bool) → verdict_number (refused_if (not b) Refusal.RuleBroken (Ok tt)) ≡ 6 → b ≡ false
 last_by true e = absurd (omega arith)
 last_by false e = refl
 
@@ -121,13 +121,13 @@ six_so im e =
     (sized_so s im refl _ _ refl c.0 refl d.0 _ refl f.0, last_by (rules_hold s im) f.1)
 
 -- what is told of a verdict
-module _ (im : List ℕ) (v : Verdict) (ev : v ≡ check im) where
-  pub tells_nothing : v ≡ Verdict.Fine → TellsBroken im Broken.Nothing
+module _ (im : List ℕ) (v : Result ⊤ Refusal) (ev : v ≡ check im) where
+  pub tells_nothing : v ≡ Ok tt → TellsBroken im Broken.Nothing
   unfolding broken
-  tells_nothing e = let f : check im ≡ Verdict.Fine = sym ev ∙ e in record { told = rw f }
+  tells_nothing e = let f : check im ≡ Ok tt = sym ev ∙ e in record { told = rw f }
 
-  module _ (r : Refusal) (er : v ≡ Verdict.Refused r) (n : ℕ) (en : n ≡ number r) where
-    is_refused : check im ≡ Verdict.Refused r
+  module _ (r : Refusal) (er : v ≡ Err r) (n : ℕ) (en : n ≡ number r) where
+    is_refused : check im ≡ Err r
     is_refused = sym ev ∙ er
 
     pub six_sized : (s : Shape) → s ≡ shape_of im → n ≡ 6 → Sized s im

@@ -1,11 +1,10 @@
 -- The first broken rule of an image, and the first task or queue that breaks it.
-use Rattle.std.specs.Prelude.{◌≡◌, List, Bool, cond, ℕ, eqb, length}
+use Rattle.std.specs.Prelude.{◌≡◌, List, Bool, cond, ℕ, eqb, length, Err, Ok, Result, ⊤}
 use Rattle.paper.specs.Image.{shape_of}
 use Rattle.paper.specs.Tests.{every}
 use Rattle.paper.specs.Numbers.{number, check}
 use Rattle.paper.specs.declared.Shape.{Shape}
 use Rattle.paper.specs.declared.Refusal.{Refusal}
-use Rattle.paper.specs.declared.Verdict.{Verdict}
 use Rattle.single_rules.specs.Each.{kind, subjects, holds}
 use Rattle.single_rules.specs.declared.Rule.{Rule}
 use Rattle.breaches.specs.Order.{rules, rule, subject}
@@ -35,9 +34,9 @@ unfoldable pub breach : Shape → List ℕ → Broken
 breach s im = breach_at s im (first_failing (length rules) (λ k. kept s im (rule k)))
 
 -- only an image that is refused with 6 has a broken rule to tell
-abbrev pub broken_as : Verdict → List ℕ → Broken
-broken_as Verdict.Fine im = Broken.Nothing
-broken_as (Verdict.Refused r) im = cond (eqb (number r) (number Refusal.RuleBroken)) (breach (shape_of im) im) (Broken.Refused r)
+abbrev pub broken_as : Result ⊤ Refusal → List ℕ → Broken
+broken_as (Ok tt) im = Broken.Nothing
+broken_as (Err r) im = cond (eqb (number r) (number Refusal.RuleBroken)) (breach (shape_of im) im) (Broken.Refused r)
 
 unfoldable pub broken : List ℕ → Broken
 broken im = broken_as (check im) im

@@ -10,7 +10,7 @@ ghost use Rattle.breaches.specs.Broken.{breaker, breach, TellsBroken};
 
 use inspect::inspect;
 use numbers::number_of;
-use paper::{Queue, Refusal, Shape, Task, Verdict};
+use paper::{Queue, Refusal, Shape, Task};
 pub use single_rules::Rule;
 use single_rules::{Kind, holds, kind_of, queue_at};
 
@@ -166,8 +166,8 @@ pub fn broken_rule(im: &[u16]) -> Broken
     let found = inspect(im);
     let verdict = found.verdict;
     match verdict {
-        Verdict::Fine => Broken::Nothing,
-        Verdict::Refused(r) => {
+        Ok(()) => Broken::Nothing,
+        Err(r) => {
             if number_of(r) == RULE_BROKEN {
                 return first_broken(found.shape, im);
             }

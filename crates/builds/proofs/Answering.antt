@@ -1,4 +1,5 @@
 -- What a build answers, and what it leaves of the target. Assumes nothing.
+use Rattle.std.specs.Prelude.{Err, Ok, Result, ℕ}
 use mathlib.Core.Path.{◌≡◌, ◌∙◌}
 use mathlib.Core.List.{List}
 use mathlib.Core.Logic.{◌≢◌}
@@ -12,26 +13,24 @@ use Rattle.paper.specs.Calls.{built}
 use Rattle.paper.specs.Promises.{Measures, Builds}
 use Rattle.paper.specs.declared.Shape.{Shape}
 use Rattle.paper.specs.declared.Refusal.{Refusal}
-use Rattle.paper.specs.declared.Verdict.{Verdict}
-use Rattle.paper.specs.declared.Size.{Size}
 use Rattle.plans.specs.Sizes.{told_words, told_refusal}
 use Rattle.fresh_parts.specs.Accepted.{Plan, accepted}
 
-module _ (plan target : List ℕ) (found : Size) (m : Measures plan found) where
-  pub refused_plan : (r : Refusal) (n : ℕ) → found ≡ Size.Refused r → n ≡ verdict_number (Verdict.Refused r) → Builds plan target n target
+module _ (plan target : List ℕ) (found : Result ℕ Refusal) (m : Measures plan found) where
+  pub refused_plan : (r : Refusal) (n : ℕ) → found ≡ Err r → n ≡ verdict_number (Err r) → Builds plan target n target
   unfolding built check_build
   refused_plan r n er en =
       let e = told_refusal plan found r m er in
       record { answered = rw (en, e); left = rw e }
 
-  module _ (t : ℕ) (et : found ≡ Size.Words t) where
-    pub sized_fine : check_plan plan ≡ Verdict.Fine
+  module _ (t : ℕ) (et : found ≡ Ok t) where
+    pub sized_fine : check_plan plan ≡ Ok tt
     sized_fine = (told_words plan found t m et).0
 
     pub sized_total : t ≡ total (plan_shape plan)
     sized_total = (told_words plan found t m et).1
 
-    pub refused_target : (n : ℕ) → length target ≢ t → n ≡ verdict_number (Verdict.Refused Refusal.WrongTarget) → Builds plan target n target
+    pub refused_target : (n : ℕ) → length target ≢ t → n ≡ verdict_number (Err Refusal.WrongTarget) → Builds plan target n target
     unfolding built check_build
     refused_target n ne en =
         let e = ne_eqb (length target) t ne in

@@ -15,9 +15,7 @@ use fresh_parts::{
     put_header, put_lead, put_numbers, put_queues, put_segments, put_table, put_tasks,
 };
 use numbers::number_of_verdict;
-use paper::{
-    NOT_REFUSED, PORT_WORDS, Place, Refusal, SEGMENTS, STATUS_WORDS, Shape, Size, Verdict,
-};
+use paper::{NOT_REFUSED, PORT_WORDS, Place, Refusal, SEGMENTS, STATUS_WORDS, Shape};
 use plans::{shape_sized, size};
 use writes::put_zeros;
 
@@ -88,10 +86,10 @@ pub fn build(plan: &[u16], target: &mut [u16]) -> u16
 {
     let found = size(plan);
     match found {
-        Size::Refused(r) => number_of_verdict(Verdict::Refused(r)),
-        Size::Words(whole) => {
+        Err(r) => number_of_verdict(Err(r)),
+        Ok(whole) => {
             if target.len() != whole {
-                return number_of_verdict(Verdict::Refused(Refusal::WrongTarget));
+                return number_of_verdict(Err(Refusal::WrongTarget));
             }
             put_image(shape_sized(plan, whole), plan, target);
             NOT_REFUSED

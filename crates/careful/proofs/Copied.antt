@@ -1,4 +1,5 @@
 -- The words of an image, copied one by one to the beginning of a list. Assumes nothing.
+use Rattle.std.specs.Prelude.{Result}
 use mathlib.Core.Path.{◌≡◌, refl, ap, ◌∙◌}
 use mathlib.Core.List.{List}
 use Prim.Native.Nat.{ℕ, ◌+◌, ◌<◌, ◌≤◌}
@@ -11,11 +12,12 @@ use Rattle.paper.specs.Waking.{outcome}
 use Rattle.paper.specs.Events.{happening}
 use Rattle.paper.specs.declared.Shape.{Shape}
 use Rattle.paper.specs.declared.Event.{Event}
-use Rattle.paper.specs.declared.Reply.{Reply}
 use Rattle.laws.specs.Sound.{sound}
 use Rattle.laws.specs.Events.{Lawful}
 use Rattle.happening.proofs.Taking.{lawful_sound}
 use Rattle.careful.specs.OneByOne.{Begins}
+use Rattle.paper.specs.declared.Answer.{Answer}
+use Rattle.paper.specs.declared.Refusal.{Refusal}
 
 -- the first k words are copied
 unfoldable pub Copied : List ℕ → List ℕ → ℕ → Type 0
@@ -43,6 +45,6 @@ module _ (s : Shape) (im copy : List ℕ) (b : Begins copy im) where
   unfolding Begins
   copy_lawful h = rw b h
 
-  pub copy_tells : (v : Event) (r : Reply) (out : List ℕ) → outcome r out ≡ happening s (take (length im) copy) v → r ≡ (happening s im v).reply
+  pub copy_tells : (v : Event) (r : Result Answer Refusal) (out : List ℕ) → outcome r out ≡ happening s (take (length im) copy) v → r ≡ (happening s im v).reply
   unfolding Begins
   copy_tells v r out h = ap (λ o. o.reply) h ∙ ap (λ i. (happening s i v).reply) b

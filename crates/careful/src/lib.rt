@@ -10,7 +10,7 @@ ghost use Rattle.careful.specs.OneByOne.{Begins, CountsOne, CountsAll};
 
 use counting::{count, passes_end, tally_of};
 use happening::step;
-use paper::{EVENT_WORDS, Ended, HIGH_BYTES, MOST_WORDS, Refusal, Reply, Shape, Verdict};
+use paper::{Answer, EVENT_WORDS, Ended, HIGH_BYTES, MOST_WORDS, Refusal, Shape};
 
 // Copies the words of an image to the first words of a list.
 fn copy_words(im: &[u16], copy: &mut [u16])
@@ -33,7 +33,7 @@ fn foretold(
     kind: u16,
     device: u16,
     character: u16,
-) -> Reply
+) -> Result<Answer, Refusal>
     requires lawful { Lawful s im.now }
     requires order_table { OrderTable table.now }
     requires copy_len { length copy.old ≡ most_words }
@@ -54,7 +54,7 @@ fn count_event(
     kind: u16,
     device: u16,
     character: u16,
-) -> Reply
+) -> Result<Answer, Refusal>
     requires lawful { Lawful s im.old }
     requires order_table { OrderTable table.now }
     requires copy_len { length copy.old ≡ most_words }
@@ -63,15 +63,15 @@ fn count_event(
 {
     let reply = foretold(s, im, table, copy, kind, device, character);
     match reply {
-        Reply::Accepted(a) => {
+        Ok(a) => {
             let t = tally_of(a);
             if passes_end(counts, t) {
-                return Reply::Refused(Refusal::CountFull);
+                return Err(Refusal::CountFull);
             }
             count(counts, t);
             step(s, im, table, kind, device, character)
         }
-        Reply::Refused(r) => Reply::Refused(r),
+        Err(r) => Err(r),
     }
 }
 
@@ -105,17 +105,17 @@ fn count_all(
             events[at + 1],
             events[at + 2],
         );
-        if let Reply::Refused(r) = reply {
+        if let Err(r) = reply {
             return Ended {
                 taken: taken,
-                stop: Verdict::Refused(r),
+                stop: Err(r),
             };
         }
         taken += 1;
     }
     Ended {
         taken: taken,
-        stop: Verdict::Fine,
+        stop: Ok(()),
     }
 }
 

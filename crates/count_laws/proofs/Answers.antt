@@ -1,4 +1,5 @@
 -- Which events are counted: an accepted tick is, an event of a device is not; 17 is no number of theirs. Assumes nothing.
+use Rattle.std.specs.Prelude.{Err, Ok, Result, ⊤}
 use mathlib.Core.Path.{◌≡◌, refl, ap}
 use mathlib.Core.List.{List}
 use mathlib.Core.Bool.{Bool, false, not, cond}
@@ -21,8 +22,6 @@ use Rattle.paper.specs.declared.Queue.{Queue}
 use Rattle.paper.specs.declared.Event.{Event}
 use Rattle.paper.specs.declared.Answer.{Answer}
 use Rattle.paper.specs.declared.Refusal.{Refusal}
-use Rattle.paper.specs.declared.Verdict.{Verdict}
-use Rattle.paper.specs.declared.Reply.{Reply}
 use Rattle.laws.specs.Cases.{when}
 use Rattle.laws.specs.Events.{words_any}
 use Rattle.event_laws.specs.Walk.{input_any, done_any, event_any}
@@ -58,9 +57,9 @@ not_17 : (r : Refusal) → eqb (number r) 17 ≡ false → r ≢ Refusal.CountFu
 not_17 r ne e = eqb-false _ _ ne (ap number e)
 
 -- an accepted event is counted as often as it is a tick; a refused one does not answer 17
-abbrev Replies : Event → Reply → Type 0
-Replies e (Reply.Accepted a) = times (tally a) ≡ ticks_of e
-Replies e (Reply.Refused r) = r ≢ Refusal.CountFull
+abbrev Replies : Event → Result Answer Refusal → Type 0
+Replies e (Ok a) = times (tally a) ≡ ticks_of e
+Replies e (Err r) = r ≢ Refusal.CountFull
 
 replies : (s : Shape) (im : List ℕ) (e : Event) → Replies e (happening s im e).reply
 replies s im =
@@ -78,16 +77,16 @@ replies s im =
     (not_17 Refusal.MalformedEvent refl)
 
 module _ (s : Shape) (im : List ℕ) (e : Event) where
-  pub accepted_times : (a : Answer) → (happening s im e).reply ≡ Reply.Accepted a → times (tally a) ≡ ticks_of e
+  pub accepted_times : (a : Answer) → (happening s im e).reply ≡ Ok a → times (tally a) ≡ ticks_of e
   accepted_times a told = rw told at (replies s im e)
 
-  pub refused_not_17 : (r : Refusal) → (happening s im e).reply ≡ Reply.Refused r → r ≢ Refusal.CountFull
+  pub refused_not_17 : (r : Refusal) → (happening s im e).reply ≡ Err r → r ≢ Refusal.CountFull
   refused_not_17 r told = rw told at (replies s im e)
 
 -- from a good image what is counted has a place: its task is one of sixteen
-abbrev Placed : Reply → Type 0
-Placed (Reply.Accepted a) = Inside (tally a)
-Placed (Reply.Refused r) = Unit {0}
+abbrev Placed : Result Answer Refusal → Type 0
+Placed (Ok a) = Inside (tally a)
+Placed (Err r) = Unit {0}
 
 module _ (s : Shape) (im : List ℕ) (g : Good s im) where
   low : empty s im Queue.Ready ≡ false → (running s im).0 < most_tasks
@@ -108,27 +107,27 @@ module _ (s : Shape) (im : List ℕ) (g : Good s im) where
       (λ i. done_any s im i (λ o. Placed o.reply) (λ _. tt) (λ _ _. tt) (λ _ _. tt))
       tt
 
-  pub accepted_inside : (e : Event) (a : Answer) → (happening s im e).reply ≡ Reply.Accepted a → Inside (tally a)
+  pub accepted_inside : (e : Event) (a : Answer) → (happening s im e).reply ≡ Ok a → Inside (tally a)
   accepted_inside e a told = rw told at (placed e)
 
 -- the tests before a run do not answer 17
-abbrev Not17 : Verdict → Type 0
-Not17 v = v ≢ Verdict.Refused Refusal.CountFull
+abbrev Not17 : Result ⊤ Refusal → Type 0
+Not17 v = v ≢ Err Refusal.CountFull
 
-tested : (b : Bool) (r : Refusal) (v : Verdict) → eqb (number r) 17 ≡ false → Not17 v → Not17 (refused_if b r v)
+tested : (b : Bool) (r : Refusal) (v : Result ⊤ Refusal) → eqb (number r) 17 ≡ false → Not17 v → Not17 (refused_if b r v)
 tested b r v ne later = when Not17 b (λ _ e. eqb-false _ _ ne (ap verdict_number e)) (λ _. later)
 
-then_tested : (v w : Verdict) → Not17 v → Not17 w → Not17 (and_then v w)
-then_tested Verdict.Fine w first later = later
-then_tested (Verdict.Refused r) w first later = first
+then_tested : (v w : Result ⊤ Refusal) → Not17 v → Not17 w → Not17 (and_then v w)
+then_tested (Ok tt) w first later = later
+then_tested (Err r) w first later = first
 
-fine_tested : Not17 Verdict.Fine
+fine_tested : Not17 (Ok tt)
 fine_tested e = let z : ◌≡◌ {A = ℕ} 0 17 = ap verdict_number e in omega (arith, z)
 
-pub check_not_17 : (im events : List ℕ) → check_run im events ≢ Verdict.Refused Refusal.CountFull
+pub check_not_17 : (im events : List ℕ) → check_run im events ≢ Err Refusal.CountFull
 unfolding check
 check_not_17 im events =
-    then_tested (check im) (refused_if (not (eqb (length events % 3) 0)) Refusal.MalformedEvent Verdict.Fine)
+    then_tested (check im) (refused_if (not (eqb (length events % 3) 0)) Refusal.MalformedEvent (Ok tt))
     (tested (too_short im) Refusal.TooShort _ refl
     (tested (not_marked im) Refusal.NotMarked _ refl
     (tested (out_of_range (shape_of im)) Refusal.OutOfRange _ refl

@@ -1,4 +1,5 @@
 -- What the user is told of a run that counts holds. Assumes nothing.
+use Rattle.std.specs.Prelude.{Err, Ok, Result, ⊤}
 use mathlib.Core.Path.{◌≡◌, refl, sym, ap, ◌∙◌}
 use mathlib.Core.List.{List, ◌++◌}
 use mathlib.Core.Bool.{Bool, true, false, not}
@@ -17,8 +18,6 @@ use Rattle.paper.specs.declared.Shape.{Shape}
 use Rattle.paper.specs.declared.Event.{Event}
 use Rattle.paper.specs.declared.Answer.{Answer}
 use Rattle.paper.specs.declared.Refusal.{Refusal}
-use Rattle.paper.specs.declared.Reply.{Reply}
-use Rattle.paper.specs.declared.Verdict.{Verdict}
 use Rattle.laws.specs.Cases.{when}
 use Rattle.laws.specs.Layout.{shape_is}
 use Rattle.laws.specs.Checked.{checked_good, good_checked, never_fine, then_fine}
@@ -31,46 +30,46 @@ use Rattle.count_laws.proofs.Answers.{no_tick, accepted_times, accepted_inside, 
 use Rattle.count_laws.proofs.Reporting.{from_run, before_run, before_report, report_good, report_length, report_bounded, report_each, report_sum, report_joined, report_ends}
 
 -- a report of an image that passes the check and of whole events, and one that is refused as a whole
-report_whole : (im : List ℕ) → check im ≡ Verdict.Fine → (events : List ℕ) → length events % 3 ≡ 0 → (counts : List ℕ)
+report_whole : (im : List ℕ) → check im ≡ Ok tt → (events : List ℕ) → length events % 3 ≡ 0 → (counts : List ℕ)
     → report im events counts ≡ report_from (shape_of im) im counts events
 unfolding report
 report_whole im fine events w counts = rw (fine, eq-eqb (length events % 3) 0 w)
 
-report_refused : (im events counts : List ℕ) (r : Refusal) → check_run im events ≡ Verdict.Refused r
-    → report im events counts ≡ reported_at (Verdict.Refused r) im counts
+report_refused : (im events counts : List ℕ) (r : Refusal) → check_run im events ≡ Err r
+    → report im events counts ≡ reported_at (Err r) im counts
 unfolding report
 report_refused im events counts r e = rw e
 
-whole : (b : Bool) → refused_if (not b) Refusal.MalformedEvent Verdict.Fine ≡ Verdict.Fine → b ≡ true
+whole : (b : Bool) → refused_if (not b) Refusal.MalformedEvent (Ok tt) ≡ Ok tt → b ≡ true
 whole true e = refl
 whole false e = absurd (never_fine _ e)
 
 -- whatever holds of both holds of every report
 either : (P : Reported → Type 0) (im events counts : List ℕ)
-    → (check im ≡ Verdict.Fine → length events % 3 ≡ 0 → P (report_from (shape_of im) im counts events))
-    → ((r : Refusal) → check_run im events ≡ Verdict.Refused r → P (reported_at (Verdict.Refused r) im counts)) → P (report im events counts)
+    → (check im ≡ Ok tt → length events % 3 ≡ 0 → P (report_from (shape_of im) im counts events))
+    → ((r : Refusal) → check_run im events ≡ Err r → P (reported_at (Err r) im counts)) → P (report im events counts)
 either P im events counts fine refused = go (check_run im events) refl
   where
-    go : (v : Verdict) → check_run im events ≡ v → P (report im events counts)
-    go Verdict.Fine e =
-        let t = then_fine (check im) (refused_if (not (eqb (length events % 3) 0)) Refusal.MalformedEvent Verdict.Fine) e in
+    go : (v : Result ⊤ Refusal) → check_run im events ≡ v → P (report im events counts)
+    go (Ok tt) e =
+        let t = then_fine (check im) (refused_if (not (eqb (length events % 3) 0)) Refusal.MalformedEvent (Ok tt)) e in
         let w = eqb-true (length events % 3) 0 (whole (eqb (length events % 3) 0) t.1) in
         rw (report_whole im t.0 events w counts) (fine t.0 w)
-    go (Verdict.Refused r) e = rw (report_refused im events counts r e) (refused r e)
+    go (Err r) e = rw (report_refused im events counts r e) (refused r e)
 
-as_run : (im events counts : List ℕ) → (report im events counts).stop ≢ Verdict.Refused Refusal.CountFull → as_ran (report im events counts) ≡ run im events
+as_run : (im events counts : List ℕ) → (report im events counts).stop ≢ Err Refusal.CountFull → as_ran (report im events counts) ≡ run im events
 as_run im events counts =
-    either (λ rep. rep.stop ≢ Verdict.Refused Refusal.CountFull → as_ran rep ≡ run im events) im events counts
+    either (λ rep. rep.stop ≢ Err Refusal.CountFull → as_ran rep ≡ run im events) im events counts
     (λ fine w ne. rw (run_whole im fine events w) (from_run (shape_of im) events im counts ne))
     (λ r e ne. rw (run_refused im events r e))
 
-full_at : (im events counts : List ℕ) → (report im events counts).stop ≡ Verdict.Refused Refusal.CountFull
-    → (check im ≡ Verdict.Fine) × (length events % 3 ≡ 0)
+full_at : (im events counts : List ℕ) → (report im events counts).stop ≡ Err Refusal.CountFull
+    → (check im ≡ Ok tt) × (length events % 3 ≡ 0)
 full_at im events counts =
-    either (λ rep. rep.stop ≡ Verdict.Refused Refusal.CountFull → (check im ≡ Verdict.Fine) × (length events % 3 ≡ 0)) im events counts
+    either (λ rep. rep.stop ≡ Err Refusal.CountFull → (check im ≡ Ok tt) × (length events % 3 ≡ 0)) im events counts
     (λ fine w _. (fine, w)) (λ r e z. absurd (check_not_17 im events (e ∙ z)))
 
-full : (im events counts : List ℕ) → (report im events counts).stop ≡ Verdict.Refused Refusal.CountFull → Full im events counts
+full : (im events counts : List ℕ) → (report im events counts).stop ≡ Err Refusal.CountFull → Full im events counts
 full im events counts z =
     let h = full_at im events counts z in
     let s = shape_of im in
@@ -91,24 +90,24 @@ full im events counts z =
 
 -- a counted event: its count is at its end, it is accepted and counted, or it is refused
 counted_any : (s : Shape) (im counts : List ℕ) (e : Event) (P : Counted → Type 0)
-    → ((a : Answer) → P (record { reply = Reply.Refused Refusal.CountFull; image = im; counts = counts }))
-    → ((a : Answer) → (happening s im e).reply ≡ Reply.Accepted a → P (record { reply = Reply.Accepted a; image = (happening s im e).image; counts = counted counts (tally a) }))
-    → ((r : Refusal) → P (record { reply = Reply.Refused r; image = (happening s im e).image; counts = counts })) → P (counted_event s im counts e)
+    → ((a : Answer) → P (record { reply = Err Refusal.CountFull; image = im; counts = counts }))
+    → ((a : Answer) → (happening s im e).reply ≡ Ok a → P (record { reply = Ok a; image = (happening s im e).image; counts = counted counts (tally a) }))
+    → ((r : Refusal) → P (record { reply = Err r; image = (happening s im e).image; counts = counts })) → P (counted_event s im counts e)
 unfolding counted_event
 counted_any s im counts e P at_end taken refused = go (happening s im e).reply refl
   where
-    go : (r : Reply) → (happening s im e).reply ≡ r → P (counting r im (happening s im e).image counts)
-    go (Reply.Accepted a) told = when P (passes_end counts (tally a)) (λ _. at_end a) (λ _. taken a told)
-    go (Reply.Refused r) told = refused r
+    go : (r : Result Answer Refusal) → (happening s im e).reply ≡ r → P (counting r im (happening s im e).image counts)
+    go (Ok a) told = when P (passes_end counts (tally a)) (λ _. at_end a) (λ _. taken a told)
+    go (Err r) told = refused r
 
-never_accepted : (r : Refusal) (a : Answer) → Reply.Refused r ≢ Reply.Accepted a
+never_accepted : (r : Refusal) (a : Answer) → Err r ≢ Ok a
 never_accepted r a e = let z : ◌≡◌ {A = ℕ} 0 1 = cc in omega (arith, z)
 
-under_one : (im counts : List ℕ) → check im ≡ Verdict.Fine → length counts ≡ all_counts → (a : Answer)
-    → (counted_event (shape_of im) im counts Event.Tick).reply ≡ Reply.Accepted a → OneMore counts (counted_event (shape_of im) im counts Event.Tick).counts
+under_one : (im counts : List ℕ) → check im ≡ Ok tt → length counts ≡ all_counts → (a : Answer)
+    → (counted_event (shape_of im) im counts Event.Tick).reply ≡ Ok a → OneMore counts (counted_event (shape_of im) im counts Event.Tick).counts
 under_one im counts fine n a =
     let s = shape_of im in
-    counted_any s im counts Event.Tick (λ o. o.reply ≡ Reply.Accepted a → OneMore counts o.counts) (λ b z. absurd (never_accepted _ a z))
+    counted_any s im counts Event.Tick (λ o. o.reply ≡ Ok a → OneMore counts o.counts) (λ b z. absurd (never_accepted _ a z))
     (λ b told z.
     counted_one counts (tally b) n (accepted_inside s im (checked_good im fine) Event.Tick b told) (accepted_times s im Event.Tick b told))
     (λ r z. absurd (never_accepted r a z))
@@ -143,17 +142,17 @@ bounded : (im events counts : List ℕ) → Bounded counts → Bounded (report i
 bounded im events counts b =
     either (λ rep. Bounded rep.counts) im events counts (λ _ _. report_bounded (shape_of im) events im counts b) (λ _ _. b)
 
-stays_good : (im events counts : List ℕ) → check im ≡ Verdict.Fine → check (report im events counts).image ≡ Verdict.Fine
+stays_good : (im events counts : List ℕ) → check im ≡ Ok tt → check (report im events counts).image ≡ Ok tt
 stays_good im events counts fine =
-    either (λ rep. check rep.image ≡ Verdict.Fine) im events counts
+    either (λ rep. check rep.image ≡ Ok tt) im events counts
     (λ _ _. good_checked (shape_of im) _ (report_good (shape_of im) events im counts (checked_good im fine))) (λ _ _. fine)
 
 -- a list that is taken whole, and a second one
-joined : (im events later counts : List ℕ) → (report im events counts).stop ≡ Verdict.Fine → length later % 3 ≡ 0
+joined : (im events later counts : List ℕ) → (report im events counts).stop ≡ Ok tt → length later % 3 ≡ 0
     → report im (events ++ later) counts ≡
     one_and (report im events counts) (report (report im events counts).image later (report im events counts).counts)
 joined im events later counts f w =
-    either (λ rep. rep.stop ≡ Verdict.Fine → report im (events ++ later) counts ≡ one_and rep (report rep.image later rep.counts)) im events counts
+    either (λ rep. rep.stop ≡ Ok tt → report im (events ++ later) counts ≡ one_and rep (report rep.image later rep.counts)) im events counts
     (λ fine v z.
     let s = shape_of im in
     let rep = report_from s im counts events in

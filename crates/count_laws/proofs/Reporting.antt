@@ -1,4 +1,5 @@
 -- Counted events one after another: one induction, and what it shows of what was taken, of the image and of the counts. Assumes nothing.
+use Rattle.std.specs.Prelude.{Err, Ok, Result}
 use mathlib.Core.Path.{◌≡◌, refl, sym, ap, ◌∙◌}
 use mathlib.Core.List.{List, [], ◌∷◌, ◌++◌}
 use mathlib.Core.Bool.{Bool, true, false, cond}
@@ -19,8 +20,6 @@ use Rattle.paper.specs.declared.Shape.{Shape}
 use Rattle.paper.specs.declared.Event.{Event}
 use Rattle.paper.specs.declared.Answer.{Answer}
 use Rattle.paper.specs.declared.Refusal.{Refusal}
-use Rattle.paper.specs.declared.Reply.{Reply}
-use Rattle.paper.specs.declared.Verdict.{Verdict}
 use Rattle.laws.specs.Checked.{all_three, never_fine}
 use Rattle.event_laws.proofs.Stays.{words_good}
 use Rattle.event_laws.specs.Walk.{happening_unchanged}
@@ -32,33 +31,33 @@ use Rattle.count_laws.proofs.Answers.{words_ticks, one_tick, accepted_times, ref
 
 -- what one event comes to: it is taken and counted, its count is at its end, or it is refused and alters nothing
 module _ (s : Shape) (im counts : List ℕ) (k d c : ℕ) (later : List ℕ) where
-  pub report_more : (a : Answer) → (happening s im (event_of s k d c)).reply ≡ Reply.Accepted a → passes_end counts (tally a) ≡ false
+  pub report_more : (a : Answer) → (happening s im (event_of s k d c)).reply ≡ Ok a → passes_end counts (tally a) ≡ false
       → report_from s im counts (k ∷ d ∷ c ∷ later) ≡ one_reported (report_from s (happening s im (event_of s k d c)).image (counted counts (tally a)) later)
   unfolding counted_event
   report_more a e f = rw (e, f)
 
-  pub report_full : (a : Answer) → (happening s im (event_of s k d c)).reply ≡ Reply.Accepted a → passes_end counts (tally a) ≡ true
-      → report_from s im counts (k ∷ d ∷ c ∷ later) ≡ reported_at (Verdict.Refused Refusal.CountFull) im counts
+  pub report_full : (a : Answer) → (happening s im (event_of s k d c)).reply ≡ Ok a → passes_end counts (tally a) ≡ true
+      → report_from s im counts (k ∷ d ∷ c ∷ later) ≡ reported_at (Err Refusal.CountFull) im counts
   unfolding counted_event
   report_full a e f = rw (e, f)
 
-  pub report_last : (r : Refusal) → (happening s im (event_of s k d c)).reply ≡ Reply.Refused r
-      → report_from s im counts (k ∷ d ∷ c ∷ later) ≡ reported_at (Verdict.Refused r) im counts
+  pub report_last : (r : Refusal) → (happening s im (event_of s k d c)).reply ≡ Err r
+      → report_from s im counts (k ∷ d ∷ c ∷ later) ≡ reported_at (Err r) im counts
   unfolding counted_event
   report_last r e = rw (e, happening_unchanged s im (event_of s k d c) r e)
 
 -- what is to be shown of a report of no event, of words that are none, of one more event, of one whose count is at its end, and of a refused one
 pub record ReportCases (s : Shape) (P : List ℕ → List ℕ → List ℕ → Reported → Type 0) : Type 0 where
-  pub none : (im counts : List ℕ) → P im counts [] (reported_at Verdict.Fine im counts)
-  pub one : (im counts : List ℕ) (k : ℕ) → P im counts (k ∷ []) (reported_at (Verdict.Refused Refusal.MalformedEvent) im counts)
-  pub two : (im counts : List ℕ) (k d : ℕ) → P im counts (k ∷ d ∷ []) (reported_at (Verdict.Refused Refusal.MalformedEvent) im counts)
-  pub more : (im counts : List ℕ) (k d c : ℕ) (later : List ℕ) (a : Answer) → (happening s im (event_of s k d c)).reply ≡ Reply.Accepted a → passes_end counts (tally a) ≡ false
+  pub none : (im counts : List ℕ) → P im counts [] (reported_at (Ok tt) im counts)
+  pub one : (im counts : List ℕ) (k : ℕ) → P im counts (k ∷ []) (reported_at (Err Refusal.MalformedEvent) im counts)
+  pub two : (im counts : List ℕ) (k d : ℕ) → P im counts (k ∷ d ∷ []) (reported_at (Err Refusal.MalformedEvent) im counts)
+  pub more : (im counts : List ℕ) (k d c : ℕ) (later : List ℕ) (a : Answer) → (happening s im (event_of s k d c)).reply ≡ Ok a → passes_end counts (tally a) ≡ false
       → P (happening s im (event_of s k d c)).image (counted counts (tally a)) later (report_from s (happening s im (event_of s k d c)).image (counted counts (tally a)) later)
       → P im counts (k ∷ d ∷ c ∷ later) (one_reported (report_from s (happening s im (event_of s k d c)).image (counted counts (tally a)) later))
-  pub full : (im counts : List ℕ) (k d c : ℕ) (later : List ℕ) (a : Answer) → (happening s im (event_of s k d c)).reply ≡ Reply.Accepted a → passes_end counts (tally a) ≡ true
-      → P im counts (k ∷ d ∷ c ∷ later) (reported_at (Verdict.Refused Refusal.CountFull) im counts)
-  pub last : (im counts : List ℕ) (k d c : ℕ) (later : List ℕ) (r : Refusal) → (happening s im (event_of s k d c)).reply ≡ Reply.Refused r
-      → P im counts (k ∷ d ∷ c ∷ later) (reported_at (Verdict.Refused r) im counts)
+  pub full : (im counts : List ℕ) (k d c : ℕ) (later : List ℕ) (a : Answer) → (happening s im (event_of s k d c)).reply ≡ Ok a → passes_end counts (tally a) ≡ true
+      → P im counts (k ∷ d ∷ c ∷ later) (reported_at (Err Refusal.CountFull) im counts)
+  pub last : (im counts : List ℕ) (k d c : ℕ) (later : List ℕ) (r : Refusal) → (happening s im (event_of s k d c)).reply ≡ Err r
+      → P im counts (k ∷ d ∷ c ∷ later) (reported_at (Err r) im counts)
 
 -- holds of every report
 pub report_any : (s : Shape) (P : List ℕ → List ℕ → List ℕ → Reported → Type 0) → ReportCases s P → (events im counts : List ℕ) → P im counts events (report_from s im counts events)
@@ -71,21 +70,21 @@ report_any s P h (k ∷ d ∷ c ∷ later) im counts =
     m : List ℕ
     m = (happening s im (event_of s k d c)).image
 
-    go : (r : Reply) → (happening s im (event_of s k d c)).reply ≡ r → ((more : List ℕ) → P m more later (report_from s m more later))
+    go : (r : Result Answer Refusal) → (happening s im (event_of s k d c)).reply ≡ r → ((more : List ℕ) → P m more later (report_from s m more later))
         → P im counts (k ∷ d ∷ c ∷ later) (report_from s im counts (k ∷ d ∷ c ∷ later))
-    go (Reply.Accepted a) e ih = test (passes_end counts (tally a)) refl
+    go (Ok a) e ih = test (passes_end counts (tally a)) refl
       where
         test : (b : Bool) → passes_end counts (tally a) ≡ b → P im counts (k ∷ d ∷ c ∷ later) (report_from s im counts (k ∷ d ∷ c ∷ later))
         test true f = rw (report_full s im counts k d c later a e f) (h.full im counts k d c later a e f)
         test false f = rw (report_more s im counts k d c later a e f) (h.more im counts k d c later a e f (ih (counted counts (tally a))))
-    go (Reply.Refused r) e ih = rw (report_last s im counts k d c later r e) (h.last im counts k d c later r e)
+    go (Err r) e ih = rw (report_last s im counts k d c later r e) (h.last im counts k d c later r e)
 
 module _ (s : Shape) where
   -- where 17 does not come it is the run
-  pub from_run : (events im counts : List ℕ) → (report_from s im counts events).stop ≢ Verdict.Refused Refusal.CountFull
+  pub from_run : (events im counts : List ℕ) → (report_from s im counts events).stop ≢ Err Refusal.CountFull
       → as_ran (report_from s im counts events) ≡ run_from s im events
   from_run =
-      report_any s (λ im counts events rep. rep.stop ≢ Verdict.Refused Refusal.CountFull → as_ran rep ≡ run_from s im events)
+      report_any s (λ im counts events rep. rep.stop ≢ Err Refusal.CountFull → as_ran rep ≡ run_from s im events)
       record {
         none = λ _ _ _. refl;
         one = λ _ _ _ _. refl;
@@ -196,11 +195,11 @@ module _ (s : Shape) where
       }
 
   -- one list after another, the first taken whole
-  pub report_joined : (events im counts later : List ℕ) → (report_from s im counts events).stop ≡ Verdict.Fine
+  pub report_joined : (events im counts later : List ℕ) → (report_from s im counts events).stop ≡ Ok tt
       → report_from s im counts (events ++ later) ≡
       one_and (report_from s im counts events) (report_from s (report_from s im counts events).image (report_from s im counts events).counts later)
   report_joined events im counts later =
-      report_any s (λ im counts events rep. rep.stop ≡ Verdict.Fine
+      report_any s (λ im counts events rep. rep.stop ≡ Ok tt
       → report_from s im counts (events ++ later) ≡ one_and rep (report_from s rep.image rep.counts later))
       record {
         none = λ _ _ _. rw zero-add;
@@ -218,7 +217,7 @@ pub record Ends (s : Shape) (events : List ℕ) (rep : Reported) : Type 0 where
   pub next : events ≡ first_events rep.taken events ++ (0 ∷ 0 ∷ 0 ∷ rest)
   pub some_left : 3 * rep.taken < length events
   pub answer : Answer
-  pub accepted : (happening s rep.image Event.Tick).reply ≡ Reply.Accepted answer
+  pub accepted : (happening s rep.image Event.Tick).reply ≡ Ok answer
   pub at_its_end : passes_end rep.counts (tally answer) ≡ true
 
 is_three : (k d c : ℕ) (later : List ℕ) → is_tick k d c ≡ true → k ∷ d ∷ c ∷ later ≡ 0 ∷ 0 ∷ 0 ∷ later
@@ -230,9 +229,9 @@ test_of : (b : Bool) → ◌≡◌ {A = ℕ} (cond b 1 0) 1 → b ≡ true
 test_of true e = refl
 test_of false e = absurd (omega (arith, e))
 
-pub report_ends : (s : Shape) (events im counts : List ℕ) → (report_from s im counts events).stop ≡ Verdict.Refused Refusal.CountFull → Ends s events (report_from s im counts events)
+pub report_ends : (s : Shape) (events im counts : List ℕ) → (report_from s im counts events).stop ≡ Err Refusal.CountFull → Ends s events (report_from s im counts events)
 report_ends s =
-    report_any s (λ im counts events rep. rep.stop ≡ Verdict.Refused Refusal.CountFull → Ends s events rep)
+    report_any s (λ im counts events rep. rep.stop ≡ Err Refusal.CountFull → Ends s events rep)
     record {
       none = λ _ _ z. absurd (never_fine _ (sym z));
       one = λ _ _ _ z. absurd (malformed z);
@@ -260,5 +259,5 @@ report_ends s =
       last = λ im counts k d c later r e z. absurd (refused_not_17 s im (event_of s k d c) r e (cc));
     }
   where
-    malformed : Verdict.Refused Refusal.MalformedEvent ≢ Verdict.Refused Refusal.CountFull
+    malformed : Err Refusal.MalformedEvent ≢ Err Refusal.CountFull
     malformed z = let n : ◌≡◌ {A = ℕ} 7 17 = ap verdict_number z in omega (arith, n)

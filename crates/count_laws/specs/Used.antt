@@ -1,6 +1,6 @@
 -- "Who used the machine last night" (request 4): what the user is told of `report`, the run that counts (crates/paper/specs/Counts.antt).
 -- What stands in quotes is the user's. All of it is proved, in proofs/Proved.antt, and nothing is assumed.
-use Rattle.std.specs.Prelude.{◌≡◌, List, [], ◌∷◌, ◌++◌, true, cond, ◌≢◌, ◌⊎◌, ℕ, ◌+◌, ◌*◌, ◌%◌, ◌^◌, ◌<◌, ◌≤◌, eqb, length, get_or}
+use Rattle.std.specs.Prelude.{◌≡◌, List, [], ◌∷◌, ◌++◌, true, cond, ◌≢◌, ◌⊎◌, ℕ, ◌+◌, ◌*◌, ◌%◌, ◌^◌, ◌<◌, ◌≤◌, eqb, length, get_or, Err, Ok, Result}
 use Rattle.paper.specs.Image.{most_tasks, shape_of}
 use Rattle.paper.specs.Events.{is_tick, event_of, happening}
 use Rattle.paper.specs.Numbers.{check}
@@ -11,8 +11,6 @@ use Rattle.paper.specs.declared.Shape.{Shape}
 use Rattle.paper.specs.declared.Event.{Event}
 use Rattle.paper.specs.declared.Answer.{Answer}
 use Rattle.paper.specs.declared.Refusal.{Refusal}
-use Rattle.paper.specs.declared.Verdict.{Verdict}
-use Rattle.paper.specs.declared.Reply.{Reply}
 use Rattle.paper.specs.declared.Heading.{Heading}
 use Rattle.paper.specs.declared.Tally.{Tally}
 use Rattle.user_laws.specs.Taken.{first_events}
@@ -30,9 +28,9 @@ times_at k Tally.Nowhere = 0
 times_at k Tally.Idle = cond (eqb k idle_count) 1 0
 times_at k (Tally.Under i h) = cond (eqb k (count_place i h)) 1 0
 
-abbrev pub replied_at : ℕ → Reply → ℕ
-replied_at k (Reply.Accepted a) = times_at k (tally a)
-replied_at k (Reply.Refused r) = 0
+abbrev pub replied_at : ℕ → Result Answer Refusal → ℕ
+replied_at k (Ok a) = times_at k (tally a)
+replied_at k (Err r) = 0
 
 -- how many events of a list are counted at place k, each on the image that those before it leave
 abbrev pub counted_in : Shape → ℕ → List ℕ → List ℕ → ℕ
@@ -54,7 +52,7 @@ abbrev pub as_ran : Reported → Ran
 as_ran r = record { taken = r.taken; stop = r.stop; image = r.image }
 
 abbrev pub all_reported : Reported → Reported
-all_reported r = record { taken = r.taken; stop = Verdict.Fine; image = r.image; counts = r.counts }
+all_reported r = record { taken = r.taken; stop = Ok tt; image = r.image; counts = r.counts }
 
 abbrev pub one_and : Reported → Reported → Reported
 one_and a b = record { taken = a.taken + b.taken; stop = b.stop; image = b.image; counts = b.counts }
@@ -65,7 +63,7 @@ pub record Full (im events counts : List ℕ) : Type 0 where
   pub rest : List ℕ
   pub next : events ≡ taken_events im events counts ++ (0 ∷ 0 ∷ 0 ∷ rest)
   pub answer : Answer
-  pub accepted : (happening (shape_of im) (report im events counts).image Event.Tick).reply ≡ Reply.Accepted answer
+  pub accepted : (happening (shape_of im) (report im events counts).image Event.Tick).reply ≡ Ok answer
   pub at_its_end : passes_end (report im events counts).counts (tally answer) ≡ true
   -- the events before it are a run that takes them all and leaves the report's image, and a report with its image and its counts
   pub run_before : run im (taken_events im events counts) ≡ as_ran (all_reported (report im events counts))
@@ -86,16 +84,16 @@ Bounded counts = (k : ℕ) → get_or counts k 0 ≤ most_count
 
 pub record Used : Type 0 where
   -- where 17 does not come, it takes the events of `run`, stops where that stops and leaves its image
-  pub as_run : (im events counts : List ℕ) → (report im events counts).stop ≢ Verdict.Refused Refusal.CountFull
+  pub as_run : (im events counts : List ℕ) → (report im events counts).stop ≢ Err Refusal.CountFull
       → as_ran (report im events counts) ≡ run im events
   -- where 17 comes, "the run stops before that event": it is an accepted tick, and nothing of it was done or counted
-  pub full : (im events counts : List ℕ) → (report im events counts).stop ≡ Verdict.Refused Refusal.CountFull → Full im events counts
+  pub full : (im events counts : List ℕ) → (report im events counts).stop ≡ Err Refusal.CountFull → Full im events counts
   -- "every accepted tick is counted under exactly one heading"
-  pub under_one : (im counts : List ℕ) → check im ≡ Verdict.Fine → length counts ≡ all_counts → (a : Answer)
-      → (counted_event (shape_of im) im counts Event.Tick).reply ≡ Reply.Accepted a
+  pub under_one : (im counts : List ℕ) → check im ≡ Ok tt → length counts ≡ all_counts → (a : Answer)
+      → (counted_event (shape_of im) im counts Event.Tick).reply ≡ Ok a
       → OneMore counts (counted_event (shape_of im) im counts Event.Tick).counts
   -- and an image that passes the check passes it after any events, so that this holds of each tick of a run
-  pub stays_good : (im events counts : List ℕ) → check im ≡ Verdict.Fine → check (report im events counts).image ≡ Verdict.Fine
+  pub stays_good : (im events counts : List ℕ) → check im ≡ Ok tt → check (report im events counts).image ≡ Ok tt
   -- no two headings, of one task or of two, have one count, and none has that of the idle ticks
   pub headings_apart : (i j : Task) (h g : Heading) → count_place i h ≡ count_place j g → (i.0 ≡ j.0) × (h ≡ g)
   pub idle_apart : (i : Task) (h : Heading) → i.0 < most_tasks → count_place i h ≢ idle_count
@@ -112,7 +110,7 @@ pub record Used : Type 0 where
       → get_or (report other later (report im events counts).counts).counts k 0 ≡
       get_or counts k 0 + used_at im events counts k + used_at other later (report im events counts).counts k
   -- a list that is taken whole, and then a second one, are reported as both joined
-  pub joined : (im events later counts : List ℕ) → (report im events counts).stop ≡ Verdict.Fine → length later % 3 ≡ 0
+  pub joined : (im events later counts : List ℕ) → (report im events counts).stop ≡ Ok tt → length later % 3 ≡ 0
       → report im (events ++ later) counts ≡
       one_and (report im events counts) (report (report im events counts).image later (report im events counts).counts)
   -- "counts end at 4294967295": no count passes that, the 97 stay 97, and the sum of such is below 2^39
@@ -120,5 +118,5 @@ pub record Used : Type 0 where
   pub as_many : (im events counts : List ℕ) → length (report im events counts).counts ≡ length counts
   pub sum_small : (counts : List ℕ) → length counts ≡ all_counts → Bounded counts → sum counts < 2 ^ 39
   -- a refused image or list: nothing is taken, altered or counted
-  pub refused : (im events counts : List ℕ) (r : Refusal) → check_run im events ≡ Verdict.Refused r
-      → report im events counts ≡ reported_at (Verdict.Refused r) im counts
+  pub refused : (im events counts : List ℕ) (r : Refusal) → check_run im events ≡ Err r
+      → report im events counts ≡ reported_at (Err r) im counts

@@ -1,4 +1,5 @@
 -- A run that is not refused as a whole is calls of event, up to the first refused one. Assumes nothing.
+use Rattle.std.specs.Prelude.{Err, Ok, Result}
 use mathlib.Core.Path.{◌≡◌, refl, sym, ap, ◌∙◌}
 use mathlib.Core.List.{List, [], ◌∷◌}
 use mathlib.Core.Bool.{not}
@@ -15,12 +16,11 @@ use Rattle.paper.specs.Calls.{Ran, event, goes_on, check_run, run}
 use Rattle.paper.specs.Promises.{Runs}
 use Rattle.paper.specs.declared.Ended.{Ended}
 use Rattle.paper.specs.declared.Refusal.{Refusal}
-use Rattle.paper.specs.declared.Reply.{Reply}
-use Rattle.paper.specs.declared.Verdict.{Verdict}
 use Rattle.laws.specs.Checked.{no_fault, passed, never_fine, zero_is, then_fine}
 use Rattle.user_laws.specs.Folded.{each_event, event_unchanged, run_folds}
 use Rattle.user_laws.specs.Taken.{first_events, events_whole}
 use Rattle.demands.specs.Demands.{word_of, IsCalls}
+use Rattle.paper.specs.declared.Answer.{Answer}
 
 -- what the call on event n finds, and what it comes to
 abbrev called : List ℕ → List ℕ → ℕ → Outcome
@@ -45,14 +45,14 @@ module _ (x y z : ℕ) (later : List ℕ) where
       ap (λ (m : List ℕ). (called m later n).image) (image_later im n)
 
 -- a list that passes is of whole events
-whole_list : (im events : List ℕ) → check_run im events ≡ Verdict.Fine → length events % 3 ≡ 0
+whole_list : (im events : List ℕ) → check_run im events ≡ Ok tt → length events % 3 ≡ 0
 whole_list im events fine =
     let b = eqb (length events % 3) 0 in
-    eqb-true (length events % 3) 0 ((no_fault b).0 ((passed (not b) Refusal.MalformedEvent Verdict.Fine).0 (then_fine (check im) (refused_if (not b) Refusal.MalformedEvent Verdict.Fine) fine).1).0)
+    eqb-true (length events % 3) 0 ((no_fault b).0 ((passed (not b) Refusal.MalformedEvent (Ok tt)).0 (then_fine (check im) (refused_if (not b) Refusal.MalformedEvent (Ok tt)) fine).1).0)
 
 -- n events taken, with none refused
 abbrev all_of : ℕ → List ℕ → Ran
-all_of n m = record { taken = n; stop = Verdict.Fine; image = m }
+all_of n m = record { taken = n; stop = Ok tt; image = m }
 
 -- a run as calls, and the call that stops it
 record Folds (im events : List ℕ) (r : Ran) : Type 0 where
@@ -75,8 +75,8 @@ folds (x ∷ y ∷ z ∷ later) im h = go (event im x y z).reply refl (folds lat
     m : List ℕ
     m = (event im x y z).image
 
-    go : (r : Reply) → (event im x y z).reply ≡ r → Folds m later (each_event m later) → Folds im (x ∷ y ∷ z ∷ later) (goes_on r m (λ next. each_event next later))
-    go (Reply.Accepted a) e f =
+    go : (r : Result Answer Refusal) → (event im x y z).reply ≡ r → Folds m later (each_event m later) → Folds im (x ∷ y ∷ z ∷ later) (goes_on r m (λ next. each_event next later))
+    go (Ok a) e f =
         record {
           accepted = each;
           ends = rw one-add (f.ends ∙ sym (image_later x y z later im (each_event m later).taken));
@@ -94,25 +94,25 @@ folds (x ∷ y ∷ z ∷ later) im h = go (event im x y z).reply refl (folds lat
         part : (n : ℕ) → n ≤ 1 + (each_event m later).taken → each_event im (first_events n (x ∷ y ∷ z ∷ later)) ≡ all_of n (image_at im (x ∷ y ∷ z ∷ later) n)
         part zero l = refl
         part (suc n) l = rw (e, image_later x y z later im n, f.parts n (omega (arith, l)), one-add)
-    go (Reply.Refused r) e f =
+    go (Err r) e f =
         let u : m ≡ im = event_unchanged im x y z r e in
         record {
           accepted = λ n l. absurd (omega arith);
           ends = u;
           parts = no_part _ im;
-          whole = λ none. absurd (never_fine r ((zero_is (Verdict.Refused r)).0 none));
+          whole = λ none. absurd (never_fine r ((zero_is (Err r)).0 none));
           stopped = λ ne. (omega arith, rw (u, e));
         }
 
 -- a run whose tests show no fault
-module _ (im events : List ℕ) (a : Ended) (after : List ℕ) (p : Runs im events a after) (fine : check_run im events ≡ Verdict.Fine) where
+module _ (im events : List ℕ) (a : Ended) (after : List ℕ) (p : Runs im events a after) (fine : check_run im events ≡ Ok tt) where
   folded : Folds im events (run im events)
   folded = rw (run_folds im events fine) (folds events im (whole_list im events fine))
 
   part_run : (n : ℕ) → n ≤ (run im events).taken → run im (first_events n events) ≡ all_of n (image_at im events n)
   part_run n l =
       let part = first_events n events in
-      let f : check_run im part ≡ Verdict.Fine = rw ((then_fine (check im) _ fine).0, eq-eqb (length part % 3) 0 (events_whole n events)) in
+      let f : check_run im part ≡ Ok tt = rw ((then_fine (check im) _ fine).0, eq-eqb (length part % 3) 0 (events_whole n events)) in
       run_folds im part f ∙ folded.parts n l
 
   pub is_calls : IsCalls im events a after

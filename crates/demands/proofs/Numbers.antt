@@ -1,4 +1,5 @@
 -- The numbers that the definitions give are the numbers of the page's tests. Assumes nothing.
+use Rattle.std.specs.Prelude.{Err, Ok, Result, ⊤}
 use mathlib.Core.Path.{◌≡◌, refl, sym, ap, ◌∙◌}
 use mathlib.Core.List.{List, [], ◌∷◌, ◌++◌}
 use mathlib.Core.Bool.{Bool, true, false, not, cond}
@@ -22,15 +23,13 @@ use Rattle.paper.specs.declared.Queue.{Queue}
 use Rattle.paper.specs.declared.Event.{Event}
 use Rattle.paper.specs.declared.Answer.{Answer}
 use Rattle.paper.specs.declared.Refusal.{Refusal}
-use Rattle.paper.specs.declared.Reply.{Reply}
-use Rattle.paper.specs.declared.Verdict.{Verdict}
 use Rattle.event_laws.specs.Walk.{input_any, done_any, event_any}
 use Rattle.demands.specs.Demands.{due, image_tests, plan_tests, build_tests, event_tests, call_tests, run_tests, Malformed, InputFull, PortIdle, Exactly}
 
 -- tests in their order, and then others
-image_six : (a b c d e f : Bool) (later : Verdict) (tests : List (ℕ × Bool)) → verdict_number later ≡ due tests
+image_six : (a b c d e f : Bool) (later : Result ⊤ Refusal) (tests : List (ℕ × Bool)) → verdict_number later ≡ due tests
     → verdict_number (and_then (refused_if a Refusal.TooShort (refused_if b Refusal.NotMarked (refused_if c Refusal.OutOfRange
-    (refused_if d Refusal.NotPacked (refused_if e Refusal.WrongSegments (refused_if f Refusal.RuleBroken Verdict.Fine)))))) later)
+    (refused_if d Refusal.NotPacked (refused_if e Refusal.WrongSegments (refused_if f Refusal.RuleBroken (Ok tt))))))) later)
     ≡ due ((1, a) ∷ (2, b) ∷ (3, c) ∷ (4, d) ∷ (5, e) ∷ (6, f) ∷ tests)
 image_six true b c d e f later tests h = refl
 image_six false true c d e f later tests h = refl
@@ -40,39 +39,39 @@ image_six false false false false true f later tests h = refl
 image_six false false false false false true later tests h = refl
 image_six false false false false false false later tests h = h
 
-check_due : (im : List ℕ) (later : Verdict) (tests : List (ℕ × Bool)) → verdict_number later ≡ due tests
+check_due : (im : List ℕ) (later : Result ⊤ Refusal) (tests : List (ℕ × Bool)) → verdict_number later ≡ due tests
     → verdict_number (and_then (check im) later) ≡ due (image_tests im ++ tests)
 unfolding check
 check_due im =
     let s = shape_of im in
     image_six (too_short im) (not_marked im) (out_of_range s) (not_packed s) (wrong_segments s im) (not (rules_hold s im))
 
-plan_three : (a b c : Bool) (later : Verdict) (tests : List (ℕ × Bool)) → verdict_number later ≡ due tests
-    → verdict_number (and_then (refused_if a Refusal.BadPlan (refused_if b Refusal.OutOfRange (refused_if c Refusal.BadPlan Verdict.Fine))) later)
+plan_three : (a b c : Bool) (later : Result ⊤ Refusal) (tests : List (ℕ × Bool)) → verdict_number later ≡ due tests
+    → verdict_number (and_then (refused_if a Refusal.BadPlan (refused_if b Refusal.OutOfRange (refused_if c Refusal.BadPlan (Ok tt)))) later)
     ≡ due ((11, a) ∷ (3, b) ∷ (11, c) ∷ tests)
 plan_three true b c later tests h = refl
 plan_three false true c later tests h = refl
 plan_three false false true later tests h = refl
 plan_three false false false later tests h = h
 
-plan_then_due : (plan : List ℕ) (later : Verdict) (tests : List (ℕ × Bool)) → verdict_number later ≡ due tests
+plan_then_due : (plan : List ℕ) (later : Result ⊤ Refusal) (tests : List (ℕ × Bool)) → verdict_number later ≡ due tests
     → verdict_number (and_then (check_plan plan) later) ≡ due (plan_tests plan ++ tests)
 unfolding check_plan
 plan_then_due plan = plan_three (plan_short plan) (out_of_range (plan_shape plan)) (plan_broken plan)
 
 -- and no others
-then_none : (v : Verdict) → and_then v Verdict.Fine ≡ v
-then_none Verdict.Fine = refl
-then_none (Verdict.Refused r) = refl
+then_none : (v : Result ⊤ Refusal) → and_then v (Ok tt) ≡ v
+then_none (Ok tt) = refl
+then_none (Err r) = refl
 
 pub image_due : (im : List ℕ) → verdict_number (check im) ≡ due (image_tests im)
-image_due im = ap verdict_number (sym (then_none (check im))) ∙ check_due im Verdict.Fine [] refl
+image_due im = ap verdict_number (sym (then_none (check im))) ∙ check_due im (Ok tt) [] refl
 
 pub plan_due : (plan : List ℕ) → verdict_number (check_plan plan) ≡ due (plan_tests plan)
-plan_due plan = ap verdict_number (sym (then_none (check_plan plan))) ∙ plan_then_due plan Verdict.Fine [] refl
+plan_due plan = ap verdict_number (sym (then_none (check_plan plan))) ∙ plan_then_due plan (Ok tt) [] refl
 
 -- one test alone
-last_due : (b : Bool) (r : Refusal) → verdict_number (refused_if b r Verdict.Fine) ≡ due ((number r, b) ∷ [])
+last_due : (b : Bool) (r : Refusal) → verdict_number (refused_if b r (Ok tt)) ≡ due ((number r, b) ∷ [])
 last_due true r = refl
 last_due false r = refl
 
@@ -80,12 +79,12 @@ pub build_due : (plan target : List ℕ) → verdict_number (check_build plan ta
 unfolding check_build
 build_due plan target =
     let other = not (eqb (length target) (total (plan_shape plan))) in
-    plan_then_due plan (refused_if other Refusal.WrongTarget Verdict.Fine) ((12, other) ∷ []) (last_due other Refusal.WrongTarget)
+    plan_then_due plan (refused_if other Refusal.WrongTarget (Ok tt)) ((12, other) ∷ []) (last_due other Refusal.WrongTarget)
 
 pub run_due : (im events : List ℕ) → verdict_number (check_run im events) ≡ due (run_tests im events)
 run_due im events =
     let broken = not (eqb (length events % 3) 0) in
-    check_due im (refused_if broken Refusal.MalformedEvent Verdict.Fine) ((7, broken) ∷ []) (last_due broken Refusal.MalformedEvent)
+    check_due im (refused_if broken Refusal.MalformedEvent (Ok tt)) ((7, broken) ∷ []) (last_due broken Refusal.MalformedEvent)
 
 -- an event on the words of an image, whatever they are
 module _ (s : Shape) (im : List ℕ) where
@@ -117,7 +116,7 @@ which Event.Malformed = 3
 
 -- each number is given exactly where its row applies
 module _ (s : Shape) (im : List ℕ) where
-  no_row : (e : Event) (a : Answer) → ¬ Malformed e → ¬ InputFull s im e → ¬ PortIdle s im e → Exactly s im e (Reply.Accepted a)
+  no_row : (e : Event) (a : Answer) → ¬ Malformed e → ¬ InputFull s im e → ¬ PortIdle s im e → Exactly s im e (Ok a)
   no_row e a m f i =
       record {
         malformed = neither (λ z. omega (arith, z)) m;
@@ -178,21 +177,21 @@ module _ (s : Shape) (im : List ℕ) where
       }
 
 -- a reply as a verdict
-abbrev reply_verdict : Reply → Verdict
-reply_verdict (Reply.Accepted a) = Verdict.Fine
-reply_verdict (Reply.Refused r) = Verdict.Refused r
+abbrev reply_verdict : Result Answer Refusal → Result ⊤ Refusal
+reply_verdict (Ok a) = Ok tt
+reply_verdict (Err r) = Err r
 
 pub call_due : (im : List ℕ) (k d c : ℕ) → reply_number (event im k d c).reply ≡ due (call_tests im k d c)
 unfolding event
 call_due im k d c = go (check im) ∙ check_due im (reply_verdict r) (event_tests (shape_of im) im (event_of (shape_of im) k d c)) (told r ∙ event_due (shape_of im) im (event_of (shape_of im) k d c))
   where
-    r : Reply
+    r : Result Answer Refusal
     r = (happening (shape_of im) im (event_of (shape_of im) k d c)).reply
 
-    told : (x : Reply) → verdict_number (reply_verdict x) ≡ reply_number x
-    told (Reply.Accepted a) = refl
-    told (Reply.Refused q) = refl
+    told : (x : Result Answer Refusal) → verdict_number (reply_verdict x) ≡ reply_number x
+    told (Ok a) = refl
+    told (Err q) = refl
 
-    go : (v : Verdict) → reply_number (event_if v im k d c).reply ≡ verdict_number (and_then v (reply_verdict r))
-    go Verdict.Fine = sym (told r)
-    go (Verdict.Refused q) = refl
+    go : (v : Result ⊤ Refusal) → reply_number (event_if v im k d c).reply ≡ verdict_number (and_then v (reply_verdict r))
+    go (Ok tt) = sym (told r)
+    go (Err q) = refl

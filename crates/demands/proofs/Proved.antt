@@ -1,4 +1,5 @@
 -- The three demands hold, and requests 2, 5 and 6. Assumes nothing.
+use Rattle.std.specs.Prelude.{Err, Ok, Result, ⊤}
 use mathlib.Core.Path.{◌≡◌, refl, sym, ap, ◌∙◌}
 use mathlib.Core.List.{List}
 use mathlib.Core.Logic.{◌≢◌}
@@ -14,9 +15,6 @@ use Rattle.paper.specs.Promises.{Checks, Happens}
 use Rattle.paper.specs.declared.Shape.{Shape}
 use Rattle.paper.specs.declared.Queue.{Queue}
 use Rattle.paper.specs.declared.Service.{Service}
-use Rattle.paper.specs.declared.Reply.{Reply}
-use Rattle.paper.specs.declared.Size.{Size}
-use Rattle.paper.specs.declared.Verdict.{Verdict}
 use Rattle.laws.specs.Checked.{checked_good, good_checked, zero_is, then_fine, check_zero}
 use Rattle.laws.specs.Fresh.{fresh_checked}
 use Rattle.laws.specs.Events.{event_formed}
@@ -33,32 +31,34 @@ use Rattle.demands.proofs.Numbers.{image_due, plan_due, build_due, run_due, exac
 use Rattle.demands.proofs.AsCalls.{is_calls, took_whole, stopped_at as stops}
 use Rattle.demands.proofs.Turns.{turn}
 use Rattle.demands.proofs.Slices.{request2}
+use Rattle.paper.specs.declared.Answer.{Answer}
+use Rattle.paper.specs.declared.Refusal.{Refusal}
 
 -- a refused build leaves the target, a refused event the image, a refused run the image
 build_unchanged : (plan target : List ℕ) → verdict_number (check_build plan target) ≢ 0 → built plan target ≡ target
 unfolding built
 build_unchanged plan target = go (check_build plan target)
   where
-    go : (v : Verdict) → verdict_number v ≢ 0 → built_as v plan target ≡ target
-    go Verdict.Fine ne = absurd (ne refl)
-    go (Verdict.Refused r) ne = refl
+    go : (v : Result ⊤ Refusal) → verdict_number v ≢ 0 → built_as v plan target ≡ target
+    go (Ok tt) ne = absurd (ne refl)
+    go (Err r) ne = refl
 
 refused_unchanged : (im : List ℕ) (k d c : ℕ) → reply_number (event im k d c).reply ≢ 0 → (event im k d c).image ≡ im
 refused_unchanged im k d c = go (event im k d c).reply refl
   where
-    go : (r : Reply) → (event im k d c).reply ≡ r → reply_number r ≢ 0 → (event im k d c).image ≡ im
-    go (Reply.Accepted a) e ne = absurd (ne refl)
-    go (Reply.Refused r) e ne = event_unchanged im k d c r e
+    go : (r : Result Answer Refusal) → (event im k d c).reply ≡ r → reply_number r ≢ 0 → (event im k d c).image ≡ im
+    go (Ok a) e ne = absurd (ne refl)
+    go (Err r) e ne = event_unchanged im k d c r e
 
 run_unchanged : (im events : List ℕ) → verdict_number (check_run im events) ≢ 0 → run im events ≡ stopped_at (check_run im events) im
 run_unchanged im events = go (check_run im events) refl
   where
-    go : (v : Verdict) → check_run im events ≡ v → verdict_number v ≢ 0 → run im events ≡ stopped_at v im
-    go Verdict.Fine e ne = absurd (ne refl)
-    go (Verdict.Refused r) e ne = run_refused im events r e
+    go : (v : Result ⊤ Refusal) → check_run im events ≡ v → verdict_number v ≢ 0 → run im events ≡ stopped_at v im
+    go (Ok tt) e ne = absurd (ne refl)
+    go (Err r) e ne = run_refused im events r e
 
 -- where the tests of a run show no fault it is not refused as a whole
-run_fine : (im events : List ℕ) → due (run_tests im events) ≡ 0 → check_run im events ≡ Verdict.Fine
+run_fine : (im events : List ℕ) → due (run_tests im events) ≡ 0 → check_run im events ≡ Ok tt
 run_fine im events e = (zero_is (check_run im events)).0 (run_due im events ∙ e)
 
 -- the number of a plan's size
@@ -66,9 +66,9 @@ size_numbered : (plan : List ℕ) → size_number (plan_size plan) ≡ verdict_n
 unfolding plan_size
 size_numbered plan = go (check_plan plan)
   where
-    go : (v : Verdict) → size_number (size_as v plan) ≡ verdict_number v
-    go Verdict.Fine = refl
-    go (Verdict.Refused r) = refl
+    go : (v : Result ⊤ Refusal) → size_number (size_as v plan) ≡ verdict_number v
+    go (Ok tt) = refl
+    go (Err r) = refl
 
 demand1 : Demand1
 demand1 =
@@ -89,24 +89,24 @@ demand1 =
     }
 
 -- a plan without fault gives its size and the fresh image
-plan_words : (plan : List ℕ) → check_plan plan ≡ Verdict.Fine → plan_size plan ≡ Size.Words (total (plan_shape plan))
+plan_words : (plan : List ℕ) → check_plan plan ≡ Ok tt → plan_size plan ≡ Ok (total (plan_shape plan))
 unfolding plan_size
 plan_words plan e = rw e
 
-build_fresh : (plan target : List ℕ) → check_build plan target ≡ Verdict.Fine → (built plan target ≡ fresh plan) × (check_plan plan ≡ Verdict.Fine)
+build_fresh : (plan target : List ℕ) → check_build plan target ≡ Ok tt → (built plan target ≡ fresh plan) × (check_plan plan ≡ Ok tt)
 unfolding built check_build
 build_fresh plan target e = (rw e, (then_fine (check_plan plan) _ e).0)
 
 -- an image on which an event is accepted passes the check
-accepted_checked : (im : List ℕ) (k d c : ℕ) → reply_number (event im k d c).reply ≡ 0 → check im ≡ Verdict.Fine
+accepted_checked : (im : List ℕ) (k d c : ℕ) → reply_number (event im k d c).reply ≡ 0 → check im ≡ Ok tt
 unfolding event
 accepted_checked im k d c = go (check im)
   where
-    go : (v : Verdict) → reply_number (event_if v im k d c).reply ≡ 0 → v ≡ Verdict.Fine
-    go Verdict.Fine e = refl
-    go (Verdict.Refused r) e = (zero_is (Verdict.Refused r)).0 e
+    go : (v : Result ⊤ Refusal) → reply_number (event_if v im k d c).reply ≡ 0 → v ≡ Ok tt
+    go (Ok tt) e = refl
+    go (Err r) e = (zero_is (Err r)).0 e
 
-passing : (im : List ℕ) → check im ≡ Verdict.Fine → Checks im 0
+passing : (im : List ℕ) → check im ≡ Ok tt → Checks im 0
 passing im e = record { answered = rw e }
 
 passed : (im : List ℕ) → Checks im 0 → Good (shape_of im) im
@@ -118,11 +118,11 @@ unfolding event_of happening
 ticks s im g = event_is s im g 0 0 0
 
 -- whose first task asks for a service
-module _ (s : Shape) (im : List ℕ) (v : Service) (answer : Reply) (after : List ℕ) (w : Asks s im v answer after) where
+module _ (s : Shape) (im : List ℕ) (v : Service) (answer : Result Answer Refusal) (after : List ℕ) (w : Asks s im v answer after) where
   good : Good s im
   good = rw w.shape ((check_zero im).0 (sym w.passes.answered))
 
-  told : answer ≡ Reply.Accepted (tick s im).answer
+  told : answer ≡ Ok (tick s im).answer
   told = w.ticks.answered ∙ ap (λ (o : Outcome). o.reply) (ticks s im good)
 
   left : after ≡ (tick s im).image
@@ -184,7 +184,7 @@ request5 =
     }
 
 -- what an event leaves of a good image is good
-stays_good : (im : List ℕ) (k d c : ℕ) (answer : Reply) (after : List ℕ) → Checks im 0 → Happens im k d c answer after → Good (shape_of im) after
+stays_good : (im : List ℕ) (k d c : ℕ) (answer : Result Answer Refusal) (after : List ℕ) → Checks im 0 → Happens im k d c answer after → Good (shape_of im) after
 stays_good im k d c answer after w p =
     let g = passed im w in
     rw (p.left, event_is (shape_of im) im g k d c) (words_good (shape_of im) im g k d c)

@@ -1,4 +1,5 @@
 -- Request 2: call by call the first task keeps its place and uses up the clock, till it stops, passes its turn or waits. Assumes nothing.
+use Rattle.std.specs.Prelude.{Result}
 use mathlib.Core.Path.{◌≡◌, refl, sym, ◌∙◌}
 use mathlib.Core.List.{List, [], ◌∷◌, ◌++◌, append-nil}
 use mathlib.Core.Bool.{false}
@@ -18,7 +19,6 @@ use Rattle.paper.specs.declared.Task.{Task}
 use Rattle.paper.specs.declared.Shape.{Shape}
 use Rattle.paper.specs.declared.Queue.{Queue}
 use Rattle.paper.specs.declared.Event.{Event}
-use Rattle.paper.specs.declared.Reply.{Reply}
 use Rattle.laws.specs.Checked.{good_sound, check_zero}
 use Rattle.event_laws.specs.Turns.{Leads, turned_list, turned_clock}
 use Rattle.event_laws.specs.Walk.{input_any, done_any, event_any}
@@ -31,6 +31,8 @@ use Rattle.bound.specs.Bound.{IsFirst, tick_count, if_accepted}
 use Rattle.bound.specs.Ticks.{Stays, Step}
 use Rattle.bound.proofs.Ticks.{event_steps}
 use Rattle.demands.specs.Demands.{word_of, Tells, Calls, ticks_in, Quiet, Undisturbed, IsTick, Answered, UsesClock, UsesSlice, Request2}
+use Rattle.paper.specs.declared.Answer.{Answer}
+use Rattle.paper.specs.declared.Refusal.{Refusal}
 
 -- kind k is that of a service or an order, done, or faulted, and then there is an error
 abbrev DoneOrFaulted : Shape → List ℕ → Task → ℕ → Type 0
@@ -44,7 +46,7 @@ kind_range s m i k (inr (inr e, _)) = (omega arith, omega arith)
 
 -- what a step tells by its reply
 module _ {s : Shape} {im : List ℕ} where
-  quiet_stays : {m : List ℕ} {used : ℕ} {r : Reply} → Step s im used r m → Quiet r → Stays s im m (if_accepted r used)
+  quiet_stays : {m : List ℕ} {used : ℕ} {r : Result Answer Refusal} → Step s im used r m → Quiet r → Stays s im m (if_accepted r used)
   quiet_stays (Step.stops _) q = absurd (q.0 refl)
   quiet_stays (Step.passes _ _ _) q = absurd (q.1 refl)
   quiet_stays (Step.waits _ _ _) q = absurd (q.2 refl)
@@ -53,7 +55,7 @@ module _ {s : Shape} {im : List ℕ} where
   quiet_stays (Step.device _ v _) q = v
   quiet_stays (Step.refused _) q = (record { joined = []; now = sym (append-nil _) }, omega arith)
 
-  quiet_tick : {m : List ℕ} {used : ℕ} {r : Reply} → Step s im used r m → Quiet r → if_accepted r used ≡ 1
+  quiet_tick : {m : List ℕ} {used : ℕ} {r : Result Answer Refusal} → Step s im used r m → Quiet r → if_accepted r used ≡ 1
       → (k : ℕ) × (reply_values r ≡ k ∷ first s im Queue.Ready ∷ []) × DoneOrFaulted s m (running s im) k
   quiet_tick (Step.stops _) q t = absurd (q.0 refl)
   quiet_tick (Step.passes _ _ _) q t = absurd (q.1 refl)
@@ -64,7 +66,7 @@ module _ {s : Shape} {im : List ℕ} where
   quiet_tick (Step.refused _) q t = absurd (omega (arith, t))
 
   -- a passed turn
-  passes_told : {m : List ℕ} {used : ℕ} {r : Reply} → Step s im used r m → Tells r 2 → (error s im (running s im) ≡ 0) × (at s im clock ≡ 0) × (reply_values r ≡ 2 ∷ first s im Queue.Ready ∷ [])
+  passes_told : {m : List ℕ} {used : ℕ} {r : Result Answer Refusal} → Step s im used r m → Tells r 2 → (error s im (running s im) ≡ 0) × (at s im clock ≡ 0) × (reply_values r ≡ 2 ∷ first s im Queue.Ready ∷ [])
   passes_told (Step.stops _) t = absurd (omega (arith, t))
   passes_told (Step.passes calm z _) t = (calm, z, refl)
   passes_told (Step.waits _ _ _) t = absurd (omega (arith, t))
@@ -74,7 +76,7 @@ module _ {s : Shape} {im : List ℕ} where
   passes_told (Step.refused _) t = absurd t
 
   -- a wait
-  waits_told : {m : List ℕ} {used : ℕ} {r : Reply} → Step s im used r m → Tells r 4 → (if_accepted r used ≡ 1) × (at s im clock ≢ 0) × (reply_values r ≡ 4 ∷ first s im Queue.Ready ∷ [])
+  waits_told : {m : List ℕ} {used : ℕ} {r : Result Answer Refusal} → Step s im used r m → Tells r 4 → (if_accepted r used ≡ 1) × (at s im clock ≢ 0) × (reply_values r ≡ 4 ∷ first s im Queue.Ready ∷ [])
   waits_told (Step.stops _) t = absurd (omega (arith, t))
   waits_told (Step.passes _ _ _) t = absurd (omega (arith, t))
   waits_told (Step.waits _ runs _) t = (refl, runs, refl)
@@ -84,7 +86,7 @@ module _ {s : Shape} {im : List ℕ} where
   waits_told (Step.refused _) t = absurd t
 
   -- an error stays till the error stop
-  error_stays : {m : List ℕ} {used : ℕ} {r : Reply} → Step s im used r m → error s im (running s im) ≢ 0 → ¬ Tells r 1 → error s m (running s im) ≢ 0
+  error_stays : {m : List ℕ} {used : ℕ} {r : Result Answer Refusal} → Step s im used r m → error s im (running s im) ≢ 0 → ¬ Tells r 1 → error s m (running s im) ≢ 0
   error_stays (Step.stops _) ne n = absurd (n refl)
   error_stays (Step.passes calm _ _) ne n = absurd (ne calm)
   error_stays (Step.waits calm _ _) ne n = absurd (ne calm)
@@ -127,7 +129,7 @@ module _ (s : Shape) (im : List ℕ) (g : Good s im) where
       (λ t. absurd t)
 
 -- a call on a good image
-module _ (s : Shape) (im : List ℕ) (g : Good s im) (x y z : ℕ) (a : Reply) (m : List ℕ) (h : Happens im x y z a m) where
+module _ (s : Shape) (im : List ℕ) (g : Good s im) (x y z : ℕ) (a : Result Answer Refusal) (m : List ℕ) (h : Happens im x y z a m) where
   call_steps : empty s im Queue.Ready ≡ false → Step s im (tick_count x y z) a m
   call_steps some = rw (h.answered, h.left, event_is s im g x y z) (event_steps s im g some x y z)
 

@@ -1,4 +1,5 @@
 -- Demand 3: call by call a task comes nearer to its turn, untouched, till it stands first. Assumes nothing.
+use Rattle.std.specs.Prelude.{Result}
 use mathlib.Core.Path.{◌≡◌, refl, sym, ◌∙◌}
 use mathlib.Core.List.{List}
 use mathlib.Core.Bool.{Bool, true, false}
@@ -13,7 +14,6 @@ use Rattle.paper.specs.Promises.{Happens}
 use Rattle.paper.specs.declared.Task.{Task}
 use Rattle.paper.specs.declared.Shape.{Shape}
 use Rattle.paper.specs.declared.Queue.{Queue}
-use Rattle.paper.specs.declared.Reply.{Reply}
 use Rattle.laws.specs.Checked.{check_zero}
 use Rattle.event_laws.proofs.Stays.{words_good}
 use Rattle.user_laws.specs.Folded.{event_is}
@@ -22,6 +22,8 @@ use Rattle.bound.specs.Measure.{measure, Nears}
 use Rattle.bound.specs.Line.{behind_first}
 use Rattle.bound.proofs.Falls.{event_nears, event_untouched}
 use Rattle.demands.specs.Demands.{Calls, ReadyBehind, ticks_in, FirstAfter, NotBefore, TurnComes}
+use Rattle.paper.specs.declared.Answer.{Answer}
+use Rattle.paper.specs.declared.Refusal.{Refusal}
 
 -- what a call on a good image does to a task with others ahead of it
 record Nearer (s : Shape) (im m : List ℕ) (i : Task) (k spent : ℕ) : Type 0 where
@@ -30,7 +32,7 @@ record Nearer (s : Shape) (im m : List ℕ) (i : Task) (k spent : ℕ) : Type 0 
   untouched : Untouched s im m i
 
 -- whoever makes it, and keeps the promise
-nearer : (s : Shape) (im : List ℕ) (g : Good s im) (x y z : ℕ) (i : Task) (k : ℕ) (b : Behind s im i (suc k)) (a : Reply) (m : List ℕ) → Happens im x y z a m
+nearer : (s : Shape) (im : List ℕ) (g : Good s im) (x y z : ℕ) (i : Task) (k : ℕ) (b : Behind s im i (suc k)) (a : Result Answer Refusal) (m : List ℕ) → Happens im x y z a m
     → Nearer s im m i (suc k) (if_accepted a (tick_count x y z))
 nearer s im g x y z i k b a m h =
     rw (h.answered, h.left, event_is s im g x y z)

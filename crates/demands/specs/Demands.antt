@@ -1,7 +1,7 @@
 -- The three demands, with requests 2, 5 and 6, in the user's order and words, of whatever any program may do that keeps the promises of the public calls:
 -- the records Checks, Measures, Builds, Happens and Runs (crates/paper/specs/Promises.antt), which the contracts of crates/kernel name.
 -- What stands in quotes is the user's or the paper's. All of it is proved, in proofs/Proved.antt, and nothing is assumed.
-use Rattle.std.specs.Prelude.{◌≡◌, List, [], ◌∷◌, ◌++◌, Bool, true, false, not, cond, ◌≢◌, ◌↔◌, ◌⊎◌, ℕ, zero, suc, ◌+◌, ◌-◌, ◌*◌, ◌%◌, ◌<◌, ◌≤◌, eqb, length, get_or}
+use Rattle.std.specs.Prelude.{◌≡◌, List, [], ◌∷◌, ◌++◌, Bool, true, false, not, cond, ◌≢◌, ◌↔◌, ◌⊎◌, ℕ, zero, suc, ◌+◌, ◌-◌, ◌*◌, ◌%◌, ◌<◌, ◌≤◌, eqb, length, get_or, Err, None, Ok, Result, Some}
 use Rattle.paper.specs.Image.{total, shape_of, at, clock, status, busy}
 use Rattle.paper.specs.Queues.{Has, held, empty, full}
 use Rattle.paper.specs.Flags.{pending, is_ready, waits}
@@ -17,11 +17,7 @@ use Rattle.paper.specs.declared.Task.{Task}
 use Rattle.paper.specs.declared.Shape.{Shape}
 use Rattle.paper.specs.declared.Queue.{Queue}
 use Rattle.paper.specs.declared.Service.{Service}
-use Rattle.paper.specs.declared.Fault.{Fault}
-use Rattle.paper.specs.declared.Woken.{Woken}
 use Rattle.paper.specs.declared.Event.{Event}
-use Rattle.paper.specs.declared.Reply.{Reply}
-use Rattle.paper.specs.declared.Size.{Size}
 use Rattle.paper.specs.declared.Ended.{Ended}
 use Rattle.event_laws.specs.Standing.{awaits}
 use Rattle.event_laws.specs.Whom.{whom, Unmoved}
@@ -30,6 +26,8 @@ use Rattle.user_laws.specs.Words.{got, leaver, all_sent, all_got, for_it}
 use Rattle.user_laws.specs.Slots.{OnlyHeld}
 use Rattle.user_laws.specs.Asked.{BeginsToWait}
 use Rattle.bound.specs.Bound.{Behind, bound, IsFirst, Untouched, tick_count, if_accepted}
+use Rattle.paper.specs.declared.Answer.{Answer}
+use Rattle.paper.specs.declared.Refusal.{Refusal}
 
 -- "NUMBERS THAT COME BACK"
 
@@ -80,7 +78,7 @@ word_of events n j = get_or events (3 * n + j) 0
 -- calls of event one after another, three words of a list a call: call n finds image n, gives reply n, leaves image n + 1, and keeps its promise
 pub record Calls (events : List ℕ) (count : ℕ) : Type 0 where
   pub image : ℕ → List ℕ
-  pub reply : ℕ → Reply
+  pub reply : ℕ → Result Answer Refusal
   pub kept : (n : ℕ) → n < count → Happens (image n) (word_of events n 0) (word_of events n 1) (word_of events n 2) (reply n) (image (suc n))
 
 -- a run is such calls, as many as it took, all accepted, and leaves the image that they leave; a run over the first n of them takes n and leaves image n
@@ -95,11 +93,11 @@ pub record IsCalls (im events : List ℕ) (answer : Ended) (after : List ℕ) : 
 pub record Demand1 : Type 0 where
   -- an image and a plan that are only read
   pub checks : (im : List ℕ) (number : ℕ) → Checks im number → number ≡ due (image_tests im)
-  pub measures : (plan : List ℕ) (answer : Size) → Measures plan answer → size_number answer ≡ due (plan_tests plan)
+  pub measures : (plan : List ℕ) (answer : Result ℕ Refusal) → Measures plan answer → size_number answer ≡ due (plan_tests plan)
   -- a target, and an image, that are written where nothing is refused
   pub builds : (plan target : List ℕ) (number : ℕ) (after : List ℕ) → Builds plan target number after
       → (number ≡ due (build_tests plan target)) × (number ≢ 0 → after ≡ target)
-  pub happens : (im : List ℕ) (k d c : ℕ) (answer : Reply) (after : List ℕ) → Happens im k d c answer after
+  pub happens : (im : List ℕ) (k d c : ℕ) (answer : Result Answer Refusal) (after : List ℕ) → Happens im k d c answer after
       → (reply_number answer ≡ due (call_tests im k d c)) × (reply_number answer ≢ 0 → after ≡ im)
   -- a run of a bad image, or over a list that is not of whole events, takes nothing
   pub runs : (im events : List ℕ) (answer : Ended) (after : List ℕ) → Runs im events answer after → due (run_tests im events) ≢ 0
@@ -125,19 +123,19 @@ abbrev pub PortIdle : Shape → List ℕ → Event → Type 0
 PortIdle s im e = (i : Task) × (e ≡ Event.OutputDone i) × (at s im (busy i) ≡ 0)
 
 -- each number is given exactly where its row applies, and an event is accepted exactly where none does
-pub record Exactly (s : Shape) (im : List ℕ) (e : Event) (answer : Reply) : Type 0 where
+pub record Exactly (s : Shape) (im : List ℕ) (e : Event) (answer : Result Answer Refusal) : Type 0 where
   pub malformed : (reply_number answer ≡ 7) ↔ Malformed e
   pub input_full : (reply_number answer ≡ 8) ↔ InputFull s im e
   pub port_idle : (reply_number answer ≡ 9) ↔ PortIdle s im e
   pub accepted : (reply_number answer ≡ 0) ↔ (¬ Malformed e × ¬ InputFull s im e × ¬ PortIdle s im e)
 
 -- an accepted reply of a kind
-abbrev pub Tells : Reply → ℕ → Type 0
-Tells (Reply.Accepted a) k = kind a ≡ k
-Tells (Reply.Refused r) k = ⊥
+abbrev pub Tells : Result Answer Refusal → ℕ → Type 0
+Tells (Ok a) k = kind a ≡ k
+Tells (Err r) k = ⊥
 
 -- a tick on an image that passes the check, whose first task asks for service v with time left on the clock
-pub record Asks (s : Shape) (im : List ℕ) (v : Service) (answer : Reply) (after : List ℕ) : Type 0 where
+pub record Asks (s : Shape) (im : List ℕ) (v : Service) (answer : Result Answer Refusal) (after : List ℕ) : Type 0 where
   pub passes : Checks im 0
   pub shape : s ≡ shape_of im
   pub some : empty s im Queue.Ready ≡ false
@@ -160,15 +158,15 @@ module _ {events : List ℕ} {count : ℕ} (c : Calls events count) where
 pub record Demand2 : Type 0 where
   -- an image passes exactly when it keeps every rule, and there an event is refused exactly for a fault of its own, a tick never
   pub passes : (im : List ℕ) (number : ℕ) → Checks im number → (number ≡ 0) ↔ Good (shape_of im) im
-  pub refused : (im : List ℕ) (k d c : ℕ) (answer : Reply) (after : List ℕ) → Checks im 0 → Happens im k d c answer after
+  pub refused : (im : List ℕ) (k d c : ℕ) (answer : Result Answer Refusal) (after : List ℕ) → Checks im 0 → Happens im k d c answer after
       → Exactly (shape_of im) im (event_of (shape_of im) k d c) answer
-  pub every_tick : (im : List ℕ) (answer : Reply) (after : List ℕ) → Checks im 0 → Happens im 0 0 0 answer after → reply_number answer ≡ 0
+  pub every_tick : (im : List ℕ) (answer : Result Answer Refusal) (after : List ℕ) → Checks im 0 → Happens im 0 0 0 answer after → reply_number answer ≡ 0
   -- a plan without fault gives its size and the fresh image, which passes the check
-  pub measured : (plan : List ℕ) (answer : Size) → Measures plan answer → due (plan_tests plan) ≡ 0 → answer ≡ Size.Words (total (plan_shape plan))
+  pub measured : (plan : List ℕ) (answer : Result ℕ Refusal) → Measures plan answer → due (plan_tests plan) ≡ 0 → answer ≡ Ok (total (plan_shape plan))
   pub built : (plan target : List ℕ) (number : ℕ) (after : List ℕ) → Builds plan target number after → due (build_tests plan target) ≡ 0
       → (number ≡ 0) × (after ≡ fresh plan) × Checks after 0
   -- an event without fault gives what the paper says happens, and an image that passes the check again
-  pub happened : (im : List ℕ) (k d c : ℕ) (answer : Reply) (after : List ℕ) → Happens im k d c answer after → due (call_tests im k d c) ≡ 0
+  pub happened : (im : List ℕ) (k d c : ℕ) (answer : Result Answer Refusal) (after : List ℕ) → Happens im k d c answer after → due (call_tests im k d c) ≡ 0
       → (answer ≡ (happening (shape_of im) im (event_of (shape_of im) k d c)).reply) ×
       (after ≡ (happening (shape_of im) im (event_of (shape_of im) k d c)).image) × Checks after 0
   -- a run with number 0 is calls on all of its events
@@ -176,15 +174,15 @@ pub record Demand2 : Type 0 where
       → verdict_number answer.stop ≡ 0 → IsCalls im events answer after × (3 * answer.taken ≡ length events)
   -- a service that is not wrong waits where its buffer stops it, a receive or an input where it is empty: the answer is 4, status and peer are set,
   -- the task leaves the ready queue, and no register and no flags of any task change
-  pub waiting : (s : Shape) (im : List ℕ) (v : Service) (answer : Reply) (after : List ℕ) → Asks s im v answer after
-      → fault_of s im (running s im) v ≡ Fault.Nothing → blocked s im (running s im) v ≡ true → Tells answer 4 × BeginsToWait s im (running s im) v after
+  pub waiting : (s : Shape) (im : List ℕ) (v : Service) (answer : Result Answer Refusal) (after : List ℕ) → Asks s im v answer after
+      → fault_of s im (running s im) v ≡ None → blocked s im (running s im) v ≡ true → Tells answer 4 × BeginsToWait s im (running s im) v after
   -- it stays so, and out of the ready queue, until a word comes for it, whatever events come
   pub stays : (events : List ℕ) (count : ℕ) (c : Calls events count) → Checks (c.image 0) 0 → (i : Task) (v : Service)
       → i.0 < (shape_of (c.image 0)).n → at (shape_of (c.image 0)) (c.image 0) (status i) ≡ waits v → (n : ℕ) → n ≤ count → came_for c i v n ≡ []
       → Unmoved (shape_of (c.image 0)) (c.image 0) (c.image n) i × (times i.0 (held (shape_of (c.image 0)) (c.image n) Queue.Ready) ≡ 0)
   -- and where its buffer does not stop it, it is done: the answer is 3
-  pub done : (s : Shape) (im : List ℕ) (v : Service) (answer : Reply) (after : List ℕ) → Asks s im v answer after
-      → fault_of s im (running s im) v ≡ Fault.Nothing → blocked s im (running s im) v ≡ false → Tells answer 3
+  pub done : (s : Shape) (im : List ℕ) (v : Service) (answer : Result Answer Refusal) (after : List ℕ) → Asks s im v answer after
+      → fault_of s im (running s im) v ≡ None → blocked s im (running s im) v ≡ false → Tells answer 3
   -- of any calls of event, and so of a run: what a buffer held and then every word sent to it is every word got from it and then what it holds,
   -- none lost, none made up, in order, 0 among them; of output up to the port
   pub words : (events : List ℕ) (count : ℕ) (c : Calls events count) → Checks (c.image 0) 0 → (q : Queue) → Has (shape_of (c.image 0)) q → q ≢ Queue.Ready
@@ -238,7 +236,7 @@ pub record Demand3 : Type 0 where
 -- "Services must use up the slice. Our chattiest script gets nearly twice the ticks of its neighbours because its services ride free."
 
 -- answered neither 1 "error stop" nor 2 "turn passed" nor 4 "service waits"
-abbrev pub Quiet : Reply → Type 0
+abbrev pub Quiet : Result Answer Refusal → Type 0
 Quiet r = ¬ Tells r 1 × ¬ Tells r 2 × ¬ Tells r 4
 
 module _ {events : List ℕ} {count : ℕ} (c : Calls events count) where
@@ -282,10 +280,10 @@ pub record Request2 : Type 0 where
 
 pub record Request5 : Type 0 where
   -- a task that is not ready becomes so exactly where an event wakes it
-  pub wakes : (im : List ℕ) (k d c : ℕ) (answer : Reply) (after : List ℕ) → Checks im 0 → Happens im k d c answer after → (i : Task) → i.0 < (shape_of im).n
-      → at (shape_of im) im (status i) ≢ is_ready → (at (shape_of im) after (status i) ≡ is_ready) ↔ (whom (shape_of im) im (event_of (shape_of im) k d c) ≡ Woken.One i)
+  pub wakes : (im : List ℕ) (k d c : ℕ) (answer : Result Answer Refusal) (after : List ℕ) → Checks im 0 → Happens im k d c answer after → (i : Task) → i.0 < (shape_of im).n
+      → at (shape_of im) im (status i) ≢ is_ready → (at (shape_of im) after (status i) ≡ is_ready) ↔ (whom (shape_of im) im (event_of (shape_of im) k d c) ≡ Some i)
   -- whom an event wakes is a task that is not in the ready queue, and of the queue's N slots one is free
-  pub finds_room : (im : List ℕ) (k d c : ℕ) → Checks im 0 → (i : Task) → whom (shape_of im) im (event_of (shape_of im) k d c) ≡ Woken.One i
+  pub finds_room : (im : List ℕ) (k d c : ℕ) → Checks im 0 → (i : Task) → whom (shape_of im) im (event_of (shape_of im) k d c) ≡ Some i
       → (i.0 < (shape_of im).n) × (times i.0 (held (shape_of im) im Queue.Ready) ≡ 0) × (length (held (shape_of im) im Queue.Ready) < (shape_of im).n)
 
 -- REQUEST 6
@@ -295,10 +293,10 @@ pub record Request6 : Type 0 where
   -- in an image that passes the check each word of a queue's slots that is not 0 is a word that the queue holds, of the ready queue too
   pub slots : (im : List ℕ) → Checks im 0 → (q : Queue) → Has (shape_of im) q → (w : ℕ) → w ≢ 0 → OnlyHeld (shape_of im) im q w
   -- so where an accepted event takes such a word out of a buffer, no slot of that buffer holds the word afterwards unless the buffer still does
-  pub gone : (im : List ℕ) (k d c : ℕ) (answer : Reply) (after : List ℕ) → Checks im 0 → Happens im k d c answer after → (q : Queue) → Has (shape_of im) q
+  pub gone : (im : List ℕ) (k d c : ℕ) (answer : Result Answer Refusal) (after : List ℕ) → Checks im 0 → Happens im k d c answer after → (q : Queue) → Has (shape_of im) q
       → (w : ℕ) → got (shape_of im) im answer after q ≡ w ∷ [] → w ≢ 0 → OnlyHeld (shape_of im) after q w
   -- nor does one of the ready queue, of the task that leaves its head
-  pub left : (im : List ℕ) (k d c : ℕ) (answer : Reply) (after : List ℕ) → Checks im 0 → Happens im k d c answer after
+  pub left : (im : List ℕ) (k d c : ℕ) (answer : Result Answer Refusal) (after : List ℕ) → Checks im 0 → Happens im k d c answer after
       → (w : ℕ) → leaver answer ≡ w ∷ [] → w ≢ 0 → OnlyHeld (shape_of im) after Queue.Ready w
 
 -- what the user signs

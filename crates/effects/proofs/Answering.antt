@@ -1,4 +1,5 @@
 -- What the functions that carry out orders ask and answer, as laws over values. Assumes nothing.
+use Rattle.std.specs.Prelude.{Err, Ok, Result, ℕ}
 use mathlib.Core.Path.{◌≡◌, refl, ap, ◌∙◌}
 use mathlib.Core.List.{List}
 use mathlib.Core.Bool.{cond}
@@ -12,7 +13,6 @@ use lib.Seq.{get_or-set_other}
 use Rattle.paper.specs.Image.{address}
 use Rattle.paper.specs.Orders.{outside, zero_divisor, mod_word, stack, found, reading, storing, sets, unless_zero, calls, decided}
 use Rattle.paper.specs.declared.Change.{Change}
-use Rattle.paper.specs.declared.Effect.{Effect}
 use Rattle.effects.specs.Parts.{reach_of, address_of, stood_at, machine_of}
 use Rattle.effects.specs.Worked.{InHand, Fell, Done, Worked}
 use Rattle.effects.specs.Holding.{past_end, place_is, within, register_held, inside_held, past_held, word_held, outside_held, is_lent, is_quiet, is_from, is_row, stack_in}
@@ -78,10 +78,10 @@ set_next g p at next a v r out hand inside h ed en er eo = set_went g p at hand 
 module _ (g : Segment) (p : List ℕ) (at x : Aim) (y : ℕ) (r : Reach) (hand : InHand g p at) (ex : x.0 ≡ g.from + y) (er : r ≡ reach_of g x) where
   -- none
   module _ (out : r ≡ Reach.Outside) where
-    pub fetch_outside : (f : ℕ → Effect) → decided (machine_of g p at) ≡ reading (found (machine_of g p at) y) f → decided (machine_of g p at) ≡ Effect.Faults outside
+    pub fetch_outside : (f : ℕ → Result (ℕ × Change) ℕ) → decided (machine_of g p at) ≡ reading (found (machine_of g p at) y) f → decided (machine_of g p at) ≡ Err outside
     fetch_outside f e = rw (outside_held g p at y x.0 ex (past_end g x r er out)) at e
 
-    pub store_outside : (e : Effect) → decided (machine_of g p at) ≡ storing (machine_of g p at) y e → decided (machine_of g p at) ≡ Effect.Faults outside
+    pub store_outside : (e : Result (ℕ × Change) ℕ) → decided (machine_of g p at) ≡ storing (machine_of g p at) y e → decided (machine_of g p at) ≡ Err outside
     store_outside e ed = rw (past_held g p at y x.0 ex (past_end g x r er out)) at ed
 
   -- a word
@@ -93,20 +93,20 @@ module _ (g : Segment) (p : List ℕ) (at x : Aim) (y : ℕ) (r : Reach) (hand :
         let word = rw (word_held g p at y x.0 ex (is_lent g p at hand) (within g x r er k ek)) at ed in
         set_next g p at next a v z out hand inside h (rw (ev, place_is g x r er k ek) word) en ez eo
 
-    store_inside : (e : Effect) → decided (machine_of g p at) ≡ storing (machine_of g p at) y e → decided (machine_of g p at) ≡ e
+    store_inside : (e : Result (ℕ × Change) ℕ) → decided (machine_of g p at) ≡ storing (machine_of g p at) y e → decided (machine_of g p at) ≡ e
     store_inside e ed = rw (inside_held g p at y x.0 ex (is_lent g p at hand) (within g x r er k ek)) at ed
 
     pub store_next : (next : Aim) (v : ℕ) (out : List ℕ) → at.0 < g.to
-        → decided (machine_of g p at) ≡ storing (machine_of g p at) y (Effect.Does (address_of g at + 1) (Change.Store (address y) v)) → next.0 ≡ at.0 + 1
+        → decided (machine_of g p at) ≡ storing (machine_of g p at) y (Ok (address_of g at + 1, Change.Store (address y) v)) → next.0 ≡ at.0 + 1
         → out ≡ set p k.0 v → Done g p at (Went.On next) out
     store_next next v out inside ed en eo =
         let e = place_is g x r er k ek in
-        store_went g p at hand next inside en y v k.0 out (store_inside (Effect.Does (address_of g at + 1) (Change.Store (address y) v)) ed)
+        store_went g p at hand next inside en y v k.0 out (store_inside (Ok (address_of g at + 1, Change.Store (address y) v)) ed)
         (e ∙ ex) (omega (arith, within g x r er k ek)) eo
 
 -- a division
-module _ (o : Effect) (next a op v y : ℕ) (eo : o ≡ unless_zero y (sets next a (cond (eqb op 8) (v / y) (v % y)))) where
-  pub divisor_zero : y ≡ 0 → o ≡ Effect.Faults zero_divisor
+module _ (o : Result (ℕ × Change) ℕ) (next a op v y : ℕ) (eo : o ≡ unless_zero y (sets next a (cond (eqb op 8) (v / y) (v % y)))) where
+  pub divisor_zero : y ≡ 0 → o ≡ Err zero_divisor
   divisor_zero e = rw (eq-eqb y 0 e) at eo
 
   module _ (ne : y ≢ 0) where
@@ -123,9 +123,9 @@ module _ (g : Segment) (p : List ℕ) (at : Aim) (v top n : ℕ) (hand : InHand 
   call_storing = rw (register_held g p at 1 (omega arith) (omega arith), ← ev, ← etop) at ed
 
   module _ (x : Aim) (r : Reach) (ex : x.0 ≡ g.from + top) (er : r ≡ reach_of g x) where
-    pub call_outside : r ≡ Reach.Outside → decided (machine_of g p at) ≡ Effect.Faults outside
+    pub call_outside : r ≡ Reach.Outside → decided (machine_of g p at) ≡ Err outside
     call_outside out =
-        store_outside g p at x top r hand ex er out (Effect.Does (address_of g at + 2) (Change.Call (address top) n)) call_storing
+        store_outside g p at x top r hand ex er out (Ok (address_of g at + 2, Change.Call (address top) n)) call_storing
 
     pub call_next : (k : PartPlace) (next y : Aim) (w : ℕ) (out : List ℕ) → r ≡ Reach.At k → next.0 ≡ at.0 + 2 → w ≡ address_of g next
         → out ≡ set (set p k.0 w) 1 top → y.0 ≡ g.from + n → n < 65536 → Done g p at (Went.On y) out
@@ -133,7 +133,7 @@ module _ (g : Segment) (p : List ℕ) (at : Aim) (v top n : ℕ) (hand : InHand 
         let past : w ≡ address_of g at + 2 = omega (arith, ew, en, is_from g p at hand) in
         let e = place_is g x r er k ek in
         call_went g p at hand (address_of g at + 2) top n k.0 y out
-        (store_inside g p at x top r hand ex er k ek (Effect.Does (address_of g at + 2) (Change.Call (address top) n)) call_storing)
+        (store_inside g p at x top r hand ex er k ek (Ok (address_of g at + 2, Change.Call (address top) n)) call_storing)
         (e ∙ ex) (omega (arith, within g x r er k ek)) (eo ∙ ap (λ (j : ℕ). set (set p k.0 j) 1 top) past) ey low
 
 -- R1 is a word of the part, whatever was written

@@ -1,4 +1,5 @@
 -- What an order of two registers does, by its kind. Assumes nothing.
+use Rattle.std.specs.Prelude.{Ok}
 use mathlib.Core.Path.{◌≡◌, refl, ◌∙◌}
 use mathlib.Core.List.{List}
 use mathlib.Core.Bool.{Bool, true, false, cond}
@@ -13,7 +14,6 @@ use Rattle.paper.specs.Machines.{Machine}
 use Rattle.paper.specs.Orders.{op_of, order_of, two_registers, mod_word, found, reading, storing, sets, unless_zero, on_bits, compared, effect, decided}
 use Rattle.paper.specs.declared.Op.{Op}
 use Rattle.paper.specs.declared.Change.{Change}
-use Rattle.paper.specs.declared.Effect.{Effect}
 use Rattle.order_table.specs.Entries.{kind_of_order, entry_of, kind_of, decoded}
 use Rattle.order_table.specs.Reading.{Among, only, one_of_two, NoneOf, past_them, last_two}
 use Rattle.effects.specs.Parts.{address_of, machine_of}
@@ -34,7 +34,7 @@ module _ (m : Machine) (next w k a x y : ℕ) (ek : kind_of w ≡ k) (ed : decid
   pub by_fetch : k ≡ kind_of_order Op.Fetch → decided m ≡ reading (found m y) (sets next a)
   by_fetch e = acts 3 refl e
 
-  pub by_store : k ≡ kind_of_order Op.Store → decided m ≡ storing m y (Effect.Does next (Change.Store (address y) x))
+  pub by_store : k ≡ kind_of_order Op.Store → decided m ≡ storing m y (Ok (next, Change.Store (address y) x))
   by_store e = acts 4 refl e
 
   -- quotient or remainder, told by the op

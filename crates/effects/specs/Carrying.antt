@@ -1,5 +1,5 @@
 -- An order of the machine in a lent part carried out: which words of the part it writes, and what became of it. Assumes nothing.
-use Rattle.std.specs.Prelude.{◌≡◌, Bool, cond, ◌≢◌, ℕ, ◌+◌, ◌*◌, ◌<◌, ◌≤◌, eqb}
+use Rattle.std.specs.Prelude.{◌≡◌, Bool, cond, ◌≢◌, ℕ, ◌+◌, ◌*◌, ◌<◌, ◌≤◌, eqb, Err, Ok, Result}
 use Rattle.std.proofs.Math.Path.{refl, sym, ap}
 use Rattle.std.proofs.Common.{◌∙◌, zero-add, eqb-true}
 use mathlib.Core.List.{List}
@@ -15,7 +15,6 @@ use Rattle.paper.specs.Machines.{Machine, put_back}
 use Rattle.paper.specs.Orders.{with_register, with_word, moved_past, sets, compared, flags_become, cc, error, pending, decided, changed, faulted, after}
 use Rattle.paper.specs.declared.Address.{Address}
 use Rattle.paper.specs.declared.Change.{Change}
-use Rattle.paper.specs.declared.Effect.{Effect}
 use Rattle.own.specs.Machines.{RowBeforeSegment, Fits, machine_fits, put_machine, register_fits, word_fits, put_with_register, put_with_flags, put_with_word}
 use Rattle.effects.specs.Parts.{Lent, lies_of, address_of, stood_at, machine_of, part_ordered}
 use Rattle.effects.specs.Worked.{InHand, Carried, Fell, Done, Worked}
@@ -60,32 +59,32 @@ module _ (g : Segment) (p : List ℕ) (at : Aim) (lent : Lent g p) where
       ap (λ (l : List ℕ). set l 0 v) (register_made m f 1 top (omega arith))
 
   module _ (n : ℕ) where
-    ordered_does : (c : Change) → decided (machine_of g p at) ≡ Effect.Does n c → part_ordered g (stood_at g p at) ≡ made (changed (machine_of g p at) n c)
+    ordered_does : (c : Change) → decided (machine_of g p at) ≡ Ok (n, c) → part_ordered g (stood_at g p at) ≡ made (changed (machine_of g p at) n c)
     unfolding part_ordered
-    ordered_does c e = ap (λ (x : Effect). made (after (machine_of g p at) x)) e
+    ordered_does c e = ap (λ (x : Result (ℕ × Change) ℕ). made (after (machine_of g p at) x)) e
 
-    ordered_register : (a w : ℕ) → a < 8 → decided (machine_of g p at) ≡ Effect.Does n (Change.Register a w)
+    ordered_register : (a w : ℕ) → a < 8 → decided (machine_of g p at) ≡ Ok (n, Change.Register a w)
         → part_ordered g (stood_at g p at) ≡ set (set p 0 n) a w
     unfolding changed
     ordered_register a w h e =
         ordered_does (Change.Register a w) e ∙ register_made (moved_past (machine_of g p at) n) (past_fits n) a w h ∙
         ap (λ (l : List ℕ). set l a w) (past_made n)
 
-    ordered_store : (a : Address) (w : ℕ) → g.from + a.0 < g.to → decided (machine_of g p at) ≡ Effect.Does n (Change.Store a w)
+    ordered_store : (a : Address) (w : ℕ) → g.from + a.0 < g.to → decided (machine_of g p at) ≡ Ok (n, Change.Store a w)
         → part_ordered g (stood_at g p at) ≡ set (set p 0 n) (g.from + a.0) w
     unfolding changed
     ordered_store a w h e =
         ordered_does (Change.Store a w) e ∙ word_made (moved_past (machine_of g p at) n) (past_fits n) a w h ∙
         ap (λ (l : List ℕ). set l (g.from + a.0) w) (past_made n)
 
-    ordered_flags : (f : ℕ) → decided (machine_of g p at) ≡ Effect.Does n (Change.Flags f) → part_ordered g (stood_at g p at) ≡ set (set p 0 n) 8 f
+    ordered_flags : (f : ℕ) → decided (machine_of g p at) ≡ Ok (n, Change.Flags f) → part_ordered g (stood_at g p at) ≡ set (set p 0 n) 8 f
     unfolding changed
     ordered_flags f e =
         ordered_does (Change.Flags f) e ∙
         put_with_flags (lies_of g) (stood_at g p at) (moved_past (machine_of g p at) n) (past_fits n) apart f ∙
         ap (λ (l : List ℕ). set l 8 f) (past_made n)
 
-    ordered_call : (top : Address) (v : ℕ) → g.from + top.0 < g.to → decided (machine_of g p at) ≡ Effect.Does n (Change.Call top v)
+    ordered_call : (top : Address) (v : ℕ) → g.from + top.0 < g.to → decided (machine_of g p at) ≡ Ok (n, Change.Call top v)
         → part_ordered g (stood_at g p at) ≡ set (set (set (set p 0 n) (g.from + top.0) n) 1 top.0) 0 v
     unfolding changed
     ordered_call top v h e =
@@ -94,19 +93,19 @@ module _ (g : Segment) (p : List ℕ) (at : Aim) (lent : Lent g p) where
         ap (λ (l : List ℕ). set (set l 1 top.0) 0 v)
         (word_made past (past_fits n) top n h ∙ ap (λ (l : List ℕ). set l (g.from + top.0) n) (past_made n))
 
-    ordered_return : (top v : ℕ) → decided (machine_of g p at) ≡ Effect.Does n (Change.Return top v)
+    ordered_return : (top v : ℕ) → decided (machine_of g p at) ≡ Ok (n, Change.Return top v)
         → part_ordered g (stood_at g p at) ≡ set (set (set p 0 n) 1 top) 0 v
     unfolding changed
     ordered_return top v e =
         ordered_does (Change.Return top v) e ∙ stack_made (moved_past (machine_of g p at) n) (past_fits n) top v ∙
         ap (λ (l : List ℕ). set (set l 1 top) 0 v) (past_made n)
 
-  ordered_faults : (e : ℕ) → decided (machine_of g p at) ≡ Effect.Faults e
+  ordered_faults : (e : ℕ) → decided (machine_of g p at) ≡ Err e
       → part_ordered g (stood_at g p at) ≡ set (stood_at g p at) 8 (flags_of (cc (machine_of g p at)) e (pending (machine_of g p at)))
   unfolding part_ordered faulted
   ordered_faults e h =
       let m = machine_of g p at in
-      ap (λ (x : Effect). made (after m x)) h ∙ put_with_flags (lies_of g) (stood_at g p at) m fits apart (flags_of (cc m) e (pending m)) ∙
+      ap (λ (x : Result (ℕ × Change) ℕ). made (after m x)) h ∙ put_with_flags (lies_of g) (stood_at g p at) m fits apart (flags_of (cc m) e (pending m)) ∙
       ap (λ (l : List ℕ). set l 8 (flags_of (cc m) e (pending m))) (put_machine (lies_of g) (stood_at g p at))
 
 -- what became of the order, by what was written
@@ -138,7 +137,7 @@ module _ (g : Segment) (p : List ℕ) (at : Aim) (hand : InHand g p at) where
   quiet_set k v ne = omega (arith, get_or-set_other p k 8 v 0 (λ e. ne (sym e)), is_quiet g p at hand)
 
   -- a fault, and a service asked for
-  pub fault_went : (e : ℕ) (m out : List ℕ) → 0 < e → decided (machine_of g p at) ≡ Effect.Faults e → m ≡ stood_at g p at → out ≡ set m 8 (get_or m 8 0 + 4 * e)
+  pub fault_went : (e : ℕ) (m out : List ℕ) → 0 < e → decided (machine_of g p at) ≡ Err e → m ≡ stood_at g p at → out ≡ set m 8 (get_or m 8 0 + 4 * e)
       → Fell g p at Went.Off out
   unfolding Fell Carried Lent
   fault_went e m out some ed em eo =
@@ -207,7 +206,7 @@ module _ (g : Segment) (p : List ℕ) (at : Aim) (hand : InHand g p at) where
 
   module _ (next : Aim) (inside : at.0 < g.to) (en : next.0 ≡ at.0 + 1) where
     -- a word of the segment
-    pub store_went : (a v j : ℕ) (out : List ℕ) → decided (machine_of g p at) ≡ Effect.Does (address_of g at + 1) (Change.Store (address a) v)
+    pub store_went : (a v j : ℕ) (out : List ℕ) → decided (machine_of g p at) ≡ Ok (address_of g at + 1, Change.Store (address a) v)
         → j ≡ g.from + a → j < g.to → out ≡ set p j v → Done g p at (Went.On next) out
     unfolding Lent
     store_went a v j out ed ej h eo =
@@ -234,7 +233,7 @@ module _ (g : Segment) (p : List ℕ) (at : Aim) (hand : InHand g p at) where
         sym (ordered_flags g p at lent n (flags_of (compared x y) (error (machine_of g p at)) (pending (machine_of g p at))) ed))
 
   -- a call: the return address at a place of the segment, then R1
-  pub call_went : (n top v j : ℕ) (y : Aim) (out : List ℕ) → decided (machine_of g p at) ≡ Effect.Does n (Change.Call (address top) v)
+  pub call_went : (n top v j : ℕ) (y : Aim) (out : List ℕ) → decided (machine_of g p at) ≡ Ok (n, Change.Call (address top) v)
       → j ≡ g.from + top → j < g.to → out ≡ set (set p j n) 1 top → y.0 ≡ g.from + v → v < 65536 → Done g p at (Went.On y) out
   unfolding Lent
   call_went n top v j y out ed ej h e ey low =
@@ -249,7 +248,7 @@ module _ (g : Segment) (p : List ℕ) (at : Aim) (hand : InHand g p at) where
       sym (ordered_call g p at lent n (address top) v (omega arith) ed))
 
   -- a return
-  pub return_went : (n top v : ℕ) (y : Aim) (out : List ℕ) → decided (machine_of g p at) ≡ Effect.Does n (Change.Return top v)
+  pub return_went : (n top v : ℕ) (y : Aim) (out : List ℕ) → decided (machine_of g p at) ≡ Ok (n, Change.Return top v)
       → out ≡ set p 1 top → y.0 ≡ g.from + v → v < 65536 → Done g p at (Went.On y) out
   return_went n top v y out ed eo ey low =
       let inner : set (set (set p 0 n) 1 top) 0 v ≡ set (set p 1 top) 0 v =

@@ -1,11 +1,10 @@
 -- The machine in a lent part, R0 of it in hand: what its words are, and what is reached. Assumes nothing.
-use Rattle.std.specs.Prelude.{◌≡◌, refl, List, Bool, true, false, ℕ, ◌+◌, ◌-◌, ◌*◌, ◌<◌, ◌≤◌, ltb, length}
+use Rattle.std.specs.Prelude.{◌≡◌, refl, List, Bool, true, false, ℕ, ◌+◌, ◌-◌, ◌*◌, ◌<◌, ◌≤◌, ltb, length, None, Some}
 use Rattle.std.proofs.Common.{sym, ◌∙◌, arith, lt-ltb, le-ltb, ltb-true, ltb-false}
 use Rattle.std.proofs.Math.Path.{ap}
 use Rattle.std.proofs.Math.ListN.{get_or}
 use Rattle.std.proofs.Math.Seq.{get_or-set_same, get_or-set_other}
 use Rattle.paper.specs.Orders.{register, with_register, operand, inside, found}
-use Rattle.paper.specs.declared.Found.{Found}
 use Rattle.own.specs.Machines.{machine_fits, machine_register, machine_flags, found_word, found_outside}
 use Rattle.effects.specs.Parts.{Lent, lies_of, reach_of, address_of, stood_at, machine_of}
 use Rattle.effects.specs.Worked.{InHand}
@@ -93,13 +92,13 @@ module _ (g : Segment) (p : List ℕ) (at : Aim) where
     past_held h =
         rw (machine_fits (lies_of g) (stood_at g p at)).1 (le-ltb a (g.to - g.from) (omega arith))
 
-    pub word_held : Lent g p → k < g.to → found (machine_of g p at) a ≡ Found.Word (get_or p k 0)
+    pub word_held : Lent g p → k < g.to → found (machine_of g p at) a ≡ Some (get_or p k 0)
     unfolding Lent
     word_held lent h =
         found_word (lies_of g) (stood_at g p at) a (omega (arith, lent)) ∙
-        ap (λ (w : ℕ). Found.Word w) (ap (λ (j : ℕ). get_or (stood_at g p at) j 0) (sym e) ∙ kept k (omega (arith, lent)))
+        ap (λ (w : ℕ). Some w) (ap (λ (j : ℕ). get_or (stood_at g p at) j 0) (sym e) ∙ kept k (omega (arith, lent)))
 
-    pub outside_held : g.to ≤ k → found (machine_of g p at) a ≡ Found.Outside
+    pub outside_held : g.to ≤ k → found (machine_of g p at) a ≡ None
     outside_held h = found_outside (lies_of g) (stood_at g p at) a (omega arith)
 
 -- what R0 in hand says

@@ -1,5 +1,5 @@
 -- Whether the first task keeps its place in the ready queue, as the answer of a tick tells. Assumes nothing.
-use Rattle.std.specs.Prelude.{◌≡◌, List, [], ◌∷◌, ◌++◌, Bool, true, false, ◌≢◌, get_or}
+use Rattle.std.specs.Prelude.{◌≡◌, List, [], ◌∷◌, ◌++◌, Bool, true, false, ◌≢◌, get_or, None, Some}
 use Rattle.std.proofs.Math.Path.{refl, ap}
 use Rattle.std.proofs.Common.{sym, ◌∙◌, append-nil, true≢false, inl, inr, arith}
 use Prim.Native.Nat.{ℕ, suc, ◌<◌}
@@ -17,8 +17,6 @@ use Rattle.paper.specs.declared.Shape.{Shape}
 use Rattle.paper.specs.declared.Part.{Part}
 use Rattle.paper.specs.declared.Queue.{Queue}
 use Rattle.paper.specs.declared.Service.{Service}
-use Rattle.paper.specs.declared.Fault.{Fault}
-use Rattle.paper.specs.declared.Woken.{Woken}
 use Rattle.laws.specs.Queues.{held_length, taken_held}
 use Rattle.laws.specs.Sound.{Sound, sound, has_word}
 use Rattle.laws.specs.Checked.{good_sound}
@@ -78,11 +76,11 @@ module _ {s : Shape} {im : List ℕ} {i : Task} (l : Leads s im i) where
   unfolding service_faulted
   faulted_keeps e = apart_keeps own_parts (frame_put frame_none (flags i) _ (leads_in l, omega arith) refl) refl (leads_sound l)
 
-  module _ (v : Service) (right : fault_of s im i v ≡ Fault.Nothing) (clear : blocked s im i v ≡ false) where
+  module _ (v : Service) (right : fault_of s im i v ≡ None) (clear : blocked s im i v ≡ false) where
     pub served_keeps : KeepsPlace s im (served s im i v)
     served_keeps = apart_keeps moved_parts (served_apart l v right clear) refl (leads_sound l)
 
-    pub served_woke : (k : Task) → wakes s im i v ≡ Woken.One k → KeepsPlace s im (woken s (served s im i v) k)
+    pub served_woke : (k : Task) → wakes s im i v ≡ Some k → KeepsPlace s im (woken s (served s im i v) k)
     served_woke k one =
         let w = wakes_whom l v right k one in
         woke_keeps (served_apart l v right clear) l.rules (served_nearly l v right clear).lies k w.0 w.1

@@ -1,6 +1,6 @@
 -- A good image stays good, whatever event comes. Assumes nothing.
 use Rattle.std.proofs.Math.Path.{◌≡◌, ap}
-use Rattle.std.specs.Prelude.{refl, List, false, ◌≢◌, ℕ, ◌-◌, ◌<◌, ◌≤◌}
+use Rattle.std.specs.Prelude.{refl, List, false, ◌≢◌, ℕ, ◌-◌, ◌<◌, ◌≤◌, None, Option, Some}
 use Rattle.std.proofs.Common.{sym, subst, ◌∙◌, arith}
 use Rattle.paper.specs.Image.{most_character, at, put, clock, flags, status, peer}
 use Rattle.paper.specs.Queues.{appended, empty, full}
@@ -16,8 +16,6 @@ use Rattle.paper.specs.declared.Shape.{Shape}
 use Rattle.paper.specs.declared.Cell.{Cell}
 use Rattle.paper.specs.declared.Queue.{Queue}
 use Rattle.paper.specs.declared.Service.{Service}
-use Rattle.paper.specs.declared.Fault.{Fault}
-use Rattle.paper.specs.declared.Woken.{Woken}
 use Rattle.paper.specs.declared.Event.{Event}
 use Rattle.laws.specs.Cells.{at_other, put_held}
 use Rattle.laws.specs.Sound.{sound}
@@ -38,7 +36,7 @@ use Rattle.event_laws.proofs.Walk.{tick_any}
 
 -- an image good but for a task that waits, with that task woken
 module _ {s : Shape} {im m : List ℕ} (a : Apart s moved_parts im m) (k : Task) (hk : k.0 < s.n) (waited : at s im (status k) ≢ is_ready) where
-  woke_good : Nearly s m (Woken.One k) → Good s (woken s m k)
+  woke_good : Nearly s m (Some k) → Good s (woken s m k)
   woke_good h = nearly_good (woken_nearly k hk h (λ z. waited (sym (kept_status moved_parts a refl k hk) ∙ z)))
 
 module _ {s : Shape} {im : List ℕ} {i : Task} (l : Leads s im i) where
@@ -61,7 +59,7 @@ module _ {s : Shape} {im : List ℕ} {i : Task} (l : Leads s im i) where
   begins_pending b = rw (kept header_part (clock_apart b.but_clock) (flags i) (hi, omega arith) refl)
 
   -- what a service leaves
-  pub served_apart : (v : Service) → fault_of s im i v ≡ Fault.Nothing → blocked s im i v ≡ false → Apart s moved_parts im (served s im i v)
+  pub served_apart : (v : Service) → fault_of s im i v ≡ None → blocked s im i v ≡ false → Apart s moved_parts im (served s im i v)
   served_apart v right clear = frame_served frame_none (leads_sound l) i hi (λ c t. rw t) (λ r. refl) v right clear
 
   service_good : (v : Service) → pending s im i ≡ waits v → ServiceCases s im i v (λ o. Good s o.image)
@@ -148,7 +146,7 @@ module _ (s : Shape) (im : List ℕ) (g : Good s im) where
     pub input_apart : (c : ℕ) → Apart s moved_parts im (appended s im (Queue.Input i) c)
     input_apart c = frame_appended frame_none (Queue.Input i) hi (good_sound s im g) (λ r. refl) c
 
-    input_nearly : (c : ℕ) → c ≤ most_character → full s im (Queue.Input i) ≡ false → (w : Woken) → (at s im (status i) ≡ waits Service.Input → Spared w i)
+    input_nearly : (c : ℕ) → c ≤ most_character → full s im (Queue.Input i) ≡ false → (w : Option Task) → (at s im (status i) ≡ waits Service.Input → Spared w i)
         → Nearly s (appended s im (Queue.Input i) c) w
     input_nearly c low clear w sp =
         append_nearly (good_nearly g) (Queue.Input i) hi refl w (free_input s im i w sp) c clear
@@ -156,19 +154,19 @@ module _ (s : Shape) (im : List ℕ) (g : Good s im) where
 
     input_good : (c : ℕ) → c ≤ most_character → Good s (input s im i c).image
     input_good c low =
-        input_any s im i (λ o. Good s o.image) c (λ _. g) (λ clear ne. nearly_good (input_nearly c low clear Woken.Nobody ne))
-        (λ clear waiting. woke_good (input_apart c) i hi (λ z. waits_not Service.Input (sym z ∙ waiting)) (input_nearly c low clear (Woken.One i) (λ _. refl)))
+        input_any s im i (λ o. Good s o.image) c (λ _. g) (λ clear ne. nearly_good (input_nearly c low clear None ne))
+        (λ clear waiting. woke_good (input_apart c) i hi (λ z. waits_not Service.Input (sym z ∙ waiting)) (input_nearly c low clear (Some i) (λ _. refl)))
 
     pub next_apart : Apart s moved_parts im (port_next s im i)
     next_apart = frame_next frame_none (good_sound s im g) i hi (λ r. refl) (λ r. refl)
 
-    pub next_owner : (w : Woken) → (at s im (status i) ≡ waits Service.Output → Spared w i) → Nearly s (port_next s im i) w
+    pub next_owner : (w : Option Task) → (at s im (status i) ≡ waits Service.Output → Spared w i) → Nearly s (port_next s im i) w
     next_owner w sp = next_nearly (good_nearly g) i hi w (free_output s im i w sp)
 
     output_done_good : Good s (output_done s im i).image
     output_done_good =
-        done_any s im i (λ o. Good s o.image) (λ _. g) (λ _ ne. nearly_good (next_owner Woken.Nobody ne))
-        (λ _ waiting. woke_good next_apart i hi (λ z. waits_not Service.Output (sym z ∙ waiting)) (next_owner (Woken.One i) (λ _. refl)))
+        done_any s im i (λ o. Good s o.image) (λ _. g) (λ _ ne. nearly_good (next_owner None ne))
+        (λ _ waiting. woke_good next_apart i hi (λ z. waits_not Service.Output (sym z ∙ waiting)) (next_owner (Some i) (λ _. refl)))
 
 -- whatever event comes, a good image stays good
 pub happening_good : (s : Shape) (im : List ℕ) → Good s im → (e : Event) → Formed s e → Good s (happening s im e).image

@@ -1,5 +1,5 @@
 -- Which cells a tick changes: of the task table and the segments those of the first task alone, of the segment table none. Assumes nothing.
-use Rattle.std.specs.Prelude.{◌≡◌, refl, List, ℕ, ◌<◌}
+use Rattle.std.specs.Prelude.{◌≡◌, refl, List, ℕ, ◌<◌, None}
 use Rattle.std.proofs.Common.{ap, arith}
 use Rattle.std.proofs.Math.Bool.{false}
 use Rattle.std.proofs.Math.Logic.{inl, inr}
@@ -12,7 +12,6 @@ use Rattle.paper.specs.declared.Task.{Task}
 use Rattle.paper.specs.declared.Shape.{Shape}
 use Rattle.paper.specs.declared.Cell.{Cell}
 use Rattle.paper.specs.declared.Service.{Service}
-use Rattle.paper.specs.declared.Fault.{Fault}
 use Rattle.laws.specs.Frame.{Frame, frame_none, frame_more, frame_put}
 use Rattle.laws.specs.Changes.{status_sound, frame_status, frame_left, frame_woken, frame_served}
 use Rattle.event_laws.specs.Turns.{Leads, leads_sound, leads_in, turned_frame}
@@ -41,7 +40,7 @@ module _ {s : Shape} {im m : List ℕ} {i : Task} (l : Leads s m i) (b : Begins 
             frame_woken (moves right clear) (served_nearly l v right clear).lies (λ r. inl refl) (inl refl) k (wakes_whom l v right k one).0 (λ r. inl refl);
       }
     where
-      moves : fault_of s m i v ≡ Fault.Nothing → blocked s m i v ≡ false → Frame s (TickCell s im i) im (served s m i v)
+      moves : fault_of s m i v ≡ None → blocked s m i v ≡ false → Frame s (TickCell s im i) im (served s m i v)
       moves right clear = frame_served begun (leads_sound l) i hi (λ c t. inl (rw t)) (λ r. inr (inl (refl, refl))) v right clear
 
 module _ (s : Shape) (im : List ℕ) (g : Good s im) where

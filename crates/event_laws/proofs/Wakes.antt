@@ -1,5 +1,5 @@
 -- Whom an event wakes is not ready, so it finds room; any other task that is not ready stays as it is. Assumes nothing.
-use Rattle.std.specs.Prelude.{◌≡◌, List, Bool, true, false, ◌||◌, ◌≢◌, ◌↔◌, ◌⊎◌, ℕ, ◌<◌, ◌≤◌, eqb, length}
+use Rattle.std.specs.Prelude.{◌≡◌, List, Bool, true, false, ◌||◌, ◌≢◌, ◌↔◌, ◌⊎◌, ℕ, ◌<◌, ◌≤◌, eqb, length, None, Option, Some}
 use Rattle.std.proofs.Math.Path.{refl, sym}
 use Rattle.std.proofs.Common.{ap, ◌∙◌, true≢false, inl, inr, ⊎_elim, arith}
 use Rattle.std.proofs.Math.Logic.{dite}
@@ -18,8 +18,6 @@ use Rattle.paper.specs.declared.Cell.{Cell}
 use Rattle.paper.specs.declared.Part.{Part}
 use Rattle.paper.specs.declared.Queue.{Queue}
 use Rattle.paper.specs.declared.Service.{Service}
-use Rattle.paper.specs.declared.Fault.{Fault}
-use Rattle.paper.specs.declared.Woken.{Woken}
 use Rattle.paper.specs.declared.Event.{Event}
 use Rattle.laws.specs.Queues.{same_task}
 use Rattle.laws.specs.Sound.{Sound, has_space, appended_sound}
@@ -73,7 +71,7 @@ unmoved j hj f =
     }
 
 -- nobody is woken, and the task whose rows change, if one does, was ready
-wakes_nobody : {s : Shape} {im m : List ℕ} → ((j : Task) → j.0 < s.n → at s im (status j) ≢ is_ready → Frame s (Off j) im m) → WakesOnly s im Woken.Nobody m
+wakes_nobody : {s : Shape} {im m : List ℕ} → ((j : Task) → j.0 < s.n → at s im (status j) ≢ is_ready → Frame s (Off j) im m) → WakesOnly s im None m
 wakes_nobody f =
     record {
       waited = λ k e. absurd (let z : ◌≡◌ {A = ℕ} 0 1 = cc in omega arith);
@@ -87,12 +85,12 @@ not_ready s im i j r n e = n (ap (λ (x : ℕ). at s im (cell Part.StatusTable x
 
 -- one task is woken, and of tasks that were not ready no other's rows change
 wakes_one : {s : Shape} {im m : List ℕ} (k : Task) → k.0 < s.n → at s im (status k) ≢ is_ready → at s m (status k) ≡ is_ready
-    → ((j : Task) → at s im (status j) ≢ is_ready → k.0 ≢ j.0 → Frame s (Off j) im m) → WakesOnly s im (Woken.One k) m
+    → ((j : Task) → at s im (status j) ≢ is_ready → k.0 ≢ j.0 → Frame s (Off j) im m) → WakesOnly s im (Some k) m
 wakes_one k hk ne now f =
     record {
       waited = λ j e. let z : k ≡ j = cc in rw (← z) (hk, ne);
       becomes = λ j e. let z : k ≡ j = cc in rw (← z) now;
-      stays = λ j hj still other. unmoved j hj (f j still (λ e. other (ap Woken.One (same_task k j e))));
+      stays = λ j hj still other. unmoved j hj (f j still (λ e. other (ap Some (same_task k j e))));
     }
 
 -- a service of the first task
@@ -106,7 +104,7 @@ module _ {s : Shape} {im m : List ℕ} {i : Task} (l : Leads s im i) (b : Begins
   another : (j : Task) → at s im (status j) ≢ is_ready → (p : Part) (r : ℕ) → Off j (cell p i.0 r)
   another j ne = off_row i j (not_ready s im i j (leads_ready l) ne)
 
-  moves : (v : Service) → fault_of s m i v ≡ Fault.Nothing → blocked s m i v ≡ false → (j : Task) → at s im (status j) ≢ is_ready → Frame s (Off j) im (served s m i v)
+  moves : (v : Service) → fault_of s m i v ≡ None → blocked s m i v ≡ false → (j : Task) → at s im (status j) ≢ is_ready → Frame s (Off j) im (served s m i v)
   moves v right clear j ne =
       frame_served (begun j) (leads_sound here) i (leads_in l) (λ c t. off_part j c (off_device c.part t)) (another j ne Part.TaskTable) v right clear
 
@@ -114,8 +112,8 @@ module _ {s : Shape} {im m : List ℕ} {i : Task} (l : Leads s im i) (b : Begins
   unfolding service_faulted waiting
   service_wakes v =
       let same = fault_same l b v in
-      let clear : fault_of s m i v ≡ Fault.Nothing → blocked s m i v ≡ blocked s im i v = λ right. blocked_same l b v (sym same ∙ right) in
-      let woke : fault_of s m i v ≡ Fault.Nothing → wakes s m i v ≡ wakes s im i v = λ right. wakes_same l b v (sym same ∙ right) in
+      let clear : fault_of s m i v ≡ None → blocked s m i v ≡ blocked s im i v = λ right. blocked_same l b v (sym same ∙ right) in
+      let woke : fault_of s m i v ≡ None → wakes s m i v ≡ wakes s im i v = λ right. wakes_same l b v (sym same ∙ right) in
       record {
         faults = λ e f. rw (sym same ∙ f) (wakes_nobody (λ j _ ne. frame_put (begun j) (flags i) _ (leads_in l, omega arith) (another j ne Part.TaskTable 8)));
         stuck = λ right stuck.
@@ -133,10 +131,10 @@ module _ {s : Shape} {im m : List ℕ} {i : Task} (l : Leads s im i) (b : Begins
             frame_woken (moves v right free j ne) (served_nearly here v right free).lies (λ r. off_part j _ refl) (off_part j _ refl) k w.0 (off_row k j other Part.StatusTable)));
       }
 
-one_or_not : (w : Woken) (i : Task) → (w ≡ Woken.One i) ⊎ (w ≢ Woken.One i)
-one_or_not Woken.Nobody i = inr (λ e. let z : ◌≡◌ {A = ℕ} 0 1 = cc in omega arith)
-one_or_not (Woken.One k) i =
-    dite (ℕ_discrete k.0 i.0) (λ e. inl (ap Woken.One (same_task k i e))) (λ ne. inr (λ e. let z : k ≡ i = cc in ne (ap (λ (x : Task). x.0) z)))
+one_or_not : (w : Option Task) (i : Task) → (w ≡ Some i) ⊎ (w ≢ Some i)
+one_or_not None i = inr (λ e. let z : ◌≡◌ {A = ℕ} 0 1 = cc in omega arith)
+one_or_not (Some k) i =
+    dite (ℕ_discrete k.0 i.0) (λ e. inl (ap Some (same_task k i e))) (λ ne. inr (λ e. let z : k ≡ i = cc in ne (ap (λ (x : Task). x.0) z)))
 
 module _ (s : Shape) (im : List ℕ) (g : Good s im) where
   tick_wakes_only : WakesOnly s im (whom s im Event.Tick) (tick s im).image
@@ -156,7 +154,7 @@ module _ (s : Shape) (im : List ℕ) (g : Good s im) where
         serves = λ some calm runs v asks m b.
             rw (some, eq-eqb (error s im (running s im)) 0 calm, ne_eqb (at s im clock) 0 runs, asks, asked_waits v) (service_wakes (first_leads s im g some) b v);
         orders = λ some calm runs none m b.
-            let k : WakesOnly s im Woken.Nobody m = wakes_nobody (λ j _ ne. order_frame (first_leads s im g some) b (off_own j (not_ready s im (running s im) j (leads_ready (first_leads s im g some)) ne)) (off_part j _ refl)) in
+            let k : WakesOnly s im None m = wakes_nobody (λ j _ ne. order_frame (first_leads s im g some) b (off_own j (not_ready s im (running s im) j (leads_ready (first_leads s im g some)) ne)) (off_part j _ refl)) in
             rw (some, eq-eqb (error s im (running s im)) 0 calm, ne_eqb (at s im clock) 0 runs, none) (record { does = λ _ _ _. k; faults = λ _ _. k });
       }
     where
@@ -196,7 +194,7 @@ module _ (s : Shape) (im : List ℕ) (g : Good s im) where
       let f : (j : Task) → Frame s (Off j) im (port_next s im i) = λ j. frame_next frame_none h i hi (λ r. off_part j _ refl) (λ r. off_part j _ refl) in
       done_any s im i (λ o. WakesOnly s im (whom s im (Event.OutputDone i)) o.image)
       (λ idle. alone_wakes_only i hi Service.Output im (λ j. frame_none) (λ e. some_capacity (Queue.Output i) hi g.laid.fit.outputs.0 ((g.ports i hi).idle idle).1 ((g.statuses i hi).outputs e).2))
-      (λ _. alone_wakes_only i hi Service.Output _ f) (λ _. owner_wakes_only i hi Service.Output _ f (next_owner s im g i hi (Woken.One i) (λ _. refl)).lies)
+      (λ _. alone_wakes_only i hi Service.Output _ f) (λ _. owner_wakes_only i hi Service.Output _ f (next_owner s im g i hi (Some i) (λ _. refl)).lies)
 
   pub wakes_only : (e : Event) → Formed s e → WakesOnly s im (whom s im e) (happening s im e).image
   unfolding Formed
@@ -205,7 +203,7 @@ module _ (s : Shape) (im : List ℕ) (g : Good s im) where
       (λ _. wakes_nobody (λ j _ _. frame_none))
 
   -- THE WAKE: a task that an event wakes is one of the image that is not in the ready queue, and the queue has a free slot for it
-  pub wake_finds_room : (e : Event) → Formed s e → (k : Task) → whom s im e ≡ Woken.One k
+  pub wake_finds_room : (e : Event) → Formed s e → (k : Task) → whom s im e ≡ Some k
       → (k.0 < s.n) × (times k.0 (held s im Queue.Ready) ≡ 0) × (length (held s im Queue.Ready) < s.n)
   wake_finds_room e f k one =
       let w = (wakes_only e f).waited k one in
@@ -213,7 +211,7 @@ module _ (s : Shape) (im : List ℕ) (g : Good s im) where
 
   -- and a task that is not ready becomes so exactly where the event wakes it
   pub wakes_exactly : (e : Event) → Formed s e → (i : Task) → i.0 < s.n → at s im (status i) ≢ is_ready
-      → (at s (happening s im e).image (status i) ≡ is_ready) ↔ (whom s im e ≡ Woken.One i)
+      → (at s (happening s im e).image (status i) ≡ is_ready) ↔ (whom s im e ≡ Some i)
   wakes_exactly e f i hi ne =
       let w = wakes_only e f in
       (λ now. ⊎_elim (λ one. one) (λ other. absurd (ne (sym (w.stays i hi ne other).status ∙ now))) (one_or_not (whom s im e) i), w.becomes i)

@@ -1,5 +1,5 @@
 -- The image that a service begins from, and the tick's: what is wrong, what stops it and whom it wakes are the same. Assumes nothing.
-use Rattle.std.specs.Prelude.{◌≡◌, List, ℕ, ◌<◌}
+use Rattle.std.specs.Prelude.{◌≡◌, List, ℕ, ◌<◌, None}
 use Rattle.std.proofs.Math.Path.{refl}
 use Rattle.std.proofs.Common.{arith, leb-false}
 use Rattle.paper.specs.Image.{at, reg}
@@ -8,7 +8,6 @@ use Rattle.paper.specs.declared.Task.{Task}
 use Rattle.paper.specs.declared.Shape.{Shape}
 use Rattle.paper.specs.declared.Queue.{Queue}
 use Rattle.paper.specs.declared.Service.{Service}
-use Rattle.paper.specs.declared.Fault.{Fault}
 use Rattle.laws.specs.Frame.{Apart, kept, kept_status, kept_peer, kept_empty, kept_full}
 use Rattle.laws.specs.Changes.{header_part, error_none, buffer_has}
 use Rattle.event_laws.specs.Own.{clock_apart}
@@ -28,7 +27,7 @@ module _ {s : Shape} {im m : List ℕ} {i : Task} (l : Leads s im i) (b : Begins
   fault_same Service.Input = refl
   fault_same Service.Output = rw (reg_same 3 (omega arith))
 
-  pub blocked_same : (v : Service) → fault_of s im i v ≡ Fault.Nothing → blocked s m i v ≡ blocked s im i v
+  pub blocked_same : (v : Service) → fault_of s im i v ≡ None → blocked s m i v ≡ blocked s im i v
   blocked_same Service.Send right =
       rw (reg_same 2 (omega arith)) (kept_full header_part clock_only (Queue.Message i (other s im i)) (buffer_has s im i (leads_in l) Service.Send right) refl)
   blocked_same Service.Receive right =
@@ -40,7 +39,7 @@ module _ {s : Shape} {im m : List ℕ} {i : Task} (l : Leads s im i) (b : Begins
   unfolding waits_for
   other_waits u h = rw (kept_status header_part clock_only refl (other s im i) h, kept_peer header_part clock_only refl (other s im i) h)
 
-  pub wakes_same : (v : Service) → fault_of s im i v ≡ Fault.Nothing → wakes s m i v ≡ wakes s im i v
+  pub wakes_same : (v : Service) → fault_of s im i v ≡ None → wakes s m i v ≡ wakes s im i v
   wakes_same Service.Send right = rw (reg_same 2 (omega arith), other_waits Service.Receive (leb-false s.n _ (error_none _ 5 right)))
   wakes_same Service.Receive right = rw (reg_same 2 (omega arith), other_waits Service.Send (leb-false s.n _ (error_none _ 5 right)))
   wakes_same Service.Input right = refl

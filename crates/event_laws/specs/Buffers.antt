@@ -1,5 +1,5 @@
 -- A word that moves to or from a buffer keeps an image good, but for a task that waits on that buffer. Assumes nothing.
-use Rattle.std.specs.Prelude.{◌≡◌, refl, List, true, ◌≢◌, ◌⊎◌, ℕ, ◌+◌, ◌<◌}
+use Rattle.std.specs.Prelude.{◌≡◌, refl, List, true, ◌≢◌, ◌⊎◌, ℕ, ◌+◌, ◌<◌, None, Option}
 use Rattle.std.proofs.Common.{ap, ◌∙◌, inl, inr, ⊎_elim, arith}
 use Rattle.paper.specs.Image.{lead, ord, at, status}
 use Rattle.paper.specs.Queues.{part_of, row_of, Has, header_capacity, queue_word, held, free}
@@ -11,7 +11,6 @@ use Rattle.paper.specs.declared.Cell.{Cell}
 use Rattle.paper.specs.declared.Part.{Part}
 use Rattle.paper.specs.declared.Queue.{Queue}
 use Rattle.paper.specs.declared.Service.{Service}
-use Rattle.paper.specs.declared.Woken.{Woken}
 use Rattle.laws.specs.Queues.{Off, word_valid, held_frame, free_frame, same_queue}
 use Rattle.laws.specs.Sound.{Sound, sound}
 use Rattle.laws.specs.Frame.{Frame, Apart, SameCount, frame_more, kept_flags, kept_same}
@@ -31,7 +30,7 @@ abbrev pub BufferCell : Shape → Queue → Cell → Type 0
 BufferCell s q c = ((c.part ≡ part_of q) × (c.row ≡ row_of s q)) ⊎ (c.part ≡ Part.Ports)
 
 -- which tasks wait on a buffer: none but those whom the event wakes
-abbrev pub Free : Shape → List ℕ → Queue → Woken → Type 0
+abbrev pub Free : Shape → List ℕ → Queue → Option Task → Type 0
 Free s im q w = (i : Task) (v : Service) → i.0 < s.n → ¬ Spared w i → at s im (status i) ≡ waits v → awaits s im i v ≢ q
 
 chars_same : (s : Shape) (im m : List ℕ) (p : Queue) → held s m p ≡ held s im p → Chars s im p → Chars s m p
@@ -41,7 +40,7 @@ chars_same s im m (Queue.Output i) e c = rw e c
 chars_same s im m (Queue.Message i j) e c = tt
 
 -- a buffer's row, and ports, written anew
-module _ {s : Shape} {im m : List ℕ} (h : Nearly s im Woken.Nobody) (q : Queue) (hq : Has s q) (device : device_parts (part_of q) ≡ true)
+module _ {s : Shape} {im m : List ℕ} (h : Nearly s im None) (q : Queue) (hq : Has s q) (device : device_parts (part_of q) ≡ true)
     (k : Frame s (BufferCell s q) im m) (chars : Chars s m q) (cleared : Zeros (free s m q)) where
   buffer_apart : Apart s device_parts im m
   buffer_apart = frame_more k go
@@ -59,7 +58,7 @@ module _ {s : Shape} {im m : List ℕ} (h : Nearly s im Woken.Nobody) (q : Queue
     counts_kept = (queue_kept 2 (omega arith), queue_kept 3 (omega arith))
 
   -- the image is good, but for tasks that wait on the buffer
-  pub buffer_nearly : (w : Woken) → Sound s m → ((i : Task) → i.0 < s.n → Ported s m i) → Free s im q w → Nearly s m w
+  pub buffer_nearly : (w : Option Task) → Sound s m → ((i : Task) → i.0 < s.n → Ported s m i) → Free s im q w → Nearly s m w
   buffer_nearly w lies ports none-waits =
       record {
         lies = lies;

@@ -1,5 +1,5 @@
 -- A good image, but for a task that is about to be woken; what parts that are as they were keep of it. Assumes nothing.
-use Rattle.std.specs.Prelude.{◌≡◌, List, Bool, false, ℕ, ◌<◌, ◌≤◌}
+use Rattle.std.specs.Prelude.{◌≡◌, List, Bool, false, ℕ, ◌<◌, ◌≤◌, None, Option, Some}
 use Rattle.std.proofs.Common.{sym, ◌∙◌}
 use Rattle.paper.specs.Image.{at, clock, flags, status}
 use Rattle.paper.specs.Queues.{part_of, Has, held, free}
@@ -10,16 +10,15 @@ use Rattle.paper.specs.declared.Shape.{Shape}
 use Rattle.paper.specs.declared.Part.{Part}
 use Rattle.paper.specs.declared.Queue.{Queue}
 use Rattle.paper.specs.declared.Service.{Service}
-use Rattle.paper.specs.declared.Woken.{Woken}
 use Rattle.laws.specs.Sound.{Sound, shut, sound}
 use Rattle.laws.specs.Frame.{Apart, Same, kept_clock, kept_status, kept_count, kept_held, kept_free, kept_port}
 use Rattle.laws.specs.Room.{Listed, good_listed}
 use Rattle.event_laws.specs.Standing.{awaits, stands_frame}
 
 -- the task that an event is about to wake
-abbrev pub Spared : Woken → Task → Type 0
-Spared Woken.Nobody i = ⊥
-Spared (Woken.One j) i = i.0 ≡ j.0
+abbrev pub Spared : Option Task → Task → Type 0
+Spared None i = ⊥
+Spared (Some j) i = i.0 ≡ j.0
 
 -- the words that a queue may hold
 abbrev pub Chars : Shape → List ℕ → Queue → Type 0
@@ -33,7 +32,7 @@ abbrev pub Clocked : Shape → List ℕ → Type 0
 Clocked s im = (at s im clock ≤ s.slice) × (Empty s im Queue.Ready → at s im clock ≡ 0)
 
 -- a good image, but for the status of a task that is about to be woken
-pub record Nearly (s : Shape) (im : List ℕ) (w : Woken) : Type 0 where
+pub record Nearly (s : Shape) (im : List ℕ) (w : Option Task) : Type 0 where
   pub lies : Sound s im
   pub flags : (i : Task) → i.0 < s.n → Flagged s im i
   pub chars : (q : Queue) → Has s q → Chars s im q
@@ -43,7 +42,7 @@ pub record Nearly (s : Shape) (im : List ℕ) (w : Woken) : Type 0 where
   pub ports : (i : Task) → i.0 < s.n → Ported s im i
   pub statuses : (i : Task) → i.0 < s.n → ¬ Spared w i → Stands s im i
 
-pub good_nearly : {s : Shape} {im : List ℕ} → Good s im → Nearly s im Woken.Nobody
+pub good_nearly : {s : Shape} {im : List ℕ} → Good s im → Nearly s im None
 good_nearly {s} {im} g =
     record {
       lies = shut record { laid = g.laid; queues = g.queues };
@@ -62,7 +61,7 @@ good_nearly {s} {im} g =
     chars (Queue.Output i) h = g.outputs_held i h
     chars (Queue.Message i j) h = tt
 
-pub nearly_good : {s : Shape} {im : List ℕ} → Nearly s im Woken.Nobody → Good s im
+pub nearly_good : {s : Shape} {im : List ℕ} → Nearly s im None → Good s im
 nearly_good h =
     record {
       laid = (sound h.lies).laid;
@@ -100,7 +99,7 @@ module _ {s : Shape} (P : Part → Bool) {im m : List ℕ} (a : Apart s P im m) 
       stands_frame s im m i e (λ v f. kept_count P a (awaits s im i v) (awaits_has s im i hi st v f) (buffer_unpicked i v)) st
 
   -- so where ports are too, the image is as good as its flags, ready queue, clock and statuses
-  module _ (ports : P Part.Ports ≡ false) {w : Woken} (h : Nearly s im w) where
+  module _ (ports : P Part.Ports ≡ false) {w : Option Task} (h : Nearly s im w) where
     kept_chars : (q : Queue) → Has s q → Chars s m q
     kept_chars Queue.Ready hq = tt
     kept_chars (Queue.Input i) hq = rw (kept_held P a (Queue.Input i) hq inputs h.lies) (h.chars (Queue.Input i) hq)
@@ -113,7 +112,7 @@ module _ {s : Shape} (P : Part → Bool) {im m : List ℕ} (a : Apart s P im m) 
     kept_cleared ready (Queue.Output i) hq = rw (kept_free P a (Queue.Output i) hq outputs h.lies) (h.cleared (Queue.Output i) hq)
     kept_cleared ready (Queue.Message i j) hq = rw (kept_free P a (Queue.Message i j) hq messages h.lies) (h.cleared (Queue.Message i j) hq)
 
-    pub kept_nearly : {w' : Woken} → Sound s m → ((i : Task) → i.0 < s.n → Flagged s m i) → Zeros (free s m Queue.Ready) → Listed s m
+    pub kept_nearly : {w' : Option Task} → Sound s m → ((i : Task) → i.0 < s.n → Flagged s m i) → Zeros (free s m Queue.Ready) → Listed s m
         → Clocked s m → ((i : Task) → i.0 < s.n → ¬ Spared w' i → Stands s m i) → Nearly s m w'
     kept_nearly lies flags ready listed clocked statuses =
         record {
@@ -128,7 +127,7 @@ module _ {s : Shape} (P : Part → Bool) {im m : List ℕ} (a : Apart s P im m) 
         }
 
 -- the ready queue and the clock, where they and the statuses are as they were
-module _ {s : Shape} (P : Part → Bool) {im m : List ℕ} {w : Woken} (a : Apart s P im m) (h : Nearly s im w) (f : P Part.ReadyQueue ≡ false) where
+module _ {s : Shape} (P : Part → Bool) {im m : List ℕ} {w : Option Task} (a : Apart s P im m) (h : Nearly s im w) (f : P Part.ReadyQueue ≡ false) where
   pub kept_listed : P Part.StatusTable ≡ false → Listed s m
   kept_listed g i =
       let l = kept_held P a Queue.Ready tt f h.lies in

@@ -1,5 +1,5 @@
 -- Words that move to and from buffers, one law for each way. Assumes nothing.
-use Rattle.std.specs.Prelude.{◌≡◌, List, [], ◌∷◌, ◌++◌, Bool, true, false, ◌≢◌, ◌⊎◌, ℕ, ◌<◌, ◌≤◌, eqb}
+use Rattle.std.specs.Prelude.{◌≡◌, List, [], ◌∷◌, ◌++◌, Bool, true, false, ◌≢◌, ◌⊎◌, ℕ, ◌<◌, ◌≤◌, eqb, None, Option}
 use Rattle.std.proofs.Math.Path.{refl}
 use Rattle.std.proofs.Common.{sym, ap, ◌∙◌, inl, inr, arith, eq-eqb, eqb-true}
 use Rattle.std.proofs.Math.Logic.{dite}
@@ -19,7 +19,6 @@ use Rattle.paper.specs.declared.Cell.{Cell}
 use Rattle.paper.specs.declared.Part.{Part}
 use Rattle.paper.specs.declared.Queue.{Queue}
 use Rattle.paper.specs.declared.Service.{Service}
-use Rattle.paper.specs.declared.Woken.{Woken}
 use Rattle.laws.specs.Cases.{when}
 use Rattle.laws.specs.Cells.{cells}
 use Rattle.laws.specs.Queues.{same_task, appended_held, appended_cleared, taken_held, taken_cleared}
@@ -84,7 +83,7 @@ module _ (s : Shape) (im : List ℕ) (i : Task) (at_ready : at s im (status i) �
   free_to k t Service.Output ht sp e f = absurd (let z : ◌≡◌ {A = ℕ} 0 1 = cc in omega arith)
 
 -- a task's own buffer: the task itself, if it waits on it
-module _ (s : Shape) (im : List ℕ) (i : Task) (w : Woken) where
+module _ (s : Shape) (im : List ℕ) (i : Task) (w : Option Task) where
   pub free_input : (at s im (status i) ≡ waits Service.Input → Spared w i) → Free s im (Queue.Input i) w
   free_input g t Service.Input ht sp e f =
       let a : t ≡ i = cc in
@@ -119,7 +118,7 @@ module _ (s : Shape) (im : List ℕ) (h : Sound s im) (q : Queue) (hq : Has s q)
   take_clears f = taken_cleared s im q hq (sound h).laid.words ((sound h).queues q hq) (has_word s im h q hq f)
 
 -- a word appended to or taken from a buffer that is no output buffer
-module _ {s : Shape} {im : List ℕ} (h : Nearly s im Woken.Nobody) (q : Queue) (hq : Has s q) (device : message_parts (part_of q) ≡ true) (w : Woken) (none-waits : Free s im q w) where
+module _ {s : Shape} {im : List ℕ} (h : Nearly s im None) (q : Queue) (hq : Has s q) (device : message_parts (part_of q) ≡ true) (w : Option Task) (none-waits : Free s im q w) where
   moves_nearly : (m : List ℕ) → ((E : Cell → Type 0) → ((r : ℕ) → E (queue_word s q r)) → Frame s E im m) → Chars s m q → Zeros (free s m q) → Sound s m → Nearly s m w
   moves_nearly m k chars cleared lies =
       let a : Apart s message_parts im m = k (λ c. message_parts c.part ≡ true) (λ r. device) in
@@ -141,7 +140,7 @@ abbrev OutCell : Task → Cell → Type 0
 OutCell i c = (c.row ≡ i.0) × ((c.part ≡ Part.OutputBuffers) ⊎ (c.part ≡ Part.Ports))
 
 -- those of one task written anew
-module _ {s : Shape} {im : List ℕ} (h : Nearly s im Woken.Nobody) (i : Task) (hi : i.0 < s.n) (w : Woken) (none-waits : Free s im (Queue.Output i) w) where
+module _ {s : Shape} {im : List ℕ} (h : Nearly s im None) (i : Task) (hi : i.0 < s.n) (w : Option Task) (none-waits : Free s im (Queue.Output i) w) where
   out_ports : {m : List ℕ} → Frame s (OutCell i) im m → Ported s m i → (j : Task) → j.0 < s.n → Ported s m j
   out_ports k p j hj =
       dite (ℕ_discrete j.0 i.0) (λ e. rw (same_task j i e) p)

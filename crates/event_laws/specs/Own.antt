@@ -1,5 +1,5 @@
 -- A change of a ready task's own words, and one of the clock, keep an image good. Assumes nothing.
-use Rattle.std.specs.Prelude.{◌≡◌, refl, List, Bool, true, ◌||◌, ◌≢◌, ℕ, ◌<◌, ◌≤◌, eqb}
+use Rattle.std.specs.Prelude.{◌≡◌, refl, List, Bool, true, ◌||◌, ◌≢◌, ℕ, ◌<◌, ◌≤◌, eqb, Option}
 use Rattle.std.proofs.Common.{ap, ◌∙◌, inl, inr, arith}
 use Rattle.std.proofs.Math.Logic.{dite}
 use Rattle.std.proofs.Math.Decide.{ℕ_discrete}
@@ -11,7 +11,6 @@ use Rattle.paper.specs.declared.Shape.{Shape}
 use Rattle.paper.specs.declared.Cell.{Cell}
 use Rattle.paper.specs.declared.Part.{Part}
 use Rattle.paper.specs.declared.Queue.{Queue}
-use Rattle.paper.specs.declared.Woken.{Woken}
 use Rattle.laws.specs.Queues.{same_task}
 use Rattle.laws.specs.Sound.{Sound, fixed}
 use Rattle.laws.specs.Frame.{Frame, Apart, frame_more, frame_sound, flagged_frame, kept_flags, kept_status, kept_peer, kept_same}
@@ -28,7 +27,7 @@ pub own_picked : (s : Shape) (im : List ℕ) (i : Task) (c : Cell) → OwnCell s
 own_picked s im i c (inl (p, _)) = ap own_parts p
 own_picked s im i c (inr (p, _)) = ap own_parts p
 
-module _ {s : Shape} {im : List ℕ} {w : Woken} (h : Nearly s im w) (i : Task) (hi : i.0 < s.n) (at_ready : at s im (status i) ≡ is_ready)
+module _ {s : Shape} {im : List ℕ} {w : Option Task} (h : Nearly s im w) (i : Task) (hi : i.0 < s.n) (at_ready : at s im (status i) ≡ is_ready)
     (no_peer : at s im (peer i) ≡ 0) {m : List ℕ} (k : Keeps s im i m) (f : Flagged s m i) where
   keeps_apart : Apart s own_parts im m
   keeps_apart = frame_more k (own_picked s im i)
@@ -78,7 +77,7 @@ module _ {s : Shape} {im m : List ℕ} (k : Frame s (λ c. c ≡ clock) im m) wh
       let f : fixed c.part ≡ 17 = ap (λ (x : Cell). fixed x.part) e in
       omega arith) h
 
-  pub clock_nearly : {w : Woken} → Nearly s im w → at s m clock ≤ s.slice → (Empty s im Queue.Ready → at s m clock ≡ 0) → Nearly s m w
+  pub clock_nearly : {w : Option Task} → Nearly s im w → at s m clock ≤ s.slice → (Empty s im Queue.Ready → at s m clock ≡ 0) → Nearly s m w
   clock_nearly h low idle =
       kept_nearly header_part clock_apart refl refl refl refl h (clock_sound h.lies) (λ j hj. kept_flags header_part clock_apart refl j hj (h.flags j hj))
       (kept_slots header_part clock_apart h refl) (kept_listed header_part clock_apart h refl refl) (low, λ e. idle (kept_none header_part clock_apart h refl e))

@@ -1,5 +1,5 @@
 -- A service of the first task keeps an image good: faulted, waiting, or done but for the task that is woken. Assumes nothing.
-use Rattle.std.specs.Prelude.{◌≡◌, List, Bool, true, false, ◌≢◌, ℕ, ◌<◌, ◌≤◌}
+use Rattle.std.specs.Prelude.{◌≡◌, List, Bool, true, false, ◌≢◌, ℕ, ◌<◌, ◌≤◌, None, Option, Some}
 use Rattle.std.proofs.Math.Path.{refl}
 use Rattle.std.proofs.Common.{sym, ◌∙◌, inl, arith}
 use Rattle.std.proofs.Math.Bool.{and-eq-true_iff}
@@ -14,8 +14,6 @@ use Rattle.paper.specs.declared.Task.{Task}
 use Rattle.paper.specs.declared.Shape.{Shape}
 use Rattle.paper.specs.declared.Queue.{Queue}
 use Rattle.paper.specs.declared.Service.{Service}
-use Rattle.paper.specs.declared.Fault.{Fault}
-use Rattle.paper.specs.declared.Woken.{Woken}
 use Rattle.laws.specs.Cells.{at_same}
 use Rattle.laws.specs.Sound.{sound}
 use Rattle.laws.specs.Effects.{fields}
@@ -30,7 +28,7 @@ use Rattle.event_laws.specs.Turns.{status_part, entry_apart, Leads, leads_sound,
 use Rattle.event_laws.specs.Moving.{free_from, free_to, free_input, free_output, append_nearly, take_nearly, taken_chars, output_nearly}
 
 -- a ready task's flags written anew, and a register
-module _ {s : Shape} {im : List ℕ} {w : Woken} (h : Nearly s im w) (i : Task) (hi : i.0 < s.n) (at_ready : at s im (status i) ≡ is_ready)
+module _ {s : Shape} {im : List ℕ} {w : Option Task} (h : Nearly s im w) (i : Task) (hi : i.0 < s.n) (at_ready : at s im (status i) ≡ is_ready)
     (no_peer : at s im (peer i) ≡ 0) where
   flags_nearly : (c e p : ℕ) → c ≤ 2 → e ≤ 6 → p ≤ 4 → (e ≢ 0 → p ≡ 0) → Nearly s (put s im (flags i) (flags_of c e p)) w
   flags_nearly c e p hc he hp both =
@@ -55,7 +53,7 @@ unfolding waits_for
 waited s im k u i e f = waits_not u (sym f ∙ eqb-true _ _ ((and-eq-true_iff _ _).0 e).0)
 
 -- whom a test wakes
-pub one_is : (b : Bool) (i k : Task) → one_if b i ≡ Woken.One k → (b ≡ true) × (k ≡ i)
+pub one_is : (b : Bool) (i k : Task) → one_if b i ≡ Some k → (b ≡ true) × (k ≡ i)
 one_is true i k e = (refl, cc)
 one_is false i k e = absurd (let z : ◌≡◌ {A = ℕ} 0 1 = cc in omega arith)
 
@@ -81,7 +79,7 @@ module _ {s : Shape} {im : List ℕ} {i : Task} (l : Leads s im i) where
     entry_count q hq f = kept_count status_part (entry_apart s im i hi (leads_sound l) k p) q hq f
 
   -- waiting: its rule holds with the status that it takes
-  waits_standing : (v : Service) → pending s im i ≡ waits v → fault_of s im i v ≡ Fault.Nothing → blocked s im i v ≡ true
+  waits_standing : (v : Service) → pending s im i ≡ waits v → fault_of s im i v ≡ None → blocked s im i v ≡ true
       → Standing s (with_status s im i (waits v) (awaited s im i v)) i v
   unfolding full empty
   waits_standing Service.Send asks right stuck =
@@ -109,21 +107,21 @@ module _ {s : Shape} {im : List ℕ} {i : Task} (l : Leads s im i) where
   alone_peer Service.Output a = entry_peer 4 0
 
   module _ (v : Service) where
-    pub waiting_good : pending s im i ≡ waits v → fault_of s im i v ≡ Fault.Nothing → blocked s im i v ≡ true → Good s (waiting s im i v)
+    pub waiting_good : pending s im i ≡ waits v → fault_of s im i v ≡ None → blocked s im i v ≡ true → Good s (waiting s im i v)
     unfolding waiting
     waiting_good asks right stuck =
         left_good l (waits v) (awaited s im i v) (λ e. waits_not v (sym e))
         (waiting_stands s _ i v (status_is s im i hi (leads_sound l) (waits v) (awaited s im i v)) (waits_standing v asks right stuck) (alone_peer v))
 
   -- a word taken and delivered
-  delivered_nearly : (q : Queue) → Has s q → device_parts (part_of q) ≡ true → (w : Woken) → Nearly s (taken s im q) w → Nearly s (delivered s im i q) w
+  delivered_nearly : (q : Queue) → Has s q → device_parts (part_of q) ≡ true → (w : Option Task) → Nearly s (taken s im q) w → Nearly s (delivered s im i q) w
   unfolding delivered
   delivered_nearly q hq t w h =
       let a : Apart s device_parts im (taken s im q) = frame_taken frame_none q hq (leads_sound l) (λ r. t) in
       register_nearly h i hi (kept_status device_parts a refl i hi ∙ leads_ready l) (kept_peer device_parts a refl i hi ∙ leads_peer l) 3 _ (omega arith)
 
   -- the word of a service moves: good but for whom it wakes
-  moved_nearly : (v : Service) → fault_of s im i v ≡ Fault.Nothing → blocked s im i v ≡ false → Nearly s (moved s im i v) (wakes s im i v)
+  moved_nearly : (v : Service) → fault_of s im i v ≡ None → blocked s im i v ≡ false → Nearly s (moved s im i v) (wakes s im i v)
   moved_nearly Service.Send right clear =
       append_nearly (good_nearly l.rules) (Queue.Message i (other s im i)) (buffer_has s im i hi Service.Send right) refl _ (free_from s im i (leads_ready l) (other s im i)) _ clear tt
   moved_nearly Service.Receive right clear =
@@ -131,14 +129,14 @@ module _ {s : Shape} {im : List ℕ} {i : Task} (l : Leads s im i) where
       delivered_nearly (Queue.Message (other s im i) i) has refl _
       (take_nearly (good_nearly l.rules) (Queue.Message (other s im i) i) has refl _ (free_to s im i (leads_ready l) (other s im i)) clear tt)
   moved_nearly Service.Input right clear =
-      delivered_nearly (Queue.Input i) hi refl Woken.Nobody
-      (take_nearly (good_nearly l.rules) (Queue.Input i) hi refl Woken.Nobody (free_input s im i Woken.Nobody (λ e. absurd (waits_not Service.Input (sym (leads_ready l) ∙ e)))) clear
+      delivered_nearly (Queue.Input i) hi refl None
+      (take_nearly (good_nearly l.rules) (Queue.Input i) hi refl None (free_input s im i None (λ e. absurd (waits_not Service.Input (sym (leads_ready l) ∙ e)))) clear
       (taken_chars s im (leads_sound l) (Queue.Input i) hi clear (l.rules.inputs_held i hi)).1)
   moved_nearly Service.Output right clear =
-      output_nearly (good_nearly l.rules) i hi Woken.Nobody (free_output s im i Woken.Nobody (λ e. absurd (waits_not Service.Output (sym (leads_ready l) ∙ e))))
+      output_nearly (good_nearly l.rules) i hi None (free_output s im i None (λ e. absurd (waits_not Service.Output (sym (leads_ready l) ∙ e))))
       (given s im i) (ltb-false most_character _ (error_none _ 6 right)) clear
 
-  module _ (v : Service) (right : fault_of s im i v ≡ Fault.Nothing) where
+  module _ (v : Service) (right : fault_of s im i v ≡ None) where
     pub served_nearly : blocked s im i v ≡ false → Nearly s (served s im i v) (wakes s im i v)
     unfolding served
     served_nearly clear =
@@ -148,16 +146,16 @@ module _ {s : Shape} {im : List ℕ} {i : Task} (l : Leads s im i) where
         f.cc_range f.error_range (omega arith) (λ _. refl)
 
     -- whom it wakes is a task of this image that is not ready
-    pub wakes_whom : (k : Task) → wakes s im i v ≡ Woken.One k → (k.0 < s.n) × (at s im (status k) ≢ is_ready)
+    pub wakes_whom : (k : Task) → wakes s im i v ≡ Some k → (k.0 < s.n) × (at s im (status k) ≢ is_ready)
     wakes_whom k e = go v right e
       where
-        other_whom : (u : Service) → (other s im i).0 < s.n → one_if (waits_for s im (other s im i) u i) (other s im i) ≡ Woken.One k
+        other_whom : (u : Service) → (other s im i).0 < s.n → one_if (waits_for s im (other s im i) u i) (other s im i) ≡ Some k
             → (k.0 < s.n) × (at s im (status k) ≢ is_ready)
         other_whom u n e =
             let o = one_is _ (other s im i) k e in
             rw o.1 (n, waited s im (other s im i) u i o.0)
 
-        go : (v : Service) → fault_of s im i v ≡ Fault.Nothing → wakes s im i v ≡ Woken.One k → (k.0 < s.n) × (at s im (status k) ≢ is_ready)
+        go : (v : Service) → fault_of s im i v ≡ None → wakes s im i v ≡ Some k → (k.0 < s.n) × (at s im (status k) ≢ is_ready)
         go Service.Send r e = other_whom Service.Receive (leb-false s.n _ (error_none _ 5 r)) e
         go Service.Receive r e = other_whom Service.Send (leb-false s.n _ (error_none _ 5 r)) e
         go Service.Input r e = absurd (let z : ◌≡◌ {A = ℕ} 0 1 = cc in omega arith)

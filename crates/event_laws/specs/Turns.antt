@@ -1,5 +1,5 @@
 -- Leaving, waking and passing the turn: what they do to the ready queue, and that they keep an image good. Assumes nothing.
-use Rattle.std.specs.Prelude.{◌≡◌, Bool, cond, ◌≢◌, ◌⊎◌, ℕ, ◌+◌, ◌<◌, ◌≤◌, eqb}
+use Rattle.std.specs.Prelude.{◌≡◌, Bool, cond, ◌≢◌, ◌⊎◌, ℕ, ◌+◌, ◌<◌, ◌≤◌, eqb, None, Option, Some}
 use Rattle.std.proofs.Math.Path.{refl, sym, ap}
 use Rattle.std.proofs.Common.{◌∙◌, true≢false, inr, eq-eqb, ne_eqb}
 use mathlib.Core.List.{List, [], ◌∷◌, ◌++◌}
@@ -19,7 +19,6 @@ use Rattle.paper.specs.declared.Shape.{Shape}
 use Rattle.paper.specs.declared.Cell.{Cell}
 use Rattle.paper.specs.declared.Part.{Part}
 use Rattle.paper.specs.declared.Queue.{Queue}
-use Rattle.paper.specs.declared.Woken.{Woken}
 use Rattle.laws.specs.Cases.{when}
 use Rattle.laws.specs.Cells.{at_same}
 use Rattle.laws.specs.Consecutive.{times_append}
@@ -54,7 +53,7 @@ module _ {s : Shape} {im m : List ℕ} (i : Task) (k : Frame s (TurnCell i) im m
       go (inl t) = true≢false (sym t)
       go (inr (_, e)) = ne e
 
-  module _ (w w' : Woken) (h : Nearly s im w) (hi : i.0 < s.n) (lies : Sound s m) (cleared : Zeros (free s m Queue.Ready))
+  module _ (w w' : Option Task) (h : Nearly s im w) (hi : i.0 < s.n) (lies : Sound s m) (cleared : Zeros (free s m Queue.Ready))
       (others : (x : ℕ) → x ≢ i.0 → times x (held s m Queue.Ready) ≡ times x (held s im Queue.Ready))
       (itself : (at s m (status i) ≡ is_ready → times i.0 (held s m Queue.Ready) ≡ 1) × (at s m (status i) ≢ is_ready → times i.0 (held s m Queue.Ready) ≡ 0))
       (clocked : Clocked s m) (stands : Stands s m i) (more : (j : Task) → ¬ Spared w' j → j.0 ≢ i.0 → ¬ Spared w j) where
@@ -102,7 +101,7 @@ dispatched_clocked s im h =
     let n = (kept_count header_part (clock_apart (clock_put s im _)) Queue.Ready tt refl).0 in
     (rw c (slice_range (eqb (at s im (count s Queue.Ready)) 0) s.slice), λ e. c ∙ rw (eq-eqb (at s im (count s Queue.Ready)) 0 (sym n ∙ e)))
 
-pub dispatched_nearly : {s : Shape} {im : List ℕ} {w : Woken} → Nearly s im w → Nearly s (dispatched s im) w
+pub dispatched_nearly : {s : Shape} {im : List ℕ} {w : Option Task} → Nearly s im w → Nearly s (dispatched s im) w
 unfolding dispatched empty
 dispatched_nearly {s} {im} h =
     let c = dispatched_clock s im h.lies in
@@ -206,19 +205,19 @@ module _ (s : Shape) (im : List ℕ) (j : Task) (hj : j.0 < s.n) (h : Sound s im
       go false = joined_list
 
 -- and the image is good, where it was but for that task, which finds room
-module _ {s : Shape} {im : List ℕ} (j : Task) (hj : j.0 < s.n) (h : Nearly s im (Woken.One j)) (waited : at s im (status j) ≢ is_ready) where
+module _ {s : Shape} {im : List ℕ} (j : Task) (hj : j.0 < s.n) (h : Nearly s im (Some j)) (waited : at s im (status j) ≢ is_ready) where
   room : full s im Queue.Ready ≡ false
   room = listed_room s im h.listed j hj waited ((sound h.lies).queues Queue.Ready tt)
 
   joined_times : (x : ℕ) → times x (held s (readied s im j) Queue.Ready) ≡ times x (held s im Queue.Ready) + (cond (eqb x j.0) 1 0 + 0)
   joined_times x = rw (joined_list s im j hj h.lies room, times_append)
 
-  readied_nearly : Nearly s (readied s im j) Woken.Nobody
+  readied_nearly : Nearly s (readied s im j) None
   readied_nearly =
       let f = joined_frame s im j hj h.lies in
       let c = joined_clock s im j hj h.lies in
       let now = joined_status s im j hj h.lies in
-      turn_nearly j f (Woken.One j) Woken.Nobody h hj (joined_sound s im j hj h.lies room)
+      turn_nearly j f (Some j) None h hj (joined_sound s im j hj h.lies room)
       (joined_cleared s im j hj h.lies room (h.cleared Queue.Ready tt))
       (λ x ne. joined_times x ∙ rw (ne_eqb x j.0 ne) (omega arith))
       (λ _. joined_times j.0 ∙ rw (eq-eqb j.0 j.0 refl, (h.listed j).1 (λ r. waited r.1)), λ n. absurd (n now))
@@ -226,9 +225,9 @@ module _ {s : Shape} {im : List ℕ} (j : Task) (hj : j.0 < s.n) (h : Nearly s i
       (ready_stands s (readied s im j) j now
       (kept_peer dispatch_parts (joined_late s im j hj h.lies) refl j hj ∙ peer_is s im j hj h.lies is_ready 0)) (λ i sp ne. ne)
 
-  pub woken_nearly : Nearly s (woken s im j) Woken.Nobody
+  pub woken_nearly : Nearly s (woken s im j) None
   unfolding woken
-  woken_nearly = when (λ m. Nearly s m Woken.Nobody) (empty s im Queue.Ready) (λ _. dispatched_nearly readied_nearly) (λ _. readied_nearly)
+  woken_nearly = when (λ m. Nearly s m None) (empty s im Queue.Ready) (λ _. dispatched_nearly readied_nearly) (λ _. readied_nearly)
 
 -- task i is the first of a good image
 pub record Leads (s : Shape) (im : List ℕ) (i : Task) : Type 0 where
@@ -311,7 +310,7 @@ module _ {s : Shape} {im : List ℕ} {i : Task} (l : Leads s im i) (k p : ℕ) w
       let hi = leads_in l in
       let st' = kept_status dispatch_parts left_late refl i hi ∙ status_is s im i hi (leads_sound l) k p in
       nearly_good
-      (turn_nearly i (frame_left (entry_frame s im i hi (leads_sound l) k p) entered (λ r. inl refl) (inl refl)) Woken.Nobody Woken.Nobody h hi left_sound left_cleared
+      (turn_nearly i (frame_left (entry_frame s im i hi (leads_sound l) k p) entered (λ r. inl refl) (inl refl)) None None h hi left_sound left_cleared
       (λ x ne. omega (arith, rw (ne_eqb x i.0 ne) at (ap (times x) left_list)))
       (λ r. absurd (gone (sym st' ∙ r)), λ _. omega (arith, rw (eq-eqb i.0 i.0 refl) at (ap (times i.0) left_list), (h.listed i).0 (hi, leads_ready l)))
       left_clocked (kept_stands dispatch_parts left_late refl refl refl i hi (kept_same dispatch_parts left_late refl refl i hi) st) (λ j sp ne. sp))
@@ -380,6 +379,6 @@ module _ {s : Shape} {im : List ℕ} {i : Task} (l : Leads s im i) where
       let hi = leads_in l in
       let a : Apart s dispatch_parts im (turned s im i) = turned_frame (λ r. refl) refl in
       nearly_good
-      (turn_nearly i (turned_frame (λ r. inl refl) (inl refl)) Woken.Nobody Woken.Nobody h hi turned_sound turned_cleared (λ x ne. turned_times x)
+      (turn_nearly i (turned_frame (λ r. inl refl) (inl refl)) None None h hi turned_sound turned_cleared (λ x ne. turned_times x)
       (λ _. turned_times i.0 ∙ (h.listed i).0 (hi, leads_ready l), λ n. absurd (n (kept_status dispatch_parts a refl i hi ∙ leads_ready l)))
       turned_clocked (kept_stands dispatch_parts a refl refl refl i hi (kept_same dispatch_parts a refl refl i hi) (h.statuses i hi (λ z. z))) (λ j sp ne. sp))

@@ -1,5 +1,5 @@
 -- Every outcome of an event, told apart once: what holds of each holds of the event. Assumes nothing.
-use Rattle.std.specs.Prelude.{◌≡◌, List, [], ◌∷◌, true, false, cond, ◌≢◌, ℕ, zero, suc, ◌-◌, ◌<◌, ◌≤◌, eqb, length}
+use Rattle.std.specs.Prelude.{◌≡◌, List, [], ◌∷◌, true, false, cond, ◌≢◌, ℕ, zero, suc, ◌-◌, ◌<◌, ◌≤◌, eqb, length, Err, None, Ok, Option, Result, Some}
 use Rattle.std.proofs.Math.Path.{refl}
 use Rattle.std.proofs.Common.{arith, eqb-true}
 use Rattle.std.proofs.lemmas.Bool.{eqb-false}
@@ -14,22 +14,17 @@ use Rattle.paper.specs.declared.Task.{Task}
 use Rattle.paper.specs.declared.Shape.{Shape}
 use Rattle.paper.specs.declared.Queue.{Queue}
 use Rattle.paper.specs.declared.Service.{Service}
-use Rattle.paper.specs.declared.Asked.{Asked}
-use Rattle.paper.specs.declared.Fault.{Fault}
-use Rattle.paper.specs.declared.Woken.{Woken}
 use Rattle.paper.specs.declared.Event.{Event}
 use Rattle.paper.specs.declared.Change.{Change}
-use Rattle.paper.specs.declared.Effect.{Effect}
 use Rattle.paper.specs.declared.Answer.{Answer}
 use Rattle.paper.specs.declared.Refusal.{Refusal}
-use Rattle.paper.specs.declared.Reply.{Reply}
 use Rattle.laws.specs.Cases.{when}
 use Rattle.laws.specs.Cells.{at_same}
 use Rattle.laws.specs.Sound.{Sound, sound}
 use Rattle.laws.specs.Frame.{Frame, frame_none, frame_put}
 
 -- what pending asks for
-pub asked_for : (p : ℕ) (v : Service) → asked p ≡ Asked.For v → p ≡ waits v
+pub asked_for : (p : ℕ) (v : Service) → asked p ≡ Some v → p ≡ waits v
 asked_for zero v e = absurd (let z : ◌≡◌ {A = ℕ} 0 1 = cc in omega arith)
 asked_for (suc zero) v e = let z : Service.Send ≡ v = cc in rw (← z)
 asked_for (suc (suc zero)) v e = let z : Service.Receive ≡ v = cc in rw (← z)
@@ -37,27 +32,27 @@ asked_for (suc (suc (suc zero))) v e = let z : Service.Input ≡ v = cc in rw (�
 asked_for (suc (suc (suc (suc zero)))) v e = let z : Service.Output ≡ v = cc in rw (← z)
 asked_for (suc (suc (suc (suc (suc k))))) v e = absurd (let z : ◌≡◌ {A = ℕ} 0 1 = cc in omega arith)
 
-pub asked_waits : (v : Service) → asked (waits v) ≡ Asked.For v
+pub asked_waits : (v : Service) → asked (waits v) ≡ Some v
 asked_waits Service.Send = refl
 asked_waits Service.Receive = refl
 asked_waits Service.Input = refl
 asked_waits Service.Output = refl
 
-numbered_some : (vs : List Service) (k : ℕ) → k < length vs → numbered vs k ≢ Asked.Nothing
+numbered_some : (vs : List Service) (k : ℕ) → k < length vs → numbered vs k ≢ None
 numbered_some [] k h e = omega arith
 numbered_some (v ∷ vs) zero h e = let z : ◌≡◌ {A = ℕ} 0 1 = cc in omega arith
 numbered_some (v ∷ vs) (suc k) h e = numbered_some vs k (omega arith) e
 
-pub asked_nothing : (p : ℕ) → p ≤ length services → asked p ≡ Asked.Nothing → p ≡ 0
+pub asked_nothing : (p : ℕ) → p ≤ length services → asked p ≡ None → p ≡ 0
 asked_nothing zero l e = refl
 asked_nothing (suc k) l e = absurd (numbered_some services k (omega arith) e)
 
 -- the image m of an event, with whom it wakes woken
 module _ (s : Shape) (m : List ℕ) (P : List ℕ → Type 0) where
-  wakes_any : (w : Woken) → (w ≡ Woken.Nobody → P m) → ((k : Task) → w ≡ Woken.One k → P (woken s m k)) → P (with_woken s m w)
+  wakes_any : (w : Option Task) → (w ≡ None → P m) → ((k : Task) → w ≡ Some k → P (woken s m k)) → P (with_woken s m w)
   unfolding with_woken
-  wakes_any Woken.Nobody alone woke = alone refl
-  wakes_any (Woken.One k) alone woke = woke k refl
+  wakes_any None alone woke = alone refl
+  wakes_any (Some k) alone woke = woke k refl
 
   owner_any : (im : List ℕ) (i : Task) (v : Service) → (at s im (status i) ≢ waits v → P m) → (at s im (status i) ≡ waits v → P (woken s m i))
       → P (with_woken s m (one_if (eqb (at s im (status i)) (waits v)) i))
@@ -67,20 +62,20 @@ module _ (s : Shape) (m : List ℕ) (P : List ℕ → Type 0) where
 
 -- what a service v of task i comes to from image m: faulted, waiting, done, or done with a task woken
 pub record ServiceCases (s : Shape) (m : List ℕ) (i : Task) (v : Service) (P : Answered → Type 0) : Type 0 where
-  pub faults : (e : ℕ) → fault_of s m i v ≡ Fault.Error e → P (answered (Answer.ServiceFaulted i) (service_faulted s m i e))
-  pub stuck : fault_of s m i v ≡ Fault.Nothing → blocked s m i v ≡ true → P (answered (Answer.ServiceWaits i) (waiting s m i v))
-  pub alone : fault_of s m i v ≡ Fault.Nothing → blocked s m i v ≡ false → wakes s m i v ≡ Woken.Nobody → P (answered (Answer.ServiceDone i) (served s m i v))
-  pub woke : (k : Task) → fault_of s m i v ≡ Fault.Nothing → blocked s m i v ≡ false → wakes s m i v ≡ Woken.One k
+  pub faults : (e : ℕ) → fault_of s m i v ≡ Some e → P (answered (Answer.ServiceFaulted i) (service_faulted s m i e))
+  pub stuck : fault_of s m i v ≡ None → blocked s m i v ≡ true → P (answered (Answer.ServiceWaits i) (waiting s m i v))
+  pub alone : fault_of s m i v ≡ None → blocked s m i v ≡ false → wakes s m i v ≡ None → P (answered (Answer.ServiceDone i) (served s m i v))
+  pub woke : (k : Task) → fault_of s m i v ≡ None → blocked s m i v ≡ false → wakes s m i v ≡ Some k
       → P (answered (Answer.ServiceDone i) (woken s (served s m i v) k))
 
 service_any : {s : Shape} {m : List ℕ} {i : Task} {v : Service} (P : Answered → Type 0) → ServiceCases s m i v P → P (service s m i v)
 unfolding service finished
 service_any {s} {m} {i} {v} P c = go (fault_of s m i v) refl
   where
-    go : (x : Fault) → fault_of s m i v ≡ x
+    go : (x : Option ℕ) → fault_of s m i v ≡ x
         → P (unless_wrong x s m i (cond (blocked s m i v) (answered (Answer.ServiceWaits i) (waiting s m i v)) (finished s m i v)))
-    go (Fault.Error e) f = c.faults e f
-    go Fault.Nothing f =
+    go (Some e) f = c.faults e f
+    go None f =
         when P (blocked s m i v) (c.stuck f) (λ e.
         wakes_any s (served s m i v) (λ n. P (answered (Answer.ServiceDone i) n)) (wakes s m i v) (c.alone f e) (λ k. c.woke k f e))
 
@@ -108,12 +103,12 @@ Spends s im i m = ButClock s (after_order s im i (order s im i)) (at s (after_or
 
 -- what it comes to, leaving m: the order of task i is done, or it faulted
 pub record OrderCases (s : Shape) (im m : List ℕ) (i : Task) (P : Answered → Type 0) : Type 0 where
-  pub does : (next : ℕ) (c : Change) → order s im i ≡ Effect.Does next c → P (answered (Answer.OrderDone i) m)
-  pub faults : (e : ℕ) → order s im i ≡ Effect.Faults e → P (answered (Answer.OrderFaulted i) m)
+  pub does : (next : ℕ) (c : Change) → order s im i ≡ Ok (next, c) → P (answered (Answer.OrderDone i) m)
+  pub faults : (e : ℕ) → order s im i ≡ Err e → P (answered (Answer.OrderFaulted i) m)
 
-order_any : {s : Shape} {im m : List ℕ} {i : Task} (P : Answered → Type 0) → OrderCases s im m i P → (e : Effect) → order s im i ≡ e → P (answered (order_answer i e) m)
-order_any P c (Effect.Does next f) e = c.does next f e
-order_any P c (Effect.Faults f) e = c.faults f e
+order_any : {s : Shape} {im m : List ℕ} {i : Task} (P : Answered → Type 0) → OrderCases s im m i P → (e : Result (ℕ × Change) ℕ) → order s im i ≡ e → P (answered (order_answer i e) m)
+order_any P c (Ok (next, f)) e = c.does next f e
+order_any P c (Err f) e = c.faults f e
 
 pub ordered_any : {s : Shape} {im : List ℕ} {i : Task} (P : Answered → Type 0) → ((m : List ℕ) → Spends s im i m → OrderCases s im m i P)
     → P (ordered s im i (order s im i))
@@ -129,7 +124,7 @@ pub record TickCases (s : Shape) (im : List ℕ) (P : Answered → Type 0) : Typ
   pub turns : empty s im Queue.Ready ≡ false → error s im (running s im) ≡ 0 → at s im clock ≡ 0 → P (answered (Answer.TurnPassed (running s im)) (turned s im (running s im)))
   pub serves : empty s im Queue.Ready ≡ false → error s im (running s im) ≡ 0 → at s im clock ≢ 0 → (v : Service) → pending s im (running s im) ≡ waits v
       → (m : List ℕ) → Begins s im m → ServiceCases s m (running s im) v P
-  pub orders : empty s im Queue.Ready ≡ false → error s im (running s im) ≡ 0 → at s im clock ≢ 0 → asked (pending s im (running s im)) ≡ Asked.Nothing
+  pub orders : empty s im Queue.Ready ≡ false → error s im (running s im) ≡ 0 → at s im clock ≢ 0 → asked (pending s im (running s im)) ≡ None
       → (m : List ℕ) → Spends s im (running s im) m → OrderCases s im m (running s im) P
 
 -- what an event of a device comes to
@@ -168,6 +163,6 @@ module _ (s : Shape) (im : List ℕ) (P : Outcome → Type 0) (taken : (a : Answ
       (λ i. done_any s im i P (λ _. kept _) (λ _ _. taken _ _) (λ _ _. taken _ _)) (kept _)
 
 -- so a refusal alters nothing
-pub happening_unchanged : (s : Shape) (im : List ℕ) (e : Event) (r : Refusal) → (happening s im e).reply ≡ Reply.Refused r → (happening s im e).image ≡ im
+pub happening_unchanged : (s : Shape) (im : List ℕ) (e : Event) (r : Refusal) → (happening s im e).reply ≡ Err r → (happening s im e).image ≡ im
 happening_unchanged s im e =
-    made_any s im (λ o. (r : Refusal) → o.reply ≡ Reply.Refused r → o.image ≡ im) (λ a m r z. absurd (let y : ◌≡◌ {A = ℕ} 0 1 = cc in omega arith)) (λ q r z. refl) e
+    made_any s im (λ o. (r : Refusal) → o.reply ≡ Err r → o.image ≡ im) (λ a m r z. absurd (let y : ◌≡◌ {A = ℕ} 0 1 = cc in omega arith)) (λ q r z. refl) e

@@ -1,5 +1,5 @@
 -- Whom an event wakes; and a task that is as it was.
-use Rattle.std.specs.Prelude.{◌≡◌, List, Bool, not, cond, ◌||◌, ℕ, ◌<◌, eqb}
+use Rattle.std.specs.Prelude.{◌≡◌, List, Bool, not, cond, ◌||◌, ℕ, ◌<◌, eqb, None, Option, Some}
 use Rattle.paper.specs.Image.{at, clock, reg, status, peer}
 use Rattle.paper.specs.Queues.{empty}
 use Rattle.paper.specs.Flags.{error, pending, waits}
@@ -10,31 +10,28 @@ use Rattle.paper.specs.declared.Task.{Task}
 use Rattle.paper.specs.declared.Shape.{Shape}
 use Rattle.paper.specs.declared.Queue.{Queue}
 use Rattle.paper.specs.declared.Service.{Service}
-use Rattle.paper.specs.declared.Asked.{Asked}
-use Rattle.paper.specs.declared.Fault.{Fault}
-use Rattle.paper.specs.declared.Woken.{Woken}
 use Rattle.paper.specs.declared.Event.{Event}
 
 -- a service wakes where it is not wrong and its buffer does not stop it
-abbrev pub woken_unless : Fault → Bool → Woken → Woken
-woken_unless (Fault.Error e) stopped w = Woken.Nobody
-woken_unless Fault.Nothing stopped w = cond stopped Woken.Nobody w
+abbrev pub woken_unless : Option ℕ → Bool → Option Task → Option Task
+woken_unless (Some e) stopped w = None
+woken_unless None stopped w = cond stopped None w
 
-abbrev pub asked_wakes : Shape → List ℕ → Task → Asked → Woken
-asked_wakes s im i Asked.Nothing = Woken.Nobody
-asked_wakes s im i (Asked.For v) = woken_unless (fault_of s im i v) (blocked s im i v) (wakes s im i v)
+abbrev pub asked_wakes : Shape → List ℕ → Task → Option Service → Option Task
+asked_wakes s im i None = None
+asked_wakes s im i (Some v) = woken_unless (fault_of s im i v) (blocked s im i v) (wakes s im i v)
 
 -- a tick wakes by rule 4 alone, where the rules before it do not apply
-abbrev pub tick_wakes : Shape → List ℕ → Task → Woken
+abbrev pub tick_wakes : Shape → List ℕ → Task → Option Task
 tick_wakes s im i =
-    cond (empty s im Queue.Ready || not (eqb (error s im i) 0) || eqb (at s im clock) 0) Woken.Nobody (asked_wakes s im i (asked (pending s im i)))
+    cond (empty s im Queue.Ready || not (eqb (error s im i) 0) || eqb (at s im clock) 0) None (asked_wakes s im i (asked (pending s im i)))
 
 -- a device event wakes its owner, if it waits for that
-abbrev pub whom : Shape → List ℕ → Event → Woken
+abbrev pub whom : Shape → List ℕ → Event → Option Task
 whom s im Event.Tick = tick_wakes s im (running s im)
 whom s im (Event.Input i c) = one_if (eqb (at s im (status i)) (waits Service.Input)) i
 whom s im (Event.OutputDone i) = one_if (eqb (at s im (status i)) (waits Service.Output)) i
-whom s im Event.Malformed = Woken.Nobody
+whom s im Event.Malformed = None
 
 -- a task's status, peer, registers and flags are as they were
 pub record Unmoved (s : Shape) (im m : List ℕ) (j : Task) : Type 0 where

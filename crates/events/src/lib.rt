@@ -15,10 +15,7 @@ ghost use Rattle.laws.specs.Events.{Formed};
 ghost use Rattle.words.specs.Spots.{Rowed};
 
 use connectives::both;
-use paper::{
-    Answer, Event, IDLE, INPUT, MOST_CHARACTER, OUTPUT_DONE, PENDING, Queue, Refusal, Reply,
-    STOPPED, Shape, TICK, Task, WAITS_FOR_INPUT, WAITS_FOR_OUTPUT,
-};
+use paper::{Answer, Event, IDLE, INPUT, MOST_CHARACTER, OUTPUT_DONE, PENDING, Queue, Refusal, STOPPED, Shape, TICK, Task, WAITS_FOR_INPUT, WAITS_FOR_OUTPUT};
 use services::{print, service};
 use waking::{leave, wake};
 use words::{Row, Spot, append, empty, full, get, put, take};
@@ -90,7 +87,7 @@ pub fn before_order(s: Shape, im: &mut [u16], x: Row, flags: u16, clock: u16) ->
 }
 
 // Input: the character is appended, and the owner is woken if it waits for input.
-pub fn input(s: Shape, im: &mut [u16], t: Task, c: u16) -> Reply
+pub fn input(s: Shape, im: &mut [u16], t: Task, c: u16) -> Result<Answer, Refusal>
     requires sound { Sound s im.old }
     requires roomy { Roomy s im.old }
     requires t_lt_n { t.0 < s.n }
@@ -98,14 +95,14 @@ pub fn input(s: Shape, im: &mut [u16], t: Task, c: u16) -> Reply
     ensures sound_2 { Sound s im.new }
 {
     if full(s, im, Queue::Input(t)) {
-        return Reply::Refused(Refusal::InputFull);
+        return Err(Refusal::InputFull);
     }
     let waiting = get(s, im, Spot::Status(t)) == WAITS_FOR_INPUT;
     append(s, im, Queue::Input(t), c);
     if waiting {
         wake(s, im, t);
     }
-    Reply::Accepted(Answer::Input(t))
+    Ok(Answer::Input(t))
 }
 
 // The port takes the first word of the output buffer, or goes idle.
@@ -124,7 +121,7 @@ fn next_output(s: Shape, im: &mut [u16], t: Task)
 }
 
 // Output done: the port goes on, and the owner is woken if it waits for output.
-pub fn output_done(s: Shape, im: &mut [u16], t: Task) -> Reply
+pub fn output_done(s: Shape, im: &mut [u16], t: Task) -> Result<Answer, Refusal>
     requires sound { Sound s im.old }
     requires roomy { Roomy s im.old }
     requires t_lt_n { t.0 < s.n }
@@ -132,18 +129,18 @@ pub fn output_done(s: Shape, im: &mut [u16], t: Task) -> Reply
     ensures sound_2 { Sound s im.new }
 {
     if get(s, im, Spot::Busy(t)) == IDLE {
-        return Reply::Refused(Refusal::PortIdle);
+        return Err(Refusal::PortIdle);
     }
     let waiting = get(s, im, Spot::Status(t)) == WAITS_FOR_OUTPUT;
     next_output(s, im, t);
     if waiting {
         wake(s, im, t);
     }
-    Reply::Accepted(Answer::OutputDone(t))
+    Ok(Answer::OutputDone(t))
 }
 
 // An event that is no tick.
-pub fn report(s: Shape, im: &mut [u16], e: Event) -> Reply
+pub fn report(s: Shape, im: &mut [u16], e: Event) -> Result<Answer, Refusal>
     requires sound { Sound s im.old }
     requires roomy { Roomy s im.old }
     requires formed { Formed s e }
@@ -153,6 +150,6 @@ pub fn report(s: Shape, im: &mut [u16], e: Event) -> Reply
     match e {
         Event::Input(t, c) => input(s, im, t, c),
         Event::OutputDone(t) => output_done(s, im, t),
-        _ => Reply::Refused(Refusal::MalformedEvent),
+        _ => Err(Refusal::MalformedEvent),
     }
 }

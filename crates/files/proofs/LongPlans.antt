@@ -1,4 +1,5 @@
 -- A plan that is too long is refused by its first words; whether a file has an odd count of bytes. Assumes nothing.
+use Rattle.std.specs.Prelude.{Err, Ok, Result, ⊤}
 use mathlib.Core.Path.{◌≡◌, refl, sym, ap, ◌∙◌}
 use mathlib.Core.List.{List, [], ◌∷◌, ◌++◌, append-nil}
 use mathlib.Core.Bool.{Bool, true, false, not, beq}
@@ -12,7 +13,6 @@ use Rattle.paper.specs.Plans.{plan_tasks, segment_length, program_length, progra
 use Rattle.paper.specs.Numbers.{refused_if, out_of_range, plan_broken, check_plan}
 use Rattle.paper.specs.Runner.{word, words_of, check_file}
 use Rattle.paper.specs.declared.Refusal.{Refusal}
-use Rattle.paper.specs.declared.Verdict.{Verdict}
 use Rattle.laws.specs.Layout.{total_is}
 use Rattle.laws.specs.Fresh.{planned}
 use Rattle.files.specs.Bytes.{words_length}
@@ -31,7 +31,7 @@ programs_fit : (plan : List ℕ) (n : ℕ) → ((k : ℕ) → k < n → program_
 programs_fit plan zero h = omega arith
 programs_fit plan (suc n) h = omega (arith, programs_fit plan n (λ k l. h k (omega arith)), h n (le_refl _))
 
-pub accepted_length : (plan : List ℕ) → check_plan plan ≡ Verdict.Fine → length plan ≤ longest
+pub accepted_length : (plan : List ℕ) → check_plan plan ≡ Ok tt → length plan ≤ longest
 unfolding plan_shape
 accepted_length plan e =
     let r = planned plan e in
@@ -39,16 +39,16 @@ accepted_length plan e =
 
 -- so a longer one is refused, by its first five words
 long_refused : (p : List ℕ) → longest < length p
-    → check_plan p ≡ refused_if (out_of_range (plan_shape p)) Refusal.OutOfRange (Verdict.Refused Refusal.BadPlan)
+    → check_plan p ≡ refused_if (out_of_range (plan_shape p)) Refusal.OutOfRange (Err Refusal.BadPlan)
 unfolding check_plan
 long_refused p h =
     rw (le-ltb (length p) 5 (omega arith)) (go (out_of_range (plan_shape p)) refl (plan_broken p) refl)
   where
-    fine : out_of_range (plan_shape p) ≡ false → plan_broken p ≡ false → check_plan p ≡ Verdict.Fine
+    fine : out_of_range (plan_shape p) ≡ false → plan_broken p ≡ false → check_plan p ≡ Ok tt
     fine e f = rw (le-ltb (length p) 5 (omega arith), e, f)
 
     go : (a : Bool) → out_of_range (plan_shape p) ≡ a → (b : Bool) → plan_broken p ≡ b
-        → refused_if a Refusal.OutOfRange (refused_if b Refusal.BadPlan Verdict.Fine) ≡ refused_if a Refusal.OutOfRange (Verdict.Refused Refusal.BadPlan)
+        → refused_if a Refusal.OutOfRange (refused_if b Refusal.BadPlan (Ok tt)) ≡ refused_if a Refusal.OutOfRange (Err Refusal.BadPlan)
     go true e b f = refl
     go false e true f = refl
     go false e false f = absurd (omega (arith, accepted_length p (fine e f)))
@@ -62,7 +62,7 @@ same_range p q h =
 pub long_plan : (p q : List ℕ) → longest < length p → check_plan (p ++ q) ≡ check_plan p
 long_plan p q h =
     let l : longest < length (p ++ q) = simp length-append (omega arith) in
-    long_refused (p ++ q) l ∙ ap (λ (b : Bool). refused_if b Refusal.OutOfRange (Verdict.Refused Refusal.BadPlan)) (same_range p q (omega arith)) ∙
+    long_refused (p ++ q) l ∙ ap (λ (b : Bool). refused_if b Refusal.OutOfRange (Err Refusal.BadPlan)) (same_range p q (omega arith)) ∙
     sym (long_refused p h)
 
 pub odd_after : (before : Bool) (k : ℕ) → OddAfter before k (not (beq (odd k) before))
@@ -85,11 +85,11 @@ module _ (bytes : List ℕ) (is_odd all-odd : Bool) (h : OddAfter is_odd (length
   file_odd : (rest : List ℕ) → Rest enough bytes rest is_odd → odd (length (bytes ++ rest)) ≡ all-odd
   file_odd rest r = rw (length-append, add_comm (length bytes) (length rest)) (h (length rest) r.parity)
 
-  pub odd_file : all-odd ≡ true → Decides enough bytes is_odd (Verdict.Refused Refusal.BadPlan)
+  pub odd_file : all-odd ≡ true → Decides enough bytes is_odd (Err Refusal.BadPlan)
   unfolding check_file
   odd_file e rest r = rw (file_odd rest r, e)
 
-  pub even_file : all-odd ≡ false → (v : Verdict) → v ≡ check_plan (words_of bytes) → Decides enough bytes is_odd v
+  pub even_file : all-odd ≡ false → (v : Result ⊤ Refusal) → v ≡ check_plan (words_of bytes) → Decides enough bytes is_odd v
   unfolding check_file
   even_file e v ev rest r = rw (file_odd rest r, e) (ev ∙ go (ltb (length bytes) enough) refl)
     where
@@ -100,5 +100,5 @@ module _ (bytes : List ℕ) (is_odd all-odd : Bool) (h : OddAfter is_odd (length
           rw f.1 (sym (long_plan (words_of bytes) f.0 (omega (arith, ltb-false (length bytes) enough l, words_length bytes))))
 
 -- asking for more bytes decides as much
-pub decides_more : (asked : ℕ) → enough ≤ asked → (bytes : List ℕ) (is_odd : Bool) (v : Verdict) → Decides enough bytes is_odd v → Decides asked bytes is_odd v
+pub decides_more : (asked : ℕ) → enough ≤ asked → (bytes : List ℕ) (is_odd : Bool) (v : Result ⊤ Refusal) → Decides enough bytes is_odd v → Decides asked bytes is_odd v
 decides_more asked h bytes is_odd v d rest r = d rest (record { parity = r.parity; ended = λ l. r.ended (omega arith) })

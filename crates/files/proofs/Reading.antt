@@ -1,4 +1,5 @@
 -- What is read of a plan's file is what is promised of it. Assumes nothing.
+use Rattle.std.specs.Prelude.{Ok, Result, ⊤}
 use mathlib.Core.Path.{◌≡◌, refl, sym, ◌∙◌}
 use mathlib.Core.List.{List, [], ◌∷◌, ◌++◌}
 use mathlib.Core.Bool.{Bool, true, false}
@@ -9,11 +10,11 @@ use lib.ListN.{length, drop, take}
 use lib.Seq.{length-take-le, take-append_seam, sets-eq}
 use Rattle.paper.specs.Numbers.{check_plan}
 use Rattle.paper.specs.Runner.{words_of}
-use Rattle.paper.specs.declared.Verdict.{Verdict}
 use Rattle.writes.specs.Written.{written, kept_length}
 use Rattle.files.specs.Bytes.{words_length}
 use Rattle.files.specs.PlanFiles.{enough, Rest, Decides, ReadsPlan}
 use Rattle.files.proofs.LongPlans.{accepted_length, decides_more}
+use Rattle.paper.specs.declared.Refusal.{Refusal}
 
 -- the bytes found are no more than the target holds as words
 pub few_bytes : (buffer : List ℕ) (found : ℕ) (target : List ℕ) → found ≤ length buffer → length buffer < 2 * length target + 2
@@ -32,8 +33,8 @@ module _ (buffer : List ℕ) (found : ℕ) (target after : List ℕ) (count : �
       let e : after ≡ vs ++ drop (length vs) target = rw (ea, sets-eq vs target 0 (omega (arith, few_bytes buffer found target h room, words_length (take found buffer))), zero-add) refl in
       rw (e, ec) (take-append_seam vs (drop (length vs) target))
 
-  pub plan_read : (is_odd : Bool) (v : Verdict) → enough ≤ length buffer → Decides enough (take found buffer) is_odd v
-      → (v ≡ Verdict.Fine → check_plan (take count after) ≡ Verdict.Fine) → ReadsPlan (length buffer) (take found buffer) is_odd target after count v
+  pub plan_read : (is_odd : Bool) (v : Result ⊤ Refusal) → enough ≤ length buffer → Decides enough (take found buffer) is_odd v
+      → (v ≡ Ok tt → check_plan (take count after) ≡ Ok tt) → ReadsPlan (length buffer) (take found buffer) is_odd target after count v
   plan_read is_odd v l d f =
       record {
         counted = ec;
@@ -53,7 +54,7 @@ some_rest asked bytes false h = ([], record { parity = refl; ended = λ l. refl 
 
 -- so the promise allows one outcome alone
 pub plan_once : (asked : ℕ) (bytes : List ℕ) (is_odd : Bool) → (is_odd ≡ true → asked ≤ length bytes)
-    → (target a b : List ℕ) (j k : ℕ) (v w : Verdict) → ReadsPlan asked bytes is_odd target a j v → ReadsPlan asked bytes is_odd target b k w
+    → (target a b : List ℕ) (j k : ℕ) (v w : Result ⊤ Refusal) → ReadsPlan asked bytes is_odd target a j v → ReadsPlan asked bytes is_odd target b k w
     → (a ≡ b) × (j ≡ k) × (v ≡ w)
 plan_once asked bytes is_odd h target a b j k v w p q =
     let r = some_rest asked bytes is_odd h in

@@ -1,10 +1,10 @@
 -- A plan's file of which only the first bytes are at hand: what is promised of it.
-use Rattle.std.specs.Prelude.{◌≡◌, List, [], ◌++◌, Bool, not, ℕ, ◌+◌, ◌*◌, ◌%◌, ◌<◌, ◌≤◌, eqb, length, take}
+use Rattle.std.specs.Prelude.{◌≡◌, List, [], ◌++◌, Bool, not, ℕ, ◌+◌, ◌*◌, ◌%◌, ◌<◌, ◌≤◌, eqb, length, take, Ok, Result, ⊤}
 use Rattle.paper.specs.Numbers.{check_plan}
 use Rattle.paper.specs.Runner.{words_of, check_file}
-use Rattle.paper.specs.declared.Verdict.{Verdict}
 use Rattle.writes.specs.Written.{written}
 use Rattle.paper.specs.Image.{most_tasks, most_words}
+use Rattle.paper.specs.declared.Refusal.{Refusal}
 
 -- an accepted plan has at most so many words
 abbrev pub longest : ℕ
@@ -28,15 +28,15 @@ pub record Rest (asked : ℕ) (bytes rest : List ℕ) (is_odd : Bool) : Type 0 w
   pub ended : length bytes < asked → rest ≡ []
 
 -- the verdict on every file that begins with these bytes
-abbrev pub Decides : ℕ → List ℕ → Bool → Verdict → Type 0
+abbrev pub Decides : ℕ → List ℕ → Bool → Result ⊤ Refusal → Type 0
 Decides asked bytes is_odd v = (rest : List ℕ) → Rest asked bytes rest is_odd → v ≡ check_file (bytes ++ rest)
 
 -- what is promised of a plan's file: its first words, at the start of the target, and the verdict on all of it
-pub record ReadsPlan (asked : ℕ) (bytes : List ℕ) (is_odd : Bool) (target after : List ℕ) (count : ℕ) (v : Verdict) : Type 0 where
+pub record ReadsPlan (asked : ℕ) (bytes : List ℕ) (is_odd : Bool) (target after : List ℕ) (count : ℕ) (v : Result ⊤ Refusal) : Type 0 where
   pub counted : count ≡ length (words_of bytes)
   pub made : after ≡ written target 0 (words_of bytes)
   pub decides : Decides asked bytes is_odd v
   pub inside : count ≤ length after
   -- where it is accepted, these words are a plan, and the whole file
-  pub passes : v ≡ Verdict.Fine → check_plan (take count after) ≡ Verdict.Fine
-  pub whole : v ≡ Verdict.Fine → (rest : List ℕ) → Rest asked bytes rest is_odd → rest ≡ []
+  pub passes : v ≡ Ok tt → check_plan (take count after) ≡ Ok tt
+  pub whole : v ≡ Ok tt → (rest : List ℕ) → Rest asked bytes rest is_odd → rest ≡ []

@@ -1,15 +1,14 @@
 // A plan's file: its words, and the verdict on it.
 #![tactic(auto)]
 
-ghost use Rattle.std.specs.Prelude.{◌≡◌, true, ◌+◌, ◌*◌, ◌<◌, ◌≤◌, length, take};
+ghost use Rattle.std.specs.Prelude.{◌≡◌, true, ◌+◌, ◌*◌, ◌<◌, ◌≤◌, length, take, Ok, tt};
 ghost use Rattle.paper.specs.Runner.{word as word_by, words_of};
 ghost use Rattle.paper.specs.Numbers.{check_plan};
-ghost use Rattle.paper.specs.declared.Verdict.TheVariants.{Fine};
 ghost use Rattle.writes.specs.Written.{written};
 ghost use Rattle.files.specs.PlanFiles.{OddAfter, enough, Decides};
 ghost use Rattle.files.specs.PlanFiles.{ReadsPlan};
 
-use paper::{BYTE_END, Refusal, Verdict, WORD_BYTES};
+use paper::{BYTE_END, Refusal, WORD_BYTES};
 use plans::verdict;
 
 // The words that are read of a plan's file: more than any has that is accepted.
@@ -21,7 +20,7 @@ pub const PLAN_BYTES: usize = WORD_BYTES * PLAN_WORDS;
 #[derive(Clone, Copy)]
 pub struct PlanRead {
     pub words: usize,
-    pub verdict: Verdict,
+    pub verdict: Result<(), Refusal>,
 }
 
 // A word from its two bytes, the low one first.
@@ -55,13 +54,13 @@ pub fn is_odd(before: bool, more: usize) -> bool
 }
 
 // The verdict on a plan's file that begins with some bytes, of which the words are given; of the rest it asks only whether it has an odd count of bytes.
-fn file_verdict(bytes: &[u8], words: &[u16], odd: bool) -> Verdict
+fn file_verdict(bytes: &[u8], words: &[u16], odd: bool) -> Result<(), Refusal>
     requires { words.now ≡ words_of bytes.now }
     ensures decides { Decides enough bytes.now odd result }
-    ensures words_value { result ≡ Fine → check_plan words.now ≡ Fine }
+    ensures words_value { result ≡ Ok tt → check_plan words.now ≡ Ok tt }
 {
     if is_odd(odd, bytes.len()) {
-        return Verdict::Refused(Refusal::BadPlan);
+        return Err(Refusal::BadPlan);
     }
     verdict(words)
 }

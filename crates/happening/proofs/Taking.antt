@@ -1,4 +1,5 @@
 -- Events of a list taken one by one come to what the whole list does. Assumes nothing.
+use Rattle.std.specs.Prelude.{Err, Ok, Result}
 use mathlib.Core.Path.{◌≡◌, refl, sym, ap, ◌∙◌}
 use mathlib.Core.List.{List, [], ◌∷◌}
 use Prim.Native.Nat.{ℕ, zero, suc, ◌+◌, ◌-◌, ◌*◌, ◌%◌, ◌/◌, ◌<◌, ◌≤◌}
@@ -11,7 +12,6 @@ use Rattle.paper.specs.declared.Shape.{Shape}
 use Rattle.paper.specs.declared.Event.{Event}
 use Rattle.paper.specs.declared.Answer.{Answer}
 use Rattle.paper.specs.declared.Refusal.{Refusal}
-use Rattle.paper.specs.declared.Reply.{Reply}
 use Rattle.laws.specs.Sound.{Sound, sound}
 use Rattle.laws.specs.Checked.{good_sound}
 use Rattle.laws.specs.Events.{Formed, Lawful, lawful, good, event_formed}
@@ -22,8 +22,8 @@ use Rattle.happening.specs.Ahead.{Ahead}
 use Rattle.happening.proofs.AllZero.{ahead_ticks}
 
 -- the events of a list from im on are k taken ones, and then those of the rest of the list from m on
-unfoldable pub TakenFrom : Shape → List ℕ → List ℕ → ℕ → Reply → List ℕ → Type 0
-TakenFrom s im events k last m = told_from s im events (Reply.Accepted Answer.Idle) ≡ onward k (told_from s m (drop (3 * k) events) last)
+unfoldable pub TakenFrom : Shape → List ℕ → List ℕ → ℕ → Result Answer Refusal → List ℕ → Type 0
+TakenFrom s im events k last m = told_from s im events (Ok Answer.Idle) ≡ onward k (told_from s m (drop (3 * k) events) last)
 
 -- the rest of a list begins with event k
 pub rest_is : (events : List ℕ) (k : ℕ) → 3 * k + 2 < length events
@@ -40,35 +40,35 @@ rest_is events k h =
     ap (λ (j : ℕ). get_or events (3 * k + 2) 0 ∷ drop j events) three))
 
 module _ (s : Shape) (im events : List ℕ) where
-  pub taken_none : TakenFrom s im events 0 (Reply.Accepted Answer.Idle) im
+  pub taken_none : TakenFrom s im events 0 (Ok Answer.Idle) im
   unfolding TakenFrom
   taken_none =
-      let all = told_from s im events (Reply.Accepted Answer.Idle) in
+      let all = told_from s im events (Ok Answer.Idle) in
       let none : all.taken ≡ 0 + all.taken = omega arith in
       ap (λ (n : ℕ). counted n all) none
 
   -- the next event
-  module _ (k : ℕ) (last : Reply) (m out : List ℕ) (r : Reply) (whole : 3 * k + 2 < length events) (h : TakenFrom s im events k last m)
+  module _ (k : ℕ) (last : Result Answer Refusal) (m out : List ℕ) (r : Result Answer Refusal) (whole : 3 * k + 2 < length events) (h : TakenFrom s im events k last m)
       (is : outcome r out ≡ happening s m (nth_event s events k)) where
-    one_next : told_from s im events (Reply.Accepted Answer.Idle) ≡ onward k (tells_on r out (λ next. told_from s next (drop (3 * (k + 1)) events) r))
+    one_next : told_from s im events (Ok Answer.Idle) ≡ onward k (tells_on r out (λ next. told_from s next (drop (3 * (k + 1)) events) r))
     unfolding TakenFrom nth_event
     one_next = rw (ap (λ o. o.reply) is, ap (λ o. o.image) is) (h ∙ ap (λ l. onward k (told_from s m l last)) (rest_is events k whole))
 
-    pub taken_more : (a : Answer) → r ≡ Reply.Accepted a → TakenFrom s im events (k + 1) r out
+    pub taken_more : (a : Answer) → r ≡ Ok a → TakenFrom s im events (k + 1) r out
     unfolding TakenFrom
     taken_more a f =
-        let later = told_from s out (drop (3 * (k + 1)) events) (Reply.Accepted a) in
+        let later = told_from s out (drop (3 * (k + 1)) events) (Ok a) in
         let moved : k + (1 + later.taken) ≡ k + 1 + later.taken = omega arith in
         rw f (rw f at one_next ∙ ap (λ (n : ℕ). counted n later) moved)
 
-    pub taken_refused : (f : Refusal) → r ≡ Reply.Refused f → Ends s im events k r out
+    pub taken_refused : (f : Refusal) → r ≡ Err f → Ends s im events k r out
     unfolding Ends
     taken_refused f e =
         let none : k + 0 ≡ k = omega arith in
-        rw e (rw e at one_next ∙ ap (λ (n : ℕ). counted n (ended (Reply.Refused f) out)) none)
+        rw e (rw e at one_next ∙ ap (λ (n : ℕ). counted n (ended (Err f) out)) none)
 
   -- no event is left
-  pub taken_all : (k : ℕ) (last : Reply) (m : List ℕ) → length events % 3 ≡ 0 → k ≡ length events / 3 → TakenFrom s im events k last m → Ends s im events k last m
+  pub taken_all : (k : ℕ) (last : Result Answer Refusal) (m : List ℕ) → length events % 3 ≡ 0 → k ≡ length events / 3 → TakenFrom s im events k last m → Ends s im events k last m
   unfolding TakenFrom Ends
   taken_all k last m whole all h =
       let end : 3 * k ≡ length events = omega arith in
@@ -76,7 +76,7 @@ module _ (s : Shape) (im events : List ℕ) where
       h ∙ ap (λ l. onward k (told_from s m l last)) (ap (λ (j : ℕ). drop j events) end ∙ drop-length events) ∙ ap (λ (n : ℕ). counted n (ended last m)) none
 
 -- an outcome is its reply and its image
-pub outcome_is : (o : Outcome) (r : Reply) (im : List ℕ) → r ≡ o.reply → im ≡ o.image → outcome r im ≡ o
+pub outcome_is : (o : Outcome) (r : Result Answer Refusal) (im : List ℕ) → r ≡ o.reply → im ≡ o.image → outcome r im ≡ o
 outcome_is o r im er ei = rw (er, ei)
 
 -- an event that is a tick
@@ -85,11 +85,11 @@ unfolding happening
 tick_event s x e z = rw z
 
 -- ticks that stand in a row in a list of events
-module _ (s : Shape) (im events : List ℕ) (k : ℕ) (last : Reply) (m : List ℕ) (h : TakenFrom s im events k last m) where
+module _ (s : Shape) (im events : List ℕ) (k : ℕ) (last : Result Answer Refusal) (m : List ℕ) (h : TakenFrom s im events k last m) where
   -- the reply before tick n
-  abbrev last_before : ℕ → Reply
+  abbrev last_before : ℕ → Result Answer Refusal
   last_before zero = last
-  last_before (suc n) = Reply.Accepted (tick s (ticked s m n)).answer
+  last_before (suc n) = Ok (tick s (ticked s m n)).answer
 
   ticked_taken : (n : ℕ) → ((j : ℕ) → j < n → nth_event s events (k + j) ≡ Event.Tick) → 3 * (k + n) ≤ length events
       → TakenFrom s im events (k + n) (last_before n) (ticked s m n)
@@ -103,7 +103,7 @@ module _ (s : Shape) (im events : List ℕ) (k : ℕ) (last : Reply) (m : List �
       rw z (taken_more s im events (k + n) (last_before n) (ticked s m n) _ _ (omega arith) before (sym here) _ refl)
 
   -- and so the ticks ahead
-  pub ticks_taken : (to : ℕ) → Ahead events k to → 3 * to ≤ length events → (a : Answer) (out : List ℕ) → Told s m (to - k) a out → TakenFrom s im events to (Reply.Accepted a) out
+  pub ticks_taken : (to : ℕ) → Ahead events k to → 3 * to ≤ length events → (a : Answer) (out : List ℕ) → Told s m (to - k) a out → TakenFrom s im events to (Ok a) out
   unfolding Told
   ticks_taken to ahead ends a out (some, e) =
       let n = to - k - 1 in
@@ -125,7 +125,7 @@ module _ (s : Shape) (im events : List ℕ) (k : ℕ) (e : Event)
   pub made_formed : Formed s e
   made_formed = rw ee (event_formed s _ _ _)
 
-  module _ (r : Reply) (out : List ℕ) (is : outcome r out ≡ happening s im e) where
+  module _ (r : Result Answer Refusal) (out : List ℕ) (is : outcome r out ≡ happening s im e) where
     pub nth_outcome : outcome r out ≡ happening s im (nth_event s events k)
     unfolding nth_event
     nth_outcome = rw (← ee) is
@@ -139,16 +139,16 @@ pub event_there : (events : List ℕ) (k count : ℕ) → count ≡ length event
 event_there events k count e h = omega arith
 
 -- all events are taken
-pub all_end : (s : Shape) (im events : List ℕ) (k count : ℕ) (last : Reply) (m : List ℕ) → length events % 3 ≡ 0 → count ≡ length events / 3 → k ≤ count → count ≤ k
+pub all_end : (s : Shape) (im events : List ℕ) (k count : ℕ) (last : Result Answer Refusal) (m : List ℕ) → length events % 3 ≡ 0 → count ≡ length events / 3 → k ≤ count → count ≤ k
     → TakenFrom s im events k last m → Ends s im events k last m
 all_end s im events k count last m whole ec low done h = taken_all s im events k last m whole (omega arith) h
 
 -- a list of one event
-alone : (r : Reply) (im : List ℕ) → ((tells_on r im (ended r)).last ≡ r) × ((tells_on r im (ended r)).image ≡ im)
-alone (Reply.Accepted a) im = (refl, refl)
-alone (Reply.Refused f) im = (refl, refl)
+alone : (r : Result Answer Refusal) (im : List ℕ) → ((tells_on r im (ended r)).last ≡ r) × ((tells_on r im (ended r)).image ≡ im)
+alone (Ok a) im = (refl, refl)
+alone (Err f) im = (refl, refl)
 
-module _ (s : Shape) (im : List ℕ) (k d c n : ℕ) (last : Reply) (out : List ℕ) (e : Ends s im (k ∷ d ∷ c ∷ []) n last out) where
+module _ (s : Shape) (im : List ℕ) (k d c n : ℕ) (last : Result Answer Refusal) (out : List ℕ) (e : Ends s im (k ∷ d ∷ c ∷ []) n last out) where
   pub one_outcome : outcome last out ≡ happening s im (event_of s k d c)
   unfolding Ends
   one_outcome =

@@ -1,4 +1,5 @@
 -- What the ticks of a list of events are counted as comes to what the whole list is. Assumes nothing.
+use Rattle.std.specs.Prelude.{Err, Ok, Result}
 use mathlib.Core.Path.{◌≡◌, refl, sym, ap, ◌∙◌}
 use mathlib.Core.List.{List}
 use mathlib.Core.Logic.{◌≢◌}
@@ -14,7 +15,6 @@ use Rattle.paper.specs.declared.Shape.{Shape}
 use Rattle.paper.specs.declared.Event.{Event}
 use Rattle.paper.specs.declared.Answer.{Answer}
 use Rattle.paper.specs.declared.Refusal.{Refusal}
-use Rattle.paper.specs.declared.Reply.{Reply}
 use Rattle.paper.specs.declared.Tally.{Tally}
 use Rattle.laws.specs.Events.{Lawful}
 use Rattle.event_laws.specs.Walk.{input_any, done_any, event_any}
@@ -33,9 +33,9 @@ use Rattle.happening.proofs.AllZero.{ahead_ticks, words_no_tick}
 use Rattle.happening.proofs.Taking.{TakenFrom, rest_is, tick_event, ticks_taken}
 
 -- an event of a device is counted nowhere
-abbrev Uncounted : Reply → Type 0
-Uncounted (Reply.Accepted a) = tally a ≡ Tally.Nowhere
-Uncounted (Reply.Refused f) = Unit {0}
+abbrev Uncounted : Result Answer Refusal → Type 0
+Uncounted (Ok a) = tally a ≡ Tally.Nowhere
+Uncounted (Err f) = Unit {0}
 
 device_uncounted : (s : Shape) (im : List ℕ) (e : Event) → e ≢ Event.Tick → Uncounted (happening s im e).reply
 device_uncounted s im =
@@ -63,7 +63,7 @@ module _ (s : Shape) (im events counts : List ℕ) where
     unfolding TalliedFrom
     tallied_more a out e = rw e at next_tallied
 
-    tallied_refused : (f : Refusal) → (happening s m (nth_event s events k)).reply ≡ Reply.Refused f → Tallies s im events counts more
+    tallied_refused : (f : Refusal) → (happening s m (nth_event s events k)).reply ≡ Err f → Tallies s im events counts more
     unfolding Tallies
     tallied_refused f e = sym (rw e at next_tallied)
 
@@ -91,7 +91,7 @@ pub record Books (s : Shape) (im events counts : List ℕ) (k : ℕ) (m more : L
   pub room : Room more (length events / 3 - k)
 
 -- and so much of the list is taken, on a lawful image
-pub record Stood (s : Shape) (im events counts : List ℕ) (to k : ℕ) (last : Reply) (m more : List ℕ) : Type 0 where
+pub record Stood (s : Shape) (im events counts : List ℕ) (to k : ℕ) (last : Result Answer Refusal) (m more : List ℕ) : Type 0 where
   pub kept : Lawful s m
   pub taken : TakenFrom s im events k last m
   pub books : Books s im events counts k m more
@@ -126,8 +126,8 @@ module _ (s : Shape) (im events counts : List ℕ) where
               room = tallied_room s m more (to - k) (length events / 3 - to) (rw left b.room);
             }
 
-        pub books_reach : (last : Reply) → TakenFrom s im events k last m → (a : Answer) (out then : List ℕ) → then ≡ tallied s m (to - k) more → Told s m (to - k) a out → Lawful s out
-            → (x z : List ℕ) (j : ℕ) (y : Reply) → x ≡ out → z ≡ then → j ≡ to → y ≡ Reply.Accepted a → Stood s im events counts to j y x z
+        pub books_reach : (last : Result Answer Refusal) → TakenFrom s im events k last m → (a : Answer) (out then : List ℕ) → then ≡ tallied s m (to - k) more → Told s m (to - k) a out → Lawful s out
+            → (x z : List ℕ) (j : ℕ) (y : Result Answer Refusal) → x ≡ out → z ≡ then → j ≡ to → y ≡ Ok a → Stood s im events counts to j y x z
         books_reach last taken a out then et t good x z j y ex ez ej ey =
             rw (ex, ez, ej, ey) (record {
               kept = good;
@@ -141,8 +141,8 @@ module _ (s : Shape) (im events counts : List ℕ) where
       books_all whole low done = tallied_all s im events counts k m more (omega arith) b.comes
 
     -- an event that is no tick
-    module _ (r : Reply) (out : List ℕ) (is : outcome r out ≡ happening s m (nth_event s events k)) (there : 3 * k + 2 < length events) where
-      pub books_event : zeros_at events (3 * k) 3 ≡ false → (a : Answer) → r ≡ Reply.Accepted a → Books s im events counts (k + 1) out more
+    module _ (r : Result Answer Refusal) (out : List ℕ) (is : outcome r out ≡ happening s m (nth_event s events k)) (there : 3 * k + 2 < length events) where
+      pub books_event : zeros_at events (3 * k) 3 ≡ false → (a : Answer) → r ≡ Ok a → Books s im events counts (k + 1) out more
       unfolding nth_event
       books_event f a ea =
           let no = words_no_tick s events k (nth_event s events k) refl f in
@@ -150,10 +150,10 @@ module _ (s : Shape) (im events counts : List ℕ) where
           let come = tallied_more s im events counts k m more there b.comes a out (rw ea at (sym is)) in
           record { comes = rw none at come; long = b.long; room = room_less more (length events / 3 - (k + 1)) (length events / 3 - k) b.room (omega arith) }
 
-      pub books_refused : (f : Refusal) → r ≡ Reply.Refused f → Tallies s im events counts more
+      pub books_refused : (f : Refusal) → r ≡ Err f → Tallies s im events counts more
       books_refused f ef = tallied_refused s im events counts k m more there b.comes f (rw ef at (ap (λ o. o.reply) (sym is)))
 
     -- no ticks ahead
-    pub books_still : (last : Reply) → TakenFrom s im events k last m → Lawful s m → (to : ℕ) → k ≤ to → to ≤ k
-        → (x z : List ℕ) (j : ℕ) (y : Reply) → x ≡ m → z ≡ more → j ≡ k → y ≡ last → Stood s im events counts to j y x z
+    pub books_still : (last : Result Answer Refusal) → TakenFrom s im events k last m → Lawful s m → (to : ℕ) → k ≤ to → to ≤ k
+        → (x z : List ℕ) (j : ℕ) (y : Result Answer Refusal) → x ≡ m → z ≡ more → j ≡ k → y ≡ last → Stood s im events counts to j y x z
     books_still last taken good to from here x z j y ex ez ej ey = rw (ex, ez, ej, ey) (record { kept = good; taken = taken; books = b; there = omega arith })

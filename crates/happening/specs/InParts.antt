@@ -1,9 +1,9 @@
 -- A reply in parts: what stopped the events, and the kind and the task of the last answer.
+use Rattle.std.specs.Prelude.{Err, Ok, Result, ⊤}
 use Rattle.paper.specs.declared.Task.{Task}
 use Rattle.paper.specs.declared.Answer.{Answer}
-use Rattle.paper.specs.declared.Reply.{Reply}
-use Rattle.paper.specs.declared.Verdict.{Verdict}
 use Rattle.happening.specs.declared.Kind.{Kind}
+use Rattle.paper.specs.declared.Refusal.{Refusal}
 
 -- the kind of an answer
 abbrev pub kind_in : Answer → Kind
@@ -32,6 +32,6 @@ answer_by Kind.Input t = Answer.Input t
 answer_by Kind.OutputDone t = Answer.OutputDone t
 
 -- the reply: kind and task count where nothing was refused
-abbrev pub told_by : Verdict → Kind → Task → Reply
-told_by Verdict.Fine k t = Reply.Accepted (answer_by k t)
-told_by (Verdict.Refused f) k t = Reply.Refused f
+abbrev pub told_by : Result ⊤ Refusal → Kind → Task → Result Answer Refusal
+told_by (Ok tt) k t = Ok (answer_by k t)
+told_by (Err f) k t = Err f

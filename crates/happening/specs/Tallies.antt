@@ -1,14 +1,15 @@
 -- The counts after a list of events taken one by one.
-use Rattle.std.specs.Prelude.{◌≡◌, List, [], ◌∷◌, ℕ}
+use Rattle.std.specs.Prelude.{◌≡◌, List, [], ◌∷◌, ℕ, Err, Ok, Result}
 use Rattle.paper.specs.Events.{event_of, happening}
 use Rattle.paper.specs.Counts.{tally, counted}
 use Rattle.paper.specs.declared.Shape.{Shape}
-use Rattle.paper.specs.declared.Reply.{Reply}
+use Rattle.paper.specs.declared.Answer.{Answer}
+use Rattle.paper.specs.declared.Refusal.{Refusal}
 
 -- an accepted event is counted, a refused one ends the list
-abbrev pub counts_on : Reply → List ℕ → List ℕ → (List ℕ → List ℕ → List ℕ) → List ℕ
-counts_on (Reply.Accepted a) im counts later = later im (counted counts (tally a))
-counts_on (Reply.Refused f) im counts later = counts
+abbrev pub counts_on : Result Answer Refusal → List ℕ → List ℕ → (List ℕ → List ℕ → List ℕ) → List ℕ
+counts_on (Ok a) im counts later = later im (counted counts (tally a))
+counts_on (Err f) im counts later = counts
 
 -- the counts after the events of a list from an image on
 abbrev pub counts_from : Shape → List ℕ → List ℕ → List ℕ → List ℕ

@@ -16,7 +16,7 @@ ghost use Rattle.happening.specs.Ahead.{zeros_at, Ahead, Stops};
 use connectives::both;
 use events::{event_of, report};
 use numbers::task_of;
-use paper::{Answer, EVENT_WORDS, HIGH_BYTES, Reply, Shape, Task, Verdict};
+use paper::{Answer, EVENT_WORDS, HIGH_BYTES, Refusal, Shape, Task};
 use ticks::ticks;
 
 // How many events are looked at together: first a few, then more.
@@ -31,7 +31,7 @@ pub const NO_COUNTS: usize = 0;
 #[derive(Clone, Copy)]
 struct Past {
     taken: usize,
-    last: Reply,
+    last: Result<Answer, Refusal>,
 }
 
 // The kinds of answers.
@@ -53,7 +53,7 @@ pub enum Kind {
 #[derive(Clone, Copy)]
 pub struct Took {
     pub taken: usize,
-    pub stop: Verdict,
+    pub stop: Result<(), Refusal>,
     pub kind: Kind,
     pub task: Task,
 }
@@ -112,7 +112,7 @@ fn ticks_ahead(events: &[u16], from: usize, count: usize) -> usize
 }
 
 // Event k of a list, which is no tick.
-fn report_at(s: Shape, im: &mut [u16], events: &[u16], k: usize) -> Reply
+fn report_at(s: Shape, im: &mut [u16], events: &[u16], k: usize) -> Result<Answer, Refusal>
     requires lawful { Lawful s im.old }
     requires k_in_bounds { 3 * k + 2 < length events.now }
     requires k_value { zeros_at events.now (3 * k) 3 ≡ false }
@@ -146,16 +146,16 @@ fn pass_events(
 {
     let count = events.len() / EVENT_WORDS;
     let mut taken: usize = 0;
-    let mut last = Reply::Accepted(Answer::Idle);
+    let mut last = Ok(Answer::Idle);
     while taken < count {
         let end = ticks_ahead(events, taken, count);
         if taken < end {
-            last = Reply::Accepted(ticks(s, im, table, counts, end - taken));
+            last = Ok(ticks(s, im, table, counts, end - taken));
             taken = end;
         }
         if taken < count {
             last = report_at(s, im, events, taken);
-            if let Reply::Refused(_) = last {
+            if let Err(_) = last {
                 return Past {
                     taken: taken,
                     last: last,
@@ -189,19 +189,19 @@ fn kind_of(a: Answer) -> Kind
 }
 
 // What was passed over, in parts.
-fn in_parts(taken: usize, last: Reply) -> Took
+fn in_parts(taken: usize, last: Result<Answer, Refusal>) -> Took
     ensures { (result.taken ≡ taken) × (told_by result.stop result.kind result.task ≡ last) }
 {
     match last {
-        Reply::Accepted(a) => Took {
+        Ok(a) => Took {
             taken: taken,
-            stop: Verdict::Fine,
+            stop: Ok(()),
             kind: kind_of(a),
             task: Task(task_of(a)),
         },
-        Reply::Refused(r) => Took {
+        Err(r) => Took {
             taken: taken,
-            stop: Verdict::Refused(r),
+            stop: Err(r),
             kind: Kind::Idle,
             task: Task(0),
         },
@@ -256,7 +256,7 @@ pub fn step(
     kind: u16,
     device: u16,
     character: u16,
-) -> Reply
+) -> Result<Answer, Refusal>
     requires lawful { Lawful s im.old }
     requires order_table { OrderTable table.now }
     ensures im_after { outcome result im.new ≡ happening s im.old (event_by s kind device character) }
@@ -269,7 +269,7 @@ pub fn step(
     let kind = took.kind;
     let task = took.task;
     match stop {
-        Verdict::Fine => Reply::Accepted(answer_of(kind, task)),
-        Verdict::Refused(r) => Reply::Refused(r),
+        Ok(()) => Ok(answer_of(kind, task)),
+        Err(r) => Err(r),
     }
 }

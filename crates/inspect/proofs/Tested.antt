@@ -1,4 +1,5 @@
 -- All rules, in whatever order they are tested, and numbers 1 to 6, one after another. Assumes nothing.
+use Rattle.std.specs.Prelude.{Err, Ok, Result, ⊤}
 use mathlib.Core.Path.{◌≡◌, refl, sym, ◌∙◌}
 use mathlib.Core.List.{List}
 use mathlib.Core.Bool.{Bool, true, false, ◌&&◌, and-eq-true_iff}
@@ -16,7 +17,6 @@ use Rattle.paper.specs.declared.Task.{Task}
 use Rattle.paper.specs.declared.Shape.{Shape}
 use Rattle.paper.specs.declared.Queue.{Queue}
 use Rattle.paper.specs.declared.Refusal.{Refusal}
-use Rattle.paper.specs.declared.Verdict.{Verdict}
 use Rattle.laws.specs.Every.{every_fails}
 use Rattle.laws.specs.Checked.{every_is, ranged_is, packed_is, segments_are, queued_is, kept_is}
 use Rattle.laws.specs.Sound.{Sized}
@@ -119,45 +119,45 @@ module _ (s : Shape) (im : List ℕ) (es : s ≡ shape_of im) (r p : Bool) (er :
 
 -- the tests 1 to 6, one after another
 module _ (im : List ℕ) where
-  pub too_short_so : length im < header_words → Verdict.Refused Refusal.TooShort ≡ check im
+  pub too_short_so : length im < header_words → Err Refusal.TooShort ≡ check im
   unfolding check
   too_short_so h = rw (lt-ltb (length im) header_words h)
 
   module _ (long : header_words ≤ length im) (a b : ℕ) (m : Bool) (ea : a ≡ header_word im 0) (eb : b ≡ header_word im 1)
       (em : m ≡ (eqb a mark && eqb b edition)) where
-    pub not_marked_so : m ≡ false → Verdict.Refused Refusal.NotMarked ≡ check im
+    pub not_marked_so : m ≡ false → Err Refusal.NotMarked ≡ check im
     unfolding check
     not_marked_so n = rw (le-ltb (length im) header_words long, ← ea, ← eb, ← em, n)
 
     module _ (marked : m ≡ true) (s : Shape) (es : s ≡ shape_of im) (r : Bool) (er : r ≡ out_of_range s) where
-      pub out_of_range_so : r ≡ true → Verdict.Refused Refusal.OutOfRange ≡ check im
+      pub out_of_range_so : r ≡ true → Err Refusal.OutOfRange ≡ check im
       unfolding check
       out_of_range_so e =
           rw (le-ltb (length im) header_words long, ← ea, ← eb, ← em, marked, ← es, ← er, e)
 
       module _ (inside : r ≡ false) (p : Bool) (ep : p ≡ not_packed s) where
-        pub not_packed_so : p ≡ true → Verdict.Refused Refusal.NotPacked ≡ check im
+        pub not_packed_so : p ≡ true → Err Refusal.NotPacked ≡ check im
         unfolding check
         not_packed_so e =
             rw (le-ltb (length im) header_words long, ← ea, ← eb, ← em, marked, ← es, ← er, inside, ← ep, e)
 
         module _ (packed : p ≡ false) (w : Bool) (ew : w ≡ wrong_segments s im) where
-          pub wrong_segments_so : w ≡ true → Verdict.Refused Refusal.WrongSegments ≡ check im
+          pub wrong_segments_so : w ≡ true → Err Refusal.WrongSegments ≡ check im
           unfolding check
           wrong_segments_so e =
               rw (le-ltb (length im) header_words long, ← ea, ← eb, ← em, marked, ← es, ← er, inside, ← ep, packed, ← ew, e)
 
           module _ (right : w ≡ false) (o : Bool) (eo : o ≡ rules_hold s im) where
-            pub rule_broken_so : o ≡ false → Verdict.Refused Refusal.RuleBroken ≡ check im
+            pub rule_broken_so : o ≡ false → Err Refusal.RuleBroken ≡ check im
             unfolding check
             rule_broken_so n =
                 rw (le-ltb (length im) header_words long, ← ea, ← eb, ← em, marked, ← es, ← er, inside, ← ep, packed, ← ew, right, ← eo, n)
 
-            pub fine_so : o ≡ true → Verdict.Fine ≡ check im
+            pub fine_so : o ≡ true → Ok tt ≡ check im
             unfolding check
             fine_so n =
                 rw (le-ltb (length im) header_words long, ← ea, ← eb, ← em, marked, ← es, ← er, inside, ← ep, packed, ← ew, right, ← eo, n)
 
 -- the number of a verdict
-pub numbered : (im : List ℕ) (v : Verdict) (n : ℕ) → v ≡ check im → n ≡ verdict_number v → Checks im n
+pub numbered : (im : List ℕ) (v : Result ⊤ Refusal) (n : ℕ) → v ≡ check im → n ≡ verdict_number v → Checks im n
 numbered im v n ev en = record { answered = rw (en, ev) }

@@ -14,10 +14,7 @@ ghost use Rattle.queue_rules.specs.ReadyCounts.{AllFound};
 use connectives::{both, implies};
 use headers::{header_word, not_packed, out_of_range, shape_of, wrong_segments};
 use numbers::number_of_verdict;
-use paper::{
-    CLOCK_AT, Cell, EDITION, EDITION_AT, HEADER_WORDS, MARK, MARK_AT, MOST_TASKS, Part, Queue,
-    Refusal, Shape, Task, Verdict,
-};
+use paper::{CLOCK_AT, Cell, EDITION, EDITION_AT, HEADER_WORDS, MARK, MARK_AT, MOST_TASKS, Part, Queue, Refusal, Shape, Task};
 use places::word_of;
 use queue_rules::{buffers_hold, count_ready, ready_holds};
 use task_rules::{flags_hold, is_empty, port_holds, readied_once, status_holds};
@@ -30,7 +27,7 @@ const WIDE_EDITION: usize = EDITION as usize;
 // What one inspection of an image tells: the verdict, and the shape that its header gives.
 #[derive(Clone, Copy)]
 pub struct Inspected {
-    pub verdict: Verdict,
+    pub verdict: Result<(), Refusal>,
     pub shape: Shape,
 }
 
@@ -115,32 +112,32 @@ fn rules_hold(s: Shape, im: &[u16]) -> bool
 }
 
 // The verdict on an image whose header gives the shape s.
-fn verdict(s: Shape, im: &[u16]) -> Verdict
+fn verdict(s: Shape, im: &[u16]) -> Result<(), Refusal>
     requires { s ≡ shape_given im.now }
     ensures { result ≡ verdict_on im.now }
 {
     if im.len() < HEADER_WORDS {
-        return Verdict::Refused(Refusal::TooShort);
+        return Err(Refusal::TooShort);
     }
     if !both(
         header_word(im, MARK_AT) == WIDE_MARK,
         header_word(im, EDITION_AT) == WIDE_EDITION,
     ) {
-        return Verdict::Refused(Refusal::NotMarked);
+        return Err(Refusal::NotMarked);
     }
     if out_of_range(s) {
-        return Verdict::Refused(Refusal::OutOfRange);
+        return Err(Refusal::OutOfRange);
     }
     if not_packed(s) {
-        return Verdict::Refused(Refusal::NotPacked);
+        return Err(Refusal::NotPacked);
     }
     if wrong_segments(s, im) {
-        return Verdict::Refused(Refusal::WrongSegments);
+        return Err(Refusal::WrongSegments);
     }
     if !rules_hold(s, im) {
-        return Verdict::Refused(Refusal::RuleBroken);
+        return Err(Refusal::RuleBroken);
     }
-    Verdict::Fine
+    Ok(())
 }
 
 // Inspects an image once, for whoever goes on with it.

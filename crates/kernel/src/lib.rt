@@ -1,11 +1,10 @@
 // The public kernel: checking an image, the size of a plan, building, one event, a run, and a run that counts. No call requires anything.
 #![tactic(auto)]
 
-ghost use Rattle.std.specs.Prelude.{◌≡◌, not, ◌%◌, eqb, length};
+ghost use Rattle.std.specs.Prelude.{◌≡◌, not, ◌%◌, eqb, length, Ok, tt};
 ghost use Rattle.paper.specs.Numbers.{and_then, refused_if};
 ghost use Rattle.paper.specs.Promises.{Happens, Runs, Reports};
 ghost use Rattle.paper.specs.declared.Refusal.TheVariants.{MalformedEvent};
-ghost use Rattle.paper.specs.declared.Verdict.TheVariants.{Fine};
 ghost use Rattle.laws.specs.Events.{Lawful};
 ghost use Rattle.order_table.specs.Entries.{OrderTable};
 ghost use Rattle.careful.specs.OneByOne.{CountsAll};
@@ -17,42 +16,42 @@ use happening::{NO_COUNTS, step, take_events};
 pub use inspect::check;
 use inspect::inspect;
 use order_table::laid_out;
-use paper::{COUNTS, EVENT_WORDS, Ended, HIGH_BYTES, Refusal, Reply, Shape, Verdict};
+use paper::{Answer, COUNTS, EVENT_WORDS, Ended, HIGH_BYTES, Refusal, Shape};
 pub use plans::size;
 
 // One event: kind, device, character.
-pub fn event(im: &mut [u16], kind: u16, device: u16, character: u16) -> Reply
+pub fn event(im: &mut [u16], kind: u16, device: u16, character: u16) -> Result<Answer, Refusal>
     ensures { Happens im.old kind device character result im.new }
 {
     let found = inspect(im);
     let verdict = found.verdict;
     match verdict {
-        Verdict::Fine => {
+        Ok(()) => {
             let table = laid_out();
             step(found.shape, im, &table, kind, device, character)
         }
-        Verdict::Refused(r) => Reply::Refused(r),
+        Err(r) => Err(r),
     }
 }
 
 // The verdict on a list of so many words: it holds whole events, or it is malformed.
-fn verdict_on_list(words: usize) -> Verdict
-    ensures { result ≡ refused_if (not (eqb (words % 3) 0)) MalformedEvent Fine }
+fn verdict_on_list(words: usize) -> Result<(), Refusal>
+    ensures { result ≡ refused_if (not (eqb (words % 3) 0)) MalformedEvent (Ok tt) }
 {
     if words % EVENT_WORDS != 0 {
-        Verdict::Refused(Refusal::MalformedEvent)
+        Err(Refusal::MalformedEvent)
     } else {
-        Verdict::Fine
+        Ok(())
     }
 }
 
 // A verdict, and where it is fine, a later one.
-fn in_turn(first: Verdict, later: Verdict) -> Verdict
+fn in_turn(first: Result<(), Refusal>, later: Result<(), Refusal>) -> Result<(), Refusal>
     ensures { result ≡ and_then first later }
 {
     match first {
-        Verdict::Fine => later,
-        Verdict::Refused(r) => Verdict::Refused(r),
+        Ok(()) => later,
+        Err(r) => Err(r),
     }
 }
 
@@ -65,7 +64,7 @@ pub fn run(im: &mut [u16], events: &[u16]) -> Ended
     let list = verdict_on_list(events.len());
     let verdict = in_turn(image, list);
     match verdict {
-        Verdict::Fine => {
+        Ok(()) => {
             let table = laid_out();
             let mut none: [u32; NO_COUNTS] = [0; NO_COUNTS];
             let took = take_events(found.shape, im, &table, &mut none, events);
@@ -75,9 +74,9 @@ pub fn run(im: &mut [u16], events: &[u16]) -> Ended
                 stop: stop,
             }
         }
-        Verdict::Refused(r) => Ended {
+        Err(r) => Ended {
             taken: 0,
-            stop: Verdict::Refused(r),
+            stop: Err(r),
         },
     }
 }
@@ -118,13 +117,13 @@ pub fn report_on(im: &mut [u16], events: &[u16], counts: &mut [u32]) -> Ended
     let list = verdict_on_list(events.len());
     let verdict = in_turn(image, list);
     match verdict {
-        Verdict::Fine => {
+        Ok(()) => {
             let table = laid_out();
             count_events(found.shape, im, &table, counts, events)
         }
-        Verdict::Refused(r) => Ended {
+        Err(r) => Ended {
             taken: 0,
-            stop: Verdict::Refused(r),
+            stop: Err(r),
         },
     }
 }

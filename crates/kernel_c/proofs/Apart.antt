@@ -1,4 +1,5 @@
 -- An accepted event's kind and task are the paper's two values, and not those of a refused one: the task is one of the image's. Assumes nothing.
+use Rattle.std.specs.Prelude.{Err, Ok, Result, ⊤}
 use mathlib.Core.Path.{◌≡◌, refl, ap}
 use mathlib.Core.List.{List, [], ◌∷◌}
 use Prim.Native.Nat.{ℕ, ◌<◌}
@@ -12,16 +13,15 @@ use Rattle.paper.specs.Calls.{event_if, event}
 use Rattle.paper.specs.declared.Shape.{Shape}
 use Rattle.paper.specs.declared.Event.{Event}
 use Rattle.paper.specs.declared.Answer.{Answer}
-use Rattle.paper.specs.declared.Reply.{Reply}
-use Rattle.paper.specs.declared.Verdict.{Verdict}
 use Rattle.laws.specs.Checked.{checked_good}
 use Rattle.laws.specs.Events.{Formed, event_formed}
 use Rattle.event_laws.specs.Walk.{input_any, done_any, event_any}
 use Rattle.event_laws.proofs.Stays.{tick_names}
 use Rattle.kernel_c.specs.Answers.{no_answer, told_kind, told_task}
+use Rattle.paper.specs.declared.Refusal.{Refusal}
 
 -- an accepted event's kind and task are the paper's two values
-pub told_values : (a : Answer) → reply_values (Reply.Accepted a) ≡ told_kind (Reply.Accepted a) ∷ told_task (Reply.Accepted a) ∷ []
+pub told_values : (a : Answer) → reply_values (Ok a) ≡ told_kind (Ok a) ∷ told_task (Ok a) ∷ []
 told_values a = refl
 
 -- no answer has that kind
@@ -38,9 +38,9 @@ kind_below (Answer.Input i) = omega arith
 kind_below (Answer.OutputDone i) = omega arith
 
 -- the task that a reply names, 0 where it names none
-abbrev named : Reply → ℕ
-named (Reply.Accepted a) = answer_task a
-named (Reply.Refused r) = 0
+abbrev named : Result Answer Refusal → ℕ
+named (Ok a) = answer_task a
+named (Err r) = 0
 
 -- a reply that names a task of the image
 abbrev InImage : Shape → Outcome → Type 0
@@ -58,9 +58,9 @@ names_below : (im : List ℕ) (k d c : ℕ) → named (event im k d c).reply < m
 unfolding event
 names_below im k d c = go (check im) refl
   where
-    go : (v : Verdict) → check im ≡ v → named (event_if v im k d c).reply < most_tasks
-    go (Verdict.Refused r) e = omega arith
-    go Verdict.Fine e =
+    go : (v : Result ⊤ Refusal) → check im ≡ v → named (event_if v im k d c).reply < most_tasks
+    go (Err r) e = omega arith
+    go (Ok tt) e =
         let s : Shape = shape_of im in
         let g : Good s im = checked_good im e in
         let n = g.laid.fit.tasks in
@@ -68,7 +68,7 @@ names_below im k d c = go (check im) refl
         omega (arith, n, h)
 
 -- whatever is lent, an accepted event's kind and task are not those of a refused one
-pub told_apart : (im : List ℕ) (k d c : ℕ) (a : Answer) → (event im k d c).reply ≡ Reply.Accepted a → (kind a < no_answer) × (answer_task a < no_answer)
+pub told_apart : (im : List ℕ) (k d c : ℕ) (a : Answer) → (event im k d c).reply ≡ Ok a → (kind a < no_answer) × (answer_task a < no_answer)
 told_apart im k d c a told =
     let e : named (event im k d c).reply ≡ answer_task a = ap named told in
     let h : named (event im k d c).reply < most_tasks = names_below im k d c in

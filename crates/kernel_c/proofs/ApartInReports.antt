@@ -1,4 +1,5 @@
 -- What a report and a share answer tells which counts were lent: 97 or another number of them, with ticks among them or none. Assumes nothing.
+use Rattle.std.specs.Prelude.{Err, Float, None, Ok, Option, Result, Some, ⊤}
 use mathlib.Core.Path.{◌≡◌, refl, sym, ap, ◌∙◌, subst}
 use mathlib.Core.Bool.{Bool, true, false, not, cond}
 use mathlib.Core.List.{List, [], ◌∷◌}
@@ -15,10 +16,7 @@ use Rattle.paper.specs.Calls.{check_run}
 use Rattle.paper.specs.Counts.{Counted, counting, counted, counted_event, passes_end, tally, Reported, reports_on, report_from, report_if, report, all_counts, task_ticks, all_ticks}
 use Rattle.paper.specs.declared.Shape.{Shape}
 use Rattle.paper.specs.declared.Event.{Event}
-use Rattle.paper.specs.declared.Reply.{Reply}
-use Rattle.paper.specs.declared.Verdict.{Verdict}
 use Rattle.paper.specs.declared.Refusal.{Refusal}
-use Rattle.paper.specs.declared.Share.{Share}
 use Rattle.event_laws.specs.Walk.{input_any, done_any, event_any}
 use Rattle.shares.proofs.Dividing.{share_none, share_rounded}
 use Rattle.shares.proofs.WithoutLoss.{nothing, share_rowless}
@@ -26,6 +24,7 @@ use Rattle.kernel_c.specs.Counts.{share_on, share_number, share_cell}
 use Rattle.kernel_c.specs.Promises.{ReportsC, SharesC}
 use Rattle.kernel_c.specs.declared.RunNumbers.{RunNumbers}
 use Rattle.kernel_c.proofs.PromisedOfReports.{report_whole, report_wrong, share_whole, share_wrong}
+use Rattle.paper.specs.declared.Answer.{Answer}
 
 -- counts of another length: 12, nothing is taken and nothing changes
 pub counts_refused : (image events counts : List ℕ) (a : RunNumbers) (after more : List ℕ) → ReportsC image events counts a after more
@@ -42,25 +41,25 @@ counts_refused image events counts a after more p n =
 abbrev Other : ℕ → Type 0
 Other n = ¬ (n ≡ number Refusal.WrongTarget)
 
-tested : (b : Bool) (r : Refusal) (later : Verdict) → Other (number r) → Other (verdict_number later) → Other (verdict_number (refused_if b r later))
+tested : (b : Bool) (r : Refusal) (later : Result ⊤ Refusal) → Other (number r) → Other (verdict_number later) → Other (verdict_number (refused_if b r later))
 tested true r later n l = n
 tested false r later n l = l
 
-then_tested : (first later : Verdict) → Other (verdict_number first) → Other (verdict_number later) → Other (verdict_number (and_then first later))
-then_tested Verdict.Fine later n l = l
-then_tested (Verdict.Refused r) later n l = n
+then_tested : (first later : Result ⊤ Refusal) → Other (verdict_number first) → Other (verdict_number later) → Other (verdict_number (and_then first later))
+then_tested (Ok tt) later n l = l
+then_tested (Err r) later n l = n
 
 check_other : (im events : List ℕ) → Other (verdict_number (check_run im events))
 unfolding check
 check_other im events =
-    then_tested (check im) (refused_if (not (eqb (length events % 3) 0)) Refusal.MalformedEvent Verdict.Fine)
+    then_tested (check im) (refused_if (not (eqb (length events % 3) 0)) Refusal.MalformedEvent (Ok tt))
     (tested (too_short im) Refusal.TooShort _ (λ e. omega arith)
     (tested (not_marked im) Refusal.NotMarked _ (λ e. omega arith)
     (tested (out_of_range (shape_of im)) Refusal.OutOfRange _ (λ e. omega arith)
     (tested (not_packed (shape_of im)) Refusal.NotPacked _ (λ e. omega arith)
     (tested (wrong_segments (shape_of im) im) Refusal.WrongSegments _ (λ e. omega arith)
-    (tested (not (rules_hold (shape_of im) im)) Refusal.RuleBroken Verdict.Fine (λ e. omega arith) (λ e. omega arith)))))))
-    (tested (not (eqb (length events % 3) 0)) Refusal.MalformedEvent Verdict.Fine (λ e. omega arith) (λ e. omega arith))
+    (tested (not (rules_hold (shape_of im) im)) Refusal.RuleBroken (Ok tt) (λ e. omega arith) (λ e. omega arith)))))))
+    (tested (not (eqb (length events % 3) 0)) Refusal.MalformedEvent (Ok tt) (λ e. omega arith) (λ e. omega arith))
 
 event_other : (s : Shape) (im : List ℕ) (e : Event) → Other (reply_number (happening s im e).reply)
 event_other s im =
@@ -78,11 +77,11 @@ module _ (later : List ℕ → List ℕ → Reported) (l : (im counts : List ℕ
   either true x y p q = p
   either false x y p q = q
 
-  counting_other : (r : Reply) (im after counts : List ℕ) → Other (reply_number r) → StopsOther (counting r im after counts)
-  counting_other (Reply.Accepted a) im after counts n =
-      either (passes_end counts (tally a)) (record { reply = Reply.Refused Refusal.CountFull; image = im; counts = counts })
-      (record { reply = Reply.Accepted a; image = after; counts = counted counts (tally a) }) (λ e. omega arith) (l after (counted counts (tally a)))
-  counting_other (Reply.Refused r) im after counts n = n
+  counting_other : (r : Result Answer Refusal) (im after counts : List ℕ) → Other (reply_number r) → StopsOther (counting r im after counts)
+  counting_other (Ok a) im after counts n =
+      either (passes_end counts (tally a)) (record { reply = Err Refusal.CountFull; image = im; counts = counts })
+      (record { reply = Ok a; image = after; counts = counted counts (tally a) }) (λ e. omega arith) (l after (counted counts (tally a)))
+  counting_other (Err r) im after counts n = n
 
 from_other : (s : Shape) (im counts events : List ℕ) → Other (verdict_number (report_from s im counts events).stop)
 unfolding counted_event
@@ -94,9 +93,9 @@ from_other s im counts (k ∷ d ∷ c ∷ events) =
     counting_other (λ next more. report_from s next more events) (λ next more. from_other s next more events) (happening s im e).reply im
     (happening s im e).image counts (event_other s im e)
 
-if_other : (v : Verdict) (im events counts : List ℕ) → Other (verdict_number v) → Other (verdict_number (report_if v im events counts).stop)
-if_other Verdict.Fine im events counts n = from_other (shape_of im) im counts events
-if_other (Verdict.Refused r) im events counts n = n
+if_other : (v : Result ⊤ Refusal) (im events counts : List ℕ) → Other (verdict_number v) → Other (verdict_number (report_if v im events counts).stop)
+if_other (Ok tt) im events counts n = from_other (shape_of im) im counts events
+if_other (Err r) im events counts n = n
 
 report_other : (im events counts : List ℕ) → Other (verdict_number (report im events counts).stop)
 unfolding report
@@ -109,22 +108,22 @@ counts_taken image events counts a after more p e =
     (report_other image events counts)
 
 module _ (counts : List ℕ) (i : ℕ) (held : Float) (a : ℕ) (x : Float) (p : SharesC counts i held a x) where
-  as_told : (s : Share) → share_on counts i ≡ s → (a ≡ share_number s) × (x ≡ share_cell s held)
-  as_told s e = (p.numbered ∙ ap share_number e, p.left ∙ ap (λ (s : Share). share_cell s held) e)
+  as_told : (s : Option Float) → share_on counts i ≡ s → (a ≡ share_number s) × (x ≡ share_cell s held)
+  as_told s e = (p.numbered ∙ ap share_number e, p.left ∙ ap (λ (s : Option Float). share_cell s held) e)
 
   -- another length, or no ticks at all: 0, and the cell stays
   pub other_length : ¬ (length counts ≡ all_counts) → (a ≡ 0) × (x ≡ held)
-  other_length n = as_told Share.NoTicks (share_wrong counts n i)
+  other_length n = as_told None (share_wrong counts n i)
 
   module _ (e : length counts ≡ all_counts) where
     pub no_ticks : all_ticks counts ≡ 0 → (a ≡ 0) × (x ≡ held)
-    no_ticks z = as_told Share.NoTicks (share_whole counts e i ∙ sym (share_none (all_ticks counts) i counts refl z))
+    no_ticks z = as_told None (share_whole counts e i ∙ sym (share_none (all_ticks counts) i counts refl z))
 
     -- some ticks: 1, and the cell is the task's share; +0 where there cannot be such a task
     pub some_ticks : 0 < all_ticks counts → (a ≡ 1) × (x ≡ round binary64 false (task_ticks counts i) (all_ticks counts))
     some_ticks h =
-        as_told (Share.Of (round binary64 false (task_ticks counts i) (all_ticks counts)))
+        as_told (Some (round binary64 false (task_ticks counts i) (all_ticks counts)))
         (share_whole counts e i ∙ share_rounded i (all_ticks counts) counts h refl)
 
     pub no_such_task : 0 < all_ticks counts → most_tasks ≤ i → (a ≡ 1) × (x ≡ nothing)
-    no_such_task h m = as_told (Share.Of nothing) (share_whole counts e i ∙ share_rowless counts i h m)
+    no_such_task h m = as_told (Some nothing) (share_whole counts e i ∙ share_rowless counts i h m)

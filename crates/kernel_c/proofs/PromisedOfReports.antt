@@ -1,4 +1,5 @@
 -- What the exported functions that count and tell shares promise, from what the calls behind them answer. Assumes nothing.
+use Rattle.std.specs.Prelude.{Err, Float, None, Option, Some}
 use mathlib.Core.Path.{◌≡◌, refl, sym, ap, ◌∙◌}
 use mathlib.Core.List.{List}
 use Prim.Native.Nat.{ℕ}
@@ -10,8 +11,6 @@ use Rattle.paper.specs.Counts.{Reported, reported_at, report, share, all_counts}
 use Rattle.paper.specs.Promises.{Reports, Shares}
 use Rattle.paper.specs.declared.Ended.{Ended}
 use Rattle.paper.specs.declared.Refusal.{Refusal}
-use Rattle.paper.specs.declared.Share.{Share}
-use Rattle.paper.specs.declared.Verdict.{Verdict}
 use Rattle.kernel_c.specs.Counts.{report_on, share_on, share_number, share_cell}
 use Rattle.kernel_c.specs.Promises.{ReportsC, SharesC}
 use Rattle.kernel_c.specs.declared.RunNumbers.{RunNumbers}
@@ -28,11 +27,11 @@ module _ (counts : List ℕ) (e : length counts ≡ all_counts) where
 
 -- another number of them
 module _ (counts : List ℕ) (n : ¬ (length counts ≡ all_counts)) where
-  pub report_wrong : (image events : List ℕ) → report_on image events counts ≡ reported_at (Verdict.Refused Refusal.WrongTarget) image counts
+  pub report_wrong : (image events : List ℕ) → report_on image events counts ≡ reported_at (Err Refusal.WrongTarget) image counts
   unfolding report_on
   report_wrong image events = rw (ne_eqb (length counts) all_counts n) refl
 
-  pub share_wrong : (i : ℕ) → share_on counts i ≡ Share.NoTicks
+  pub share_wrong : (i : ℕ) → share_on counts i ≡ None
   unfolding share_on
   share_wrong i = rw (ne_eqb (length counts) all_counts n) refl
 
@@ -58,20 +57,20 @@ reports_is image events counts ended answer after more e p et en =
 pub reports_refused : (image events counts : List ℕ) (answer : RunNumbers) → ¬ (length counts ≡ all_counts) → answer.taken ≡ 0
     → answer.number ≡ number Refusal.WrongTarget → ReportsC image events counts answer image counts
 reports_refused image events counts answer n et en =
-    reports_as image events counts (reported_at (Verdict.Refused Refusal.WrongTarget) image counts) answer image counts
+    reports_as image events counts (reported_at (Err Refusal.WrongTarget) image counts) answer image counts
     (report_wrong counts n image events) et en refl refl
 
 -- a share: it is told and written; none is told, and the cell stays
-shares_as : (counts : List ℕ) (i : ℕ) (held : Float) (s : Share) → share_on counts i ≡ s → SharesC counts i held (share_number s) (share_cell s held)
+shares_as : (counts : List ℕ) (i : ℕ) (held : Float) (s : Option Float) → share_on counts i ≡ s → SharesC counts i held (share_number s) (share_cell s held)
 shares_as counts i held s e =
-    record { numbered = ap share_number (sym e); left = ap (λ (x : Share). share_cell x held) (sym e) }
+    record { numbered = ap share_number (sym e); left = ap (λ (x : Option Float). share_cell x held) (sym e) }
 
-module _ (counts : List ℕ) (i : ℕ) (held : Float) (answer : Share) (e : length counts ≡ all_counts) (p : Shares counts i answer) where
-  pub shares_told : (x : Float) → answer ≡ Share.Of x → SharesC counts i held 1 x
-  shares_told x t = shares_as counts i held (Share.Of x) (share_whole counts e i ∙ sym p.answered ∙ t)
+module _ (counts : List ℕ) (i : ℕ) (held : Float) (answer : Option Float) (e : length counts ≡ all_counts) (p : Shares counts i answer) where
+  pub shares_told : (x : Float) → answer ≡ Some x → SharesC counts i held 1 x
+  shares_told x t = shares_as counts i held (Some x) (share_whole counts e i ∙ sym p.answered ∙ t)
 
-  pub shares_none : answer ≡ Share.NoTicks → SharesC counts i held 0 held
-  shares_none t = shares_as counts i held Share.NoTicks (share_whole counts e i ∙ sym p.answered ∙ t)
+  pub shares_none : answer ≡ None → SharesC counts i held 0 held
+  shares_none t = shares_as counts i held None (share_whole counts e i ∙ sym p.answered ∙ t)
 
 pub shares_refused : (counts : List ℕ) (i : ℕ) (held : Float) → ¬ (length counts ≡ all_counts) → SharesC counts i held 0 held
-shares_refused counts i held n = shares_as counts i held Share.NoTicks (share_wrong counts n i)
+shares_refused counts i held n = shares_as counts i held None (share_wrong counts n i)

@@ -16,7 +16,7 @@ ghost use Rattle.kernel_c.specs.Promises.{ChecksC, MeasuresC, BuildsC, HappensC,
 
 use kernel::{build, check, event, run, size};
 use numbers::{kind_of, number_of, number_of_verdict, task_of};
-use paper::{NOT_REFUSED, Reply, Size};
+use paper::{Answer, NOT_REFUSED, Refusal};
 
 // The kind and the task of a refused event: no answer has them, while 0 is a good kind and a good task.
 const NO_ANSWER: u16 = 65535;
@@ -47,16 +47,16 @@ pub struct RunNumbers {
 }
 
 // A size, in numbers.
-fn measure(size: Size) -> Measured
+fn measure(size: Result<usize, Refusal>) -> Measured
     ensures words_value { result.words ≡ size_value size }
     ensures number_value { result.number ≡ size_number size }
 {
     match size {
-        Size::Words(words) => Measured {
+        Ok(words) => Measured {
             words: words as u64,
             number: NOT_REFUSED,
         },
-        Size::Refused(r) => Measured {
+        Err(r) => Measured {
             words: 0,
             number: number_of(r),
         },
@@ -64,18 +64,18 @@ fn measure(size: Size) -> Measured
 }
 
 // A reply, in numbers.
-pub fn tell(reply: Reply) -> ReplyNumbers
+pub fn tell(reply: Result<Answer, Refusal>) -> ReplyNumbers
     ensures number_value { result.number ≡ reply_number reply }
     ensures kind_value { result.kind ≡ told_kind reply }
     ensures task_value { result.task ≡ told_task reply }
 {
     match reply {
-        Reply::Accepted(a) => ReplyNumbers {
+        Ok(a) => ReplyNumbers {
             number: NOT_REFUSED,
             kind: kind_of(a),
             task: task_of(a),
         },
-        Reply::Refused(r) => ReplyNumbers {
+        Err(r) => ReplyNumbers {
             number: number_of(r),
             kind: NO_ANSWER,
             task: NO_ANSWER,

@@ -4,7 +4,7 @@ ghost use Rattle.kernel_c.specs.Promises.{ReportsC, SharesC};
 use crate::RunNumbers;
 use kernel::report_on;
 use numbers::{number_of, number_of_verdict};
-use paper::{COUNTS, Refusal, Share};
+use paper::{COUNTS, Refusal};
 use shares::share_on;
 
 // Whether a share is told.
@@ -40,10 +40,10 @@ pub extern "C" fn kernel_share(counts: &[u32], task: u16, share: &mut f64) -> u1
         return NOT_TOLD;
     }
     match share_on(counts, task) {
-        Share::Of(part) => {
+        Some(part) => {
             *share = part;
             TOLD
         }
-        Share::NoTicks => NOT_TOLD,
+        None => NOT_TOLD,
     }
 }

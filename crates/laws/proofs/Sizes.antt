@@ -1,4 +1,5 @@
 -- The largest first offset and the smallest T are reached, each by the good image of an accepted plan. Proved by computation. Assumes nothing.
+use Rattle.std.specs.Prelude.{Ok}
 use mathlib.Core.Path.{◌≡◌, refl}
 use mathlib.Core.List.{List, [], ◌∷◌}
 use Prim.Native.Nat.{ℕ, zero, suc}
@@ -8,7 +9,6 @@ use Rattle.paper.specs.Plans.{plan_shape, fresh}
 use Rattle.paper.specs.Tests.{every}
 use Rattle.paper.specs.Numbers.{out_of_range, plan_broken, check_plan}
 use Rattle.paper.specs.declared.Part.{Part}
-use Rattle.paper.specs.declared.Verdict.{Verdict}
 use Rattle.laws.specs.Fresh.{fresh_good}
 
 -- so many segments of one word, without a program
@@ -29,11 +29,11 @@ pub record Reached : Type 0 where
   pub words : total (plan_shape smallest) ≡ 54
   pub words_good : Good (plan_shape smallest) (fresh smallest)
 
-largest_taken : check_plan largest ≡ Verdict.Fine
+largest_taken : check_plan largest ≡ Ok tt
 unfolding check_plan out_of_range plan_broken plan_shape every total
 largest_taken = refl
 
-smallest_taken : check_plan smallest ≡ Verdict.Fine
+smallest_taken : check_plan smallest ≡ Ok tt
 unfolding check_plan out_of_range plan_broken plan_shape every total
 smallest_taken = refl
 

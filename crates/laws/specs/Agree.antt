@@ -1,5 +1,5 @@
 -- An order stands on its task's own words alone: what they say it does, and what it makes of them. Assumes nothing.
-use Rattle.std.specs.Prelude.{◌≡◌, refl, List, not, ◌≢◌, ℕ, ◌-◌, ◌<◌, T, eqb, get_or}
+use Rattle.std.specs.Prelude.{◌≡◌, refl, List, not, ◌≢◌, ℕ, ◌-◌, ◌<◌, T, eqb, get_or, Result}
 use Rattle.std.proofs.Common.{sym, ◌∙◌, inl, inr, arith, T_not}
 use Rattle.std.proofs.Math.Path.{ap}
 use Rattle.paper.specs.Image.{place_at, ord, cell, Valid, place, at, put, clock, reg, base, len}
@@ -10,11 +10,11 @@ use Rattle.paper.specs.declared.Task.{Task}
 use Rattle.paper.specs.declared.Shape.{Shape}
 use Rattle.paper.specs.declared.Cell.{Cell}
 use Rattle.paper.specs.declared.Part.{Part}
-use Rattle.paper.specs.declared.Effect.{Effect}
 use Rattle.own.specs.Machines.{Fits, OwnPlace, machine_fits, after_fits, machine_put, machine_same, machine_elsewhere, put_set}
 use Rattle.laws.specs.Cells.{at_other}
 use Rattle.laws.specs.Segments.{segment_cell, segment_valid, segment_place, segments_apart}
 use Rattle.laws.specs.Orders.{OwnCell, not_own, lies_apart, own_cell, keeps_own}
+use Rattle.paper.specs.declared.Change.{Change}
 
 -- where a task's words lie is what the segment table says
 abbrev lying : ℕ → ℕ → ℕ → Lies
@@ -57,7 +57,7 @@ pub order_agrees : (s : Shape) (im im' : List ℕ) (i : Task) → own s im i ≡
 order_agrees s im im' i e = ap decided e
 
 module _ (s : Shape) (im : List ℕ) (i : Task) (hi : i.0 < s.n) (laid : Laid s im) where
-  fits_after : (e : Effect) → Fits (lies s im i) (after (own s im i) e)
+  fits_after : (e : Result (ℕ × Change) ℕ) → Fits (lies s im i) (after (own s im i) e)
   fits_after e = after_fits (lies s im i) (own s im i) (machine_fits (lies s im i) im) e
 
   -- a machine put back lies where it lay, is the task's own, and takes the place of one put back before
@@ -73,7 +73,7 @@ module _ (s : Shape) (im : List ℕ) (i : Task) (hi : i.0 < s.n) (laid : Laid s 
         ap (λ (g : Lies). machine g (with_own s im i m)) lies_with ∙ machine_put (lies s im i) im m fits (lies_apart s im i hi laid)
 
   -- so after an order the task's own words are those of its machine after it
-  pub own_after : (e : Effect) → own s (after_order s im i e) i ≡ after (own s im i) e
+  pub own_after : (e : Result (ℕ × Change) ℕ) → own s (after_order s im i e) i ≡ after (own s im i) e
   own_after e = own_with (after (own s im i) e) (fits_after e)
 
   -- a cell that is not the task's own, nor of the segment table, may be written before an order or after it
@@ -97,7 +97,7 @@ module _ (s : Shape) (im : List ℕ) (i : Task) (hi : i.0 < s.n) (laid : Laid s 
     with_own_put m fits =
         ap (λ (g : Lies). put_back g (put s im c v) m) lies_put ∙ put_set (lies s im i) im m fits (place s c).0 v elsewhere
 
-    pub after_put : (e : Effect) → after_order s (put s im c v) i e ≡ put s (after_order s im i e) c v
+    pub after_put : (e : Result (ℕ × Change) ℕ) → after_order s (put s im c v) i e ≡ put s (after_order s im i e) c v
     after_put e =
         ap (λ (m : Machine). with_own s (put s im c v) i (after m e)) own_put ∙ with_own_put (after (own s im i) e) (fits_after e)
 
@@ -105,11 +105,11 @@ module _ (s : Shape) (im : List ℕ) (i : Task) (hi : i.0 < s.n) (laid : Laid s 
   pub own_clock : (v : ℕ) → own s (put s im clock v) i ≡ own s im i
   own_clock v = own_put clock v (omega arith, omega arith) (not_own s im i clock tt tt) tt
 
-  pub after_clock : (v : ℕ) (e : Effect) → after_order s (put s im clock v) i e ≡ put s (after_order s im i e) clock v
+  pub after_clock : (v : ℕ) (e : Result (ℕ × Change) ℕ) → after_order s (put s im clock v) i e ≡ put s (after_order s im i e) clock v
   after_clock v e = after_put clock v (omega arith, omega arith) (not_own s im i clock tt tt) tt e
 
 -- images that agree on a task's own words agree on them after an order
 pub after_agrees : (s : Shape) (im im' : List ℕ) (i : Task) → i.0 < s.n → Laid s im → Laid s im' → own s im i ≡ own s im' i
-    → (e : Effect) → own s (after_order s im i e) i ≡ own s (after_order s im' i e) i
+    → (e : Result (ℕ × Change) ℕ) → own s (after_order s im i e) i ≡ own s (after_order s im' i e) i
 after_agrees s im im' i hi laid laid' same e =
     own_after s im i hi laid e ∙ ap (λ (m : Machine). after m e) same ∙ sym (own_after s im' i hi laid' e)

@@ -1,5 +1,5 @@
 -- Which cells each change of the paper touches: a status, leaving, waking, printing, and the word of a service. Assumes nothing.
-use Rattle.std.specs.Prelude.{◌≡◌, refl, List, Bool, true, false, ◌||◌, ℕ, ◌<◌, ◌≤◌, eqb, leb, ltb}
+use Rattle.std.specs.Prelude.{◌≡◌, refl, List, Bool, true, false, ◌||◌, ℕ, ◌<◌, ◌≤◌, eqb, leb, ltb, None, Some}
 use native.Mathlib.Omega.{arith}
 use Rattle.std.proofs.Common.{leb-false}
 use Rattle.std.proofs.Math.ListN.{length}
@@ -15,7 +15,6 @@ use Rattle.paper.specs.declared.Cell.{Cell}
 use Rattle.paper.specs.declared.Part.{Part}
 use Rattle.paper.specs.declared.Queue.{Queue}
 use Rattle.paper.specs.declared.Service.{Service}
-use Rattle.paper.specs.declared.Fault.{Fault}
 use Rattle.laws.specs.Cases.{when}
 use Rattle.laws.specs.Cells.{cells}
 use Rattle.laws.specs.Sound.{Sound, sound, has_space, put_sound, appended_sound}
@@ -62,27 +61,27 @@ module _ (s : Shape) (im : List ℕ) (i : Task) (hi : i.0 < s.n) (h : Sound s im
       search cells
 
 -- no error was found
-pub error_none : (b : Bool) (e : ℕ) → error_if b e ≡ Fault.Nothing → b ≡ false
+pub error_none : (b : Bool) (e : ℕ) → error_if b e ≡ None → b ≡ false
 error_none true e f = absurd (let z : ◌≡◌ {A = ℕ} 0 1 = cc in omega arith)
 error_none false e f = refl
 
 module _ (s : Shape) (im : List ℕ) (i : Task) where
   -- the errors of services are errors, and small
-  pub small_error : (v : Service) (e : ℕ) → fault_of s im i v ≡ Fault.Error e → (1 ≤ e) × (e ≤ 6)
+  pub small_error : (v : Service) (e : ℕ) → fault_of s im i v ≡ Some e → (1 ≤ e) × (e ≤ 6)
   small_error v e f = go v f
     where
-      pick : (b : Bool) (x : ℕ) → (1 ≤ x) × (x ≤ 6) → error_if b x ≡ Fault.Error e → (1 ≤ e) × (e ≤ 6)
+      pick : (b : Bool) (x : ℕ) → (1 ≤ x) × (x ≤ 6) → error_if b x ≡ Some e → (1 ≤ e) × (e ≤ 6)
       pick true x l z = let y : x ≡ e = cc in rw (← y) l
       pick false x l z = absurd (let y : ◌≡◌ {A = ℕ} 0 1 = cc in omega arith)
 
-      go : (v : Service) → fault_of s im i v ≡ Fault.Error e → (1 ≤ e) × (e ≤ 6)
+      go : (v : Service) → fault_of s im i v ≡ Some e → (1 ≤ e) × (e ≤ 6)
       go Service.Send f = pick (leb s.n (at s im (reg i 2))) 5 (omega arith, omega arith) f
       go Service.Receive f = pick (leb s.n (at s im (reg i 2))) 5 (omega arith, omega arith) f
       go Service.Input f = absurd (let y : ◌≡◌ {A = ℕ} 0 1 = cc in omega arith)
       go Service.Output f = pick (ltb most_character (at s im (reg i 3))) 6 (omega arith, omega arith) f
 
   -- a service that is not wrong has a buffer of this image
-  pub buffer_has : i.0 < s.n → (v : Service) → fault_of s im i v ≡ Fault.Nothing → Has s (buffer s im i v)
+  pub buffer_has : i.0 < s.n → (v : Service) → fault_of s im i v ≡ None → Has s (buffer s im i v)
   buffer_has hi Service.Send right = (hi, leb-false s.n _ (error_none _ 5 right))
   buffer_has hi Service.Receive right = (leb-false s.n _ (error_none _ 5 right), hi)
   buffer_has hi Service.Input right = hi
@@ -136,7 +135,7 @@ module _ {s : Shape} {E : Cell → Type 0} {im m : List ℕ} (k : Frame s E im m
       let sent = frame_appended k (Queue.Output i) hi h (λ r. e _ refl) v in
       when (Frame s E im) (eqb (at s (appended s m (Queue.Output i) v) (busy i)) 0) (λ _. frame_printing sent (out_sound s m i hi h v clear) i hi (λ r. e _ refl) (λ r. e _ refl)) (λ _. sent)
 
-  pub frame_moved : (v : Service) → fault_of s m i v ≡ Fault.Nothing → blocked s m i v ≡ false → Frame s E im (moved s m i v)
+  pub frame_moved : (v : Service) → fault_of s m i v ≡ None → blocked s m i v ≡ false → Frame s E im (moved s m i v)
   frame_moved Service.Send right clear =
       frame_appended k (Queue.Message i (other s m i)) (buffer_has s m i hi Service.Send right) h (λ r. e _ refl) (given s m i)
   frame_moved Service.Receive right clear =
@@ -144,6 +143,6 @@ module _ {s : Shape} {E : Cell → Type 0} {im m : List ℕ} (k : Frame s E im m
   frame_moved Service.Input right clear = frame_delivered (Queue.Input i) hi refl
   frame_moved Service.Output right clear = frame_output (given s m i) clear
 
-  pub frame_served : (v : Service) → fault_of s m i v ≡ Fault.Nothing → blocked s m i v ≡ false → Frame s E im (served s m i v)
+  pub frame_served : (v : Service) → fault_of s m i v ≡ None → blocked s m i v ≡ false → Frame s E im (served s m i v)
   unfolding served
   frame_served v right clear = frame_put (frame_moved v right clear) (flags i) _ (hi, omega arith) (own 8)

@@ -1,5 +1,5 @@
 -- The check passes the images that obey the rules, and no other: each computed test says what its rule says. Assumes nothing.
-use Rattle.std.specs.Prelude.{◌≡◌, refl, List, [], ◌∷◌, Bool, true, false, not, cond, ◌&&◌, ◌||◌, ◌≢◌, ◌↔◌, ℕ, zero, suc, ◌+◌, ◌<◌, ◌≤◌, eqb, leb, length, get_or}
+use Rattle.std.specs.Prelude.{◌≡◌, refl, List, [], ◌∷◌, Bool, true, false, not, cond, ◌&&◌, ◌||◌, ◌≢◌, ◌↔◌, ℕ, zero, suc, ◌+◌, ◌<◌, ◌≤◌, eqb, leb, length, get_or, Err, Ok, Result, ⊤}
 use Rattle.std.proofs.Common.{sym, ap, ◌∙◌, true≢false, arith, ltb-false, le-ltb, leb-true, le-leb, eqb-true, eq-eqb, ne_eqb, lit<, ext_get_or}
 use Rattle.std.proofs.Math.Bool.{So, and-eq-true_iff}
 use Rattle.std.proofs.lemmas.Bool.{false≢true}
@@ -15,7 +15,6 @@ use Rattle.paper.specs.declared.Task.{Task}
 use Rattle.paper.specs.declared.Shape.{Shape}
 use Rattle.paper.specs.declared.Queue.{Queue}
 use Rattle.paper.specs.declared.Refusal.{Refusal}
-use Rattle.paper.specs.declared.Verdict.{Verdict}
 use Rattle.laws.specs.Layout.{shape_is, smallest_total}
 use Rattle.laws.specs.Steps.{steps}
 use Rattle.laws.specs.Sound.{Sound, shut}
@@ -305,12 +304,12 @@ laid_is im =
     )
 
 -- one test of several in their order
-pub passed : (b : Bool) (r : Refusal) (v : Verdict) → (refused_if b r v ≡ Verdict.Fine) ↔ ((b ≡ false) × (v ≡ Verdict.Fine))
+pub passed : (b : Bool) (r : Refusal) (v : Result ⊤ Refusal) → (refused_if b r v ≡ Ok tt) ↔ ((b ≡ false) × (v ≡ Ok tt))
 passed true r v = (λ e. absurd (let z : ◌≡◌ {A = ℕ} 0 1 = cc in omega arith), λ h. absurd (true≢false h.0))
 passed false r v = (λ e. (refl, e), λ h. h.1)
 
 -- the check passes the images that are good, in the shape that their header gives, and no other
-check_is : (im : List ℕ) → (check im ≡ Verdict.Fine) ↔ Good (shape_of im) im
+check_is : (im : List ℕ) → (check im ≡ Ok tt) ↔ Good (shape_of im) im
 unfolding check
 check_is im =
     let rules = rules_are (shape_of im) im in
@@ -324,11 +323,11 @@ check_is im =
     )
 
 -- what the check passes is good
-pub checked_good : (im : List ℕ) → check im ≡ Verdict.Fine → Good (shape_of im) im
+pub checked_good : (im : List ℕ) → check im ≡ Ok tt → Good (shape_of im) im
 checked_good im e = (check_is im).0 e
 
 -- and what is good, in whatever shape, the check passes
-pub good_checked : (s : Shape) (im : List ℕ) → Good s im → check im ≡ Verdict.Fine
+pub good_checked : (s : Shape) (im : List ℕ) → Good s im → check im ≡ Ok tt
 good_checked s im g = (check_is im).1 (rw (shape_is s im g.laid) g)
 
 -- each refusal has a number of its own, and none is 0
@@ -347,17 +346,17 @@ number_some Refusal.WrongTarget = omega arith
 number_some Refusal.CountFull = omega arith
 
 -- a refusal is not fine
-pub never_fine : (r : Refusal) → Verdict.Refused r ≡ Verdict.Fine → ⊥
+pub never_fine : (r : Refusal) → ◌≡◌ {A = Result ⊤ Refusal} (Err r) (Ok tt) → ⊥
 never_fine r e = let z : ◌≡◌ {A = ℕ} 0 1 = cc in omega arith
 
-pub zero_is : (v : Verdict) → (verdict_number v ≡ 0) ↔ (v ≡ Verdict.Fine)
-zero_is Verdict.Fine = (λ _. refl, λ _. refl)
-zero_is (Verdict.Refused r) = (λ e. absurd (omega (arith, number_some r)), λ e. absurd (never_fine r e))
+pub zero_is : (v : Result ⊤ Refusal) → (verdict_number v ≡ 0) ↔ (v ≡ Ok tt)
+zero_is (Ok tt) = (λ _. refl, λ _. refl)
+zero_is (Err r) = (λ e. absurd (omega (arith, number_some r)), λ e. absurd (never_fine r e))
 
 -- two verdicts in turn are fine where both are
-pub then_fine : (first later : Verdict) → and_then first later ≡ Verdict.Fine → (first ≡ Verdict.Fine) × (later ≡ Verdict.Fine)
-then_fine Verdict.Fine later e = (refl, e)
-then_fine (Verdict.Refused r) later e = absurd (never_fine r e)
+pub then_fine : (first later : Result ⊤ Refusal) → and_then first later ≡ Ok tt → (first ≡ Ok tt) × (later ≡ Ok tt)
+then_fine (Ok tt) later e = (refl, e)
+then_fine (Err r) later e = absurd (never_fine r e)
 
 -- the number that the check returns is 0 exactly when the image is good
 pub check_zero : (im : List ℕ) → (verdict_number (check im) ≡ 0) ↔ Good (shape_of im) im

@@ -1,5 +1,5 @@
 -- What an order does keeps to its task's own machine: a register it has, an address of its segment, flags in range. Assumes nothing.
-use Rattle.std.specs.Prelude.{◌≡◌, refl, Bool, true, false, cond, ◌&&◌, ◌≢◌, ℕ, ◌+◌, ◌<◌, ◌≤◌, eqb, leb, ltb, length}
+use Rattle.std.specs.Prelude.{◌≡◌, refl, Bool, true, false, cond, ◌&&◌, ◌≢◌, ℕ, ◌+◌, ◌<◌, ◌≤◌, eqb, leb, ltb, length, Err, None, Ok, Option, Result, Some}
 use Rattle.std.proofs.Common.{◌∙◌, ltb-true, leb-true, eq-eqb, ne_eqb}
 use Rattle.std.proofs.Math.Bool.{and-eq-true_iff}
 use native.Mathlib.Omega.{arith}
@@ -11,13 +11,11 @@ use Rattle.paper.specs.Orders.{op_of, a_of, b_of, order_of, shape_of_order, hold
 use Rattle.paper.specs.Rules.{Within}
 use Rattle.paper.specs.declared.Task.{Task}
 use Rattle.paper.specs.declared.Address.{Address}
-use Rattle.paper.specs.declared.Found.{Found}
 use Rattle.paper.specs.declared.Op.{Op}
-use Rattle.paper.specs.declared.OrderShape.{OrderShape}
 use Rattle.paper.specs.declared.Change.{Change}
-use Rattle.paper.specs.declared.Effect.{Effect}
 use Rattle.paper.specs.declared.Answer.{Answer}
 use Rattle.laws.specs.Cases.{when}
+use Rattle.paper.specs.declared.Field.{Field}
 
 -- flags that a machine may get: the error is as it was, and the rest in range where it was
 pub record FineFlags (m : Machine) (f : ℕ) : Type 0 where
@@ -38,19 +36,19 @@ OwnChange m (Change.Call top n) = Inside m top
 OwnChange m (Change.Return top w) = Unit {0}
 
 -- and an effect; shut, as contracts say it
-unfoldable pub Own : Machine → Effect → Type 0
-Own m (Effect.Does next c) = OwnChange m c
-Own m (Effect.Faults e) = Within 1 4 e
+unfoldable pub Own : Machine → Result (ℕ × Change) ℕ → Type 0
+Own m (Ok (next, c)) = OwnChange m c
+Own m (Err e) = Within 1 4 e
 
 -- an error's number
-pub own_error : (m : Machine) (e : ℕ) → Own m (Effect.Faults e) → Within 1 4 e
+pub own_error : (m : Machine) (e : ℕ) → Own m (Err e) → Within 1 4 e
 unfolding Own
 own_error m e h = h
 
 -- an order's field a as its shape allows it
-abbrev Right : OrderShape → ℕ → Type 0
-Right OrderShape.Unknown a = Unit {0}
-Right (OrderShape.Known n fa fb) a = (holds fa a ≡ true) × (serves fa a ≡ true)
+abbrev Right : Option (ℕ × Field × Field) → ℕ → Type 0
+Right None a = Unit {0}
+Right (Some (n, fa, fb)) a = (holds fa a ≡ true) × (serves fa a ≡ true)
 
 -- a compare and a service keep flags in range
 condition_range : (p q : Bool) → cond p 0 (cond q 1 2) ≤ most_cc
@@ -79,29 +77,29 @@ known_small x h = leb-true x 4 ((and-eq-true_iff (leb 1 x) (leb x 4)).0 h).1
 
 -- what each order does is its machine's own
 module _ (m : Machine) where
-  own_fault : (e : ℕ) → Within 1 4 e → Own m (Effect.Faults e)
+  own_fault : (e : ℕ) → Within 1 4 e → Own m (Err e)
   unfolding Own
   own_fault e h = h
 
-  own_change : (next : ℕ) (c : Change) → OwnChange m c → Own m (Effect.Does next c)
+  own_change : (next : ℕ) (c : Change) → OwnChange m c → Own m (Ok (next, c))
   unfolding Own
   own_change next c h = h
 
-  own_reading : (f : Found) (k : ℕ → Effect) → ((w : ℕ) → Own m (k w)) → Own m (reading f k)
-  own_reading (Found.Word w) k h = h w
-  own_reading Found.Outside k h = own_fault 1 (omega arith, omega arith)
+  own_reading : (f : Option ℕ) (k : ℕ → Result (ℕ × Change) ℕ) → ((w : ℕ) → Own m (k w)) → Own m (reading f k)
+  own_reading (Some w) k h = h w
+  own_reading None k h = own_fault 1 (omega arith, omega arith)
 
-  own_storing : (a : ℕ) (e : Effect) → (Inside m (address a) → Own m e) → Own m (storing m a e)
+  own_storing : (a : ℕ) (e : Result (ℕ × Change) ℕ) → (Inside m (address a) → Own m e) → Own m (storing m a e)
   own_storing a e h = when (Own m) (inside m a) (λ t. h (ltb-true a (length m.segment) t)) (λ _. own_fault 1 (omega arith, omega arith))
 
-  own_divided : (z : Bool) (e : Effect) → Own m e → Own m (cond z (Effect.Faults 4) e)
+  own_divided : (z : Bool) (e : Result (ℕ × Change) ℕ) → Own m e → Own m (cond z (Err 4) e)
   own_divided z e h = when (Own m) z (λ _. own_fault 4 (omega arith, omega arith)) (λ _. h)
 
   own_sets : (next a w : ℕ) → a < 8 → Own m (sets next a w)
   own_sets next a w h = own_change next (Change.Register a w) h
 
   module _ (next a x y : ℕ) where
-    own_second : (k : ℕ → Effect) → ((n : ℕ) → Own m (k n)) → Own m (second m k)
+    own_second : (k : ℕ → Result (ℕ × Change) ℕ) → ((n : ℕ) → Own m (k n)) → Own m (second m k)
     own_second k h = own_reading (found m (next_order m + 1)) k h
 
     own_result : (h : ltb a 8 ≡ true) (w : ℕ) → Own m (sets next a w)
@@ -137,10 +135,10 @@ module _ (m : Machine) where
       let next = past m n in
       own_effect next a (operand m next a) (operand m next b) (order_of op) h
 
-  own_checked : (w : ℕ) (sh : OrderShape) → shape_of_order (order_of (op_of w)) ≡ sh → Own m (checked sh m w)
+  own_checked : (w : ℕ) (sh : Option (ℕ × Field × Field)) → shape_of_order (order_of (op_of w)) ≡ sh → Own m (checked sh m w)
   unfolding checked
-  own_checked w OrderShape.Unknown e = own_fault 2 (omega arith, omega arith)
-  own_checked w (OrderShape.Known n fa fb) e =
+  own_checked w None e = own_fault 2 (omega arith, omega arith)
+  own_checked w (Some (n, fa, fb)) e =
       when (Own m) (holds fa (a_of w) && holds fb (b_of w)) (λ hp.
       when (Own m) (serves fa (a_of w)) (λ hr. own_effect_of (op_of w) n (a_of w) (b_of w) (rw e (((and-eq-true_iff _ _).0 hp).0, hr)))
       (λ _. own_fault 3 (omega arith, omega arith))) (λ _. own_fault 2 (omega arith, omega arith))
@@ -170,7 +168,7 @@ module _ (m : Machine) where
   as_they_were : FineFlags m m.flags
   as_they_were = record { error_kept = refl; cc_fine = λ h. h; pending_fine = λ h. h }
 
-  fine_after : (next : ℕ) (c : Change) → Own m (Effect.Does next c) → FineFlags m (flags_after m c)
+  fine_after : (next : ℕ) (c : Change) → Own m (Ok (next, c)) → FineFlags m (flags_after m c)
   unfolding Own
   fine_after next (Change.Register a w) h = as_they_were
   fine_after next (Change.Store a w) h = as_they_were
@@ -178,7 +176,7 @@ module _ (m : Machine) where
   fine_after next (Change.Call top n) h = as_they_were
   fine_after next (Change.Return top w) h = as_they_were
 
-  pub does_fine : (next : ℕ) (c : Change) → Own m (Effect.Does next c) → FineFlags m (changed m next c).flags
+  pub does_fine : (next : ℕ) (c : Change) → Own m (Ok (next, c)) → FineFlags m (changed m next c).flags
   does_fine next c h = rw (changed_flags m next c) (fine_after next c h)
 
   -- one that faults writes the error alone
@@ -189,10 +187,10 @@ module _ (m : Machine) where
 
   -- so after an order of a machine without an error the flags tell whether it faulted
   module _ (none : error m ≡ 0) where
-    pub calm_after : (next : ℕ) (c : Change) → decided m ≡ Effect.Does next c → error (after m (decided m)) ≡ 0
+    pub calm_after : (next : ℕ) (c : Change) → decided m ≡ Ok (next, c) → error (after m (decided m)) ≡ 0
     calm_after next c e = rw e ((does_fine next c (rw e at (order_own m))).error_kept ∙ none)
 
-    pub error_after : (e : ℕ) → decided m ≡ Effect.Faults e → error (after m (decided m)) ≢ 0
+    pub error_after : (e : ℕ) → decided m ≡ Err e → error (after m (decided m)) ≢ 0
     error_after e d z =
         let range = own_error m e (rw d at (order_own m)) in
         let is : error (faulted m e) ≡ 0 = rw d at z in
@@ -201,6 +199,6 @@ module _ (m : Machine) where
     pub answer_told : (i : Task) → order_answer i (decided m) ≡ cond (eqb (error (after m (decided m))) 0) (Answer.OrderDone i) (Answer.OrderFaulted i)
     answer_told i = go (decided m) refl
       where
-        go : (e : Effect) → decided m ≡ e → order_answer i e ≡ cond (eqb (error (after m (decided m))) 0) (Answer.OrderDone i) (Answer.OrderFaulted i)
-        go (Effect.Does next c) e = rw (eq-eqb _ 0 (calm_after next c e)) refl
-        go (Effect.Faults n) e = rw (ne_eqb _ 0 (error_after n e)) refl
+        go : (e : Result (ℕ × Change) ℕ) → decided m ≡ e → order_answer i e ≡ cond (eqb (error (after m (decided m))) 0) (Answer.OrderDone i) (Answer.OrderFaulted i)
+        go (Ok (next, c)) e = rw (eq-eqb _ 0 (calm_after next c e)) refl
+        go (Err n) e = rw (ne_eqb _ 0 (error_after n e)) refl

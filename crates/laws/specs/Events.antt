@@ -1,5 +1,5 @@
 -- What three words say: the event, told apart once; and the events and images that contracts speak of. Assumes nothing.
-use Rattle.std.specs.Prelude.{◌≡◌, List, true, false, ℕ, ◌<◌, ◌≤◌, eqb, leb, ltb}
+use Rattle.std.specs.Prelude.{◌≡◌, List, true, false, ℕ, ◌<◌, ◌≤◌, eqb, leb, ltb, Ok, Result, ⊤}
 use Rattle.std.proofs.Common.{sym, ◌∙◌, leb-true, ltb-true}
 use Rattle.paper.specs.Image.{task, most_character, shape_of}
 use Rattle.paper.specs.Events.{is_tick, is_input, is_output_done, event_of}
@@ -7,9 +7,9 @@ use Rattle.paper.specs.Numbers.{check}
 use Rattle.paper.specs.Rules.{Good}
 use Rattle.paper.specs.declared.Shape.{Shape}
 use Rattle.paper.specs.declared.Event.{Event}
-use Rattle.paper.specs.declared.Verdict.{Verdict}
 use Rattle.laws.specs.Cases.{when}
 use Rattle.laws.specs.Checked.{all_three, checked_good}
+use Rattle.paper.specs.declared.Refusal.{Refusal}
 
 -- whatever holds of the event that each test tells of, with what the test showed, holds of the event of three words
 pub words_any : (s : Shape) (k d c : ℕ) (P : Event → Type 0) → (is_tick k d c ≡ true → P Event.Tick)
@@ -47,5 +47,5 @@ pub good : {s : Shape} {im : List ℕ} → Lawful s im → Good s im
 unfolding Lawful
 good h = h
 
-pub inspected_lawful : (s : Shape) (im : List ℕ) (v : Verdict) → v ≡ check im → s ≡ shape_of im → v ≡ Verdict.Fine → Lawful s im
+pub inspected_lawful : (s : Shape) (im : List ℕ) (v : Result ⊤ Refusal) → v ≡ check im → s ≡ shape_of im → v ≡ Ok tt → Lawful s im
 inspected_lawful s im v ev es f = rw es (lawful (checked_good im (sym ev ∙ f)))

@@ -1,5 +1,5 @@
 -- The image that a right plan builds: what each of its cells holds, and that it obeys all rules. Assumes nothing.
-use Rattle.std.specs.Prelude.{◌≡◌, List, [], ◌∷◌, Bool, true, false, ◌||◌, ◌↔◌, ℕ, zero, suc, ◌+◌, ◌-◌, ◌*◌, ◌%◌, ◌<◌, ◌≤◌, ltb, length, get_or, take, drop, replicate}
+use Rattle.std.specs.Prelude.{◌≡◌, List, [], ◌∷◌, Bool, true, false, ◌||◌, ◌↔◌, ℕ, zero, suc, ◌+◌, ◌-◌, ◌*◌, ◌%◌, ◌<◌, ◌≤◌, ltb, length, get_or, take, drop, replicate, Ok}
 use Rattle.std.proofs.Math.Path.{refl, sym}
 use Rattle.std.proofs.Common.{ap, ◌∙◌, true≢false, le_refl, zero-add, arith, ltb-false, le-ltb, length-append, length-drop, length-take-le, get_or-append-add, get_or-take}
 use Rattle.std.proofs.Math.Bool.{and-eq-true_iff}
@@ -18,7 +18,6 @@ use Rattle.paper.specs.declared.Task.{Task}
 use Rattle.paper.specs.declared.Shape.{Shape}
 use Rattle.paper.specs.declared.Part.{Part}
 use Rattle.paper.specs.declared.Queue.{Queue}
-use Rattle.paper.specs.declared.Verdict.{Verdict}
 use Rattle.laws.specs.Places.{part_at, ord_below, row_below}
 use Rattle.laws.specs.Cells.{at_header}
 use Rattle.laws.specs.Layout.{total_is}
@@ -47,7 +46,7 @@ neither true b = (λ e. absurd (true≢false e), λ h. absurd (true≢false h.0)
 neither false b = (λ e. (refl, e), λ h. h.1)
 
 -- the plans that pass are the right ones, and no other
-planned_is : (plan : List ℕ) → (check_plan plan ≡ Verdict.Fine) ↔ Planned plan
+planned_is : (plan : List ℕ) → (check_plan plan ≡ Ok tt) ↔ Planned plan
 unfolding check_plan plan_broken plan_shape
 planned_is plan =
     simp (passed, neither, no_fault, not_below, ranged_is, every_is, and-eq-true_iff, equal, at_most) (
@@ -59,10 +58,10 @@ planned_is plan =
     )
 
 -- what passing gives, and what gives it
-pub planned : (plan : List ℕ) → check_plan plan ≡ Verdict.Fine → Planned plan
+pub planned : (plan : List ℕ) → check_plan plan ≡ Ok tt → Planned plan
 planned plan e = (planned_is plan).0 e
 
-pub planned_back : (plan : List ℕ) → Planned plan → check_plan plan ≡ Verdict.Fine
+pub planned_back : (plan : List ℕ) → Planned plan → check_plan plan ≡ Ok tt
 planned_back plan r = (planned_is plan).1 r
 
 -- a fresh queue has four words and its slots
@@ -92,7 +91,7 @@ fresh_counts s fit (Queue.Output i) = none_counts _ fit.outputs.0
 fresh_counts s fit (Queue.Message i j) = none_counts _ fit.messages.0
 
 -- the image of a plan that passes
-module _ (plan : List ℕ) (fine : check_plan plan ≡ Verdict.Fine) where
+module _ (plan : List ℕ) (fine : check_plan plan ≡ Ok tt) where
   -- a segment is as long as its pair says
   pub segment_long : (k : ℕ) → k < plan_tasks plan → length (fresh_segment plan k) ≡ segment_length plan k
   segment_long k h =
@@ -299,5 +298,5 @@ module _ (plan : List ℕ) (fine : check_plan plan ≡ Verdict.Fine) where
       }
 
   -- and so passes the check
-  pub fresh_checked : check (fresh plan) ≡ Verdict.Fine
+  pub fresh_checked : check (fresh plan) ≡ Ok tt
   fresh_checked = good_checked (plan_shape plan) (fresh plan) fresh_good

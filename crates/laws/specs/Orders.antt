@@ -1,5 +1,5 @@
 -- After an order every cell but its task's own is as it was, and its flags are in range. Assumes nothing.
-use Rattle.std.specs.Prelude.{◌≡◌, List, not, ◌≢◌, ◌⊎◌, ℕ, ◌+◌, ◌-◌, ◌<◌, ◌≤◌, T, eqb, length}
+use Rattle.std.specs.Prelude.{◌≡◌, List, not, ◌≢◌, ◌⊎◌, ℕ, ◌+◌, ◌-◌, ◌<◌, ◌≤◌, T, eqb, length, Err, Ok, Result}
 use Rattle.std.proofs.Common.{sym, ◌∙◌, arith, T_not}
 use Rattle.std.proofs.Math.Path.{ap}
 use Rattle.std.proofs.Math.Logic.{inl, inr}
@@ -13,7 +13,6 @@ use Rattle.paper.specs.declared.Task.{Task}
 use Rattle.paper.specs.declared.Shape.{Shape}
 use Rattle.paper.specs.declared.Cell.{Cell}
 use Rattle.paper.specs.declared.Part.{Part}
-use Rattle.paper.specs.declared.Effect.{Effect}
 use Rattle.own.specs.Machines.{RowBeforeSegment, Fits, OwnPlace, machine_fits, machine_flags, length_put_back, after_fits, machine_put, put_elsewhere}
 use Rattle.laws.specs.Places.{one_cell}
 use Rattle.laws.specs.Cells.{at_other}
@@ -22,6 +21,7 @@ use Rattle.laws.specs.Segments.{segment_cell, InSegment, segment_from, segment_u
 use Rattle.laws.specs.Sound.{Sound, sound, fixed}
 use Rattle.laws.specs.Frame.{Frame, frame_sound}
 use Rattle.laws.specs.Effects.{Own, own_error, order_own, does_fine, faulted_flags}
+use Rattle.paper.specs.declared.Change.{Change}
 
 -- a cell of task i: one of its registers, its flags, or a word of its segment
 abbrev pub OwnCell : Shape → List ℕ → Task → Cell → Type 0
@@ -59,7 +59,7 @@ module _ (s : Shape) (im : List ℕ) (i : Task) where
             others = λ c hc f. put_elsewhere (lies s im i) im m fits (place s c).0 (λ k. f (own_cell c hc k));
           }
 
-      pub effect_keeps : (e : Effect) → Keeps s im i (after_order s im i e)
+      pub effect_keeps : (e : Result (ℕ × Change) ℕ) → Keeps s im i (after_order s im i e)
       effect_keeps e = keeps_own _ (after_fits (lies s im i) (own s im i) (machine_fits (lies s im i) im) e)
 
       pub order_keeps : Keeps s im i (after_order s im i (order s im i))
@@ -115,20 +115,20 @@ flagged_of s im i x e c r p both =
 
 -- where nothing is pending and there is no error, an order leaves flags in range, and never both
 module _ (s : Shape) (im : List ℕ) (i : Task) (hi : i.0 < s.n) (h : Sound s im) (f : Flagged s im i) (calm : error s im i ≡ 0) (idle : pending s im i ≡ 0) where
-  flags_written : (e : Effect) → at s (after_order s im i e) (flags i) ≡ (after (own s im i) e).flags
+  flags_written : (e : Result (ℕ × Change) ℕ) → at s (after_order s im i e) (flags i) ≡ (after (own s im i) e).flags
   flags_written e = with_own_flags s im i hi (sound h).laid _ (after_fits (lies s im i) (own s im i) (machine_fits (lies s im i) im) e)
 
-  flagged_effect : (e : Effect) → Own (own s im i) e → Flagged s (after_order s im i e) i
-  flagged_effect (Effect.Does next c) own' =
+  flagged_effect : (e : Result (ℕ × Change) ℕ) → Own (own s im i) e → Flagged s (after_order s im i e) i
+  flagged_effect (Ok (next, c)) own' =
       let is = own_flags s im i in
       let fine = does_fine (own s im i) next c own' in
-      flagged_of s _ i _ (flags_written (Effect.Does next c)) (fine.cc_fine (rw is at f.cc_range)) (omega (arith, fine.error_kept, is, calm))
+      flagged_of s _ i _ (flags_written (Ok (next, c))) (fine.cc_fine (rw is at f.cc_range)) (omega (arith, fine.error_kept, is, calm))
       (fine.pending_fine (rw is at f.pending_range)) (λ ne. absurd (ne (fine.error_kept ∙ (rw is at calm))))
-  flagged_effect (Effect.Faults e) own' =
+  flagged_effect (Err e) own' =
       let is = own_flags s im i in
       let range = own_error (own s im i) e own' in
       let r = faulted_flags (own s im i) e (omega (arith, range)) in
-      flagged_of s _ i _ (flags_written (Effect.Faults e)) (rw r.0 (rw is at f.cc_range)) (omega (arith, r.1, range))
+      flagged_of s _ i _ (flags_written (Err e)) (rw r.0 (rw is at f.cc_range)) (omega (arith, r.1, range))
       (rw r.2 (rw is at f.pending_range)) (λ ne. r.2 ∙ (rw is at idle))
 
   pub order_flagged : Flagged s (after_order s im i (order s im i)) i

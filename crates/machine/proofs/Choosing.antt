@@ -1,4 +1,5 @@
 -- What the functions that decide ask and answer, as laws over values. Assumes nothing.
+use Rattle.std.specs.Prelude.{Option, ℕ}
 use mathlib.Core.Path.{◌≡◌, refl, sym, ap, ◌∙◌}
 use mathlib.Core.List.{List}
 use mathlib.Core.Bool.{Bool, true, false, cond, not, ◌&&◌, ◌||◌, and-eq-true_iff, or-true, or-false}
@@ -11,7 +12,6 @@ use lib.ListN.{length, get_or, set, length-set}
 use lib.Seq.{get_or-set_same, get_or-set_other, set-set}
 use Rattle.paper.specs.Orders.{op_of, a_of, order_of, two_registers, shape_of_order, mod_word}
 use Rattle.paper.specs.declared.Op.{Op}
-use Rattle.paper.specs.declared.OrderShape.{OrderShape}
 use Rattle.order_table.specs.Entries.{kind_of_order, entry_of, kind_of, decoded}
 use Rattle.effects.specs.Parts.{Lent, reach_of, address_of, stood_at, part_ordered}
 use Rattle.machine.specs.InRow.{names_next, ends_row}
@@ -25,6 +25,7 @@ use Rattle.effects.specs.declared.PartPlace.{PartPlace}
 use Rattle.effects.specs.declared.Reach.{Reach}
 use Rattle.effects.specs.declared.Segment.{Segment}
 use Rattle.effects.specs.declared.Went.{Went}
+use Rattle.paper.specs.declared.Field.{Field}
 
 -- an order ends its row where it left an error or a service pending, or names R0
 module _ (g : Segment) (p : List ℕ) (at : Aim) (hand : InHand g p at) where
@@ -64,7 +65,7 @@ module _ (g : Segment) (p : List ℕ) (at : Aim) (hand : InHand g p at) where
 
     -- whether a field names R0 is told by the entry too
     names_read : (b : Bool) → names_next (decoded (entry_of w)) w ≡ b → names_next (shape_of_order (order_of (op_of w))) w ≡ b
-    names_read b n = sym (ap (λ (sh : OrderShape). names_next sh w) (shape_read g p at w hand fetched)) ∙ n
+    names_read b n = sym (ap (λ (sh : Option (ℕ × Field × Field)). names_next sh w) (shape_read g p at w hand fetched)) ∙ n
 
     done_after : names_next (decoded (entry_of w)) w ≡ false → (r : Went) (out : List ℕ) → Done g p at r out → After g p at r out
     unfolding After Done

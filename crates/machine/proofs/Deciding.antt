@@ -1,4 +1,5 @@
 -- What an order of the machine in a lent part is decided to do, from its first word. Assumes nothing.
+use Rattle.std.specs.Prelude.{Err, Ok, Option, Result, Some, ℕ}
 use mathlib.Core.Path.{◌≡◌, refl, sym, ap, ◌∙◌}
 use mathlib.Core.List.{List}
 use mathlib.Core.Bool.{Bool, true, false, cond, not, ◌&&◌, ◌||◌, true≢false}
@@ -15,9 +16,7 @@ use Rattle.paper.specs.Machines.{machine}
 use Rattle.paper.specs.Orders.{op_of, a_of, b_of, order_of, two_registers, shape_of_order, holds, serves, outside, bad_order, bad_service, mod_word, next_order, stack, past, operand, found, reading, second, sets, on_bits, cc, error, flags_become, calls, effect, effect_of, checked, decided}
 use Rattle.paper.specs.declared.Op.{Op}
 use Rattle.paper.specs.declared.Field.{Field}
-use Rattle.paper.specs.declared.OrderShape.{OrderShape}
 use Rattle.paper.specs.declared.Change.{Change}
-use Rattle.paper.specs.declared.Effect.{Effect}
 use Rattle.order_table.specs.Entries.{kind_of_order, entry_of, kind_of, decoded, FitsEntry}
 use Rattle.order_table.specs.Reading.{told, fields_told, misfit, only, one_of_two, not_service}
 use Rattle.effects.specs.Parts.{Lent, lies_of, reach_of, address_of, stood_at, machine_of}
@@ -37,7 +36,7 @@ module _ (g : Segment) (p : List ℕ) (at : Aim) (hand : InHand g p at) where
   next_is : next_order (machine_of g p at) ≡ address_of g at
   next_is = next_held g p at (is_lent g p at hand)
 
-  pub first_outside : (r : Reach) → r ≡ reach_of g at → r ≡ Reach.Outside → decided (machine_of g p at) ≡ Effect.Faults outside
+  pub first_outside : (r : Reach) → r ≡ reach_of g at → r ≡ Reach.Outside → decided (machine_of g p at) ≡ Err outside
   unfolding decided
   first_outside r er eo =
       let past = outside_held g p at (address_of g at) at.0 own_place (past_end g at r er eo) in
@@ -60,9 +59,9 @@ module _ (g : Segment) (p : List ℕ) (at : Aim) (hand : InHand g p at) where
     read : decoded (entry_of w) ≡ shape_of_order (order_of (op_of w))
     read = sym (ap decoded ee) ∙ es
 
-    pub bad_fields : r ≢ 0 → decided (machine_of g p at) ≡ Effect.Faults bad_order
+    pub bad_fields : r ≢ 0 → decided (machine_of g p at) ≡ Err bad_order
     bad_fields ne =
-        decided_is w h ew ∙ ap (λ (sh : OrderShape). checked sh (machine_of g p at) w) (sym read) ∙
+        decided_is w h ew ∙ ap (λ (sh : Option (ℕ × Field × Field)). checked sh (machine_of g p at) w) (sym read) ∙
         misfit w (machine_of g p at) (λ z. ne (er ∙ ap (λ (k : ℕ). on_bits min k w) ee ∙ z))
 
     pub is_fetched : r ≡ 0 → Fetched g p at w
@@ -95,7 +94,7 @@ module _ (g : Segment) (p : List ℕ) (at : Aim) (w : ℕ) (hand : InHand g p at
   unfolding Fetched
   ordered_by =
       decided_is g p at hand w fetched.0 fetched.1 ∙
-      ap (λ (sh : OrderShape). checked sh (machine_of g p at) w) (sym shape_read)
+      ap (λ (sh : Option (ℕ × Field × Field)). checked sh (machine_of g p at) w) (sym shape_read)
 
   past_is : (n : ℕ) → n ≤ 2 → past (machine_of g p at) n ≡ address_of g at + n
   unfolding Lent
@@ -108,7 +107,7 @@ module _ (g : Segment) (p : List ℕ) (at : Aim) (w : ℕ) (hand : InHand g p at
       (operand (machine_of g p at) (address_of g at + n) (b_of w))
 
   -- op k, of n words, with the fields fa and fb
-  module _ (k n : ℕ) (fa fb : Field) (e : op_of w ≡ k) (sh : decoded (entry_of w) ≡ OrderShape.Known n fa fb) where
+  module _ (k n : ℕ) (fa fb : Field) (e : op_of w ≡ k) (sh : decoded (entry_of w) ≡ Some (n, fa, fb)) where
     fields : (told fa (a_of w) ≡ true) × (told fb (b_of w) ≡ true)
     fields = fields_told w n fa fb sh fits
 
@@ -117,7 +116,7 @@ module _ (g : Segment) (p : List ℕ) (at : Aim) (w : ℕ) (hand : InHand g p at
       unfolding checked effect_of
       known_acts hs = rw (sh, ha, hb, hs, e, past_is n small) at ordered_by
 
-      unserved : serves fa (a_of w) ≡ false → decided (machine_of g p at) ≡ Effect.Faults bad_service
+      unserved : serves fa (a_of w) ≡ false → decided (machine_of g p at) ≡ Err bad_service
       unfolding checked
       unserved hs = rw (sh, ha, hb, hs) at ordered_by
 
@@ -172,8 +171,8 @@ module _ (g : Segment) (p : List ℕ) (at : Aim) (w : ℕ) (hand : InHand g p at
     second_place : x.0 ≡ g.from + (next_order (machine_of g p at) + 1)
     second_place = omega (arith, next_is g p at hand, is_from g p at hand)
 
-    module _ (f : ℕ → Effect) (acts : decided (machine_of g p at) ≡ second (machine_of g p at) f) where
-      second_outside : r ≡ Reach.Outside → decided (machine_of g p at) ≡ Effect.Faults outside
+    module _ (f : ℕ → Result (ℕ × Change) ℕ) (acts : decided (machine_of g p at) ≡ second (machine_of g p at) f) where
+      second_outside : r ≡ Reach.Outside → decided (machine_of g p at) ≡ Err outside
       second_outside e = rw (outside_held g p at (next_order (machine_of g p at) + 1) x.0 second_place (past_end g x r er e)) at acts
 
       second_is : (k : PartPlace) → r ≡ Reach.At k → decided (machine_of g p at) ≡ f (get_or p k.0 0)
@@ -186,7 +185,7 @@ module _ (g : Segment) (p : List ℕ) (at : Aim) (w : ℕ) (hand : InHand g p at
     load_op : op_of w ≡ 1
     load_op = only 1 refl w ek
 
-    pub load_shape : decoded (entry_of w) ≡ OrderShape.Known 2 Field.Register Field.Unused
+    pub load_shape : decoded (entry_of w) ≡ Some (2, Field.Register, Field.Unused)
     load_shape = shape_at 1 load_op
 
     load_fields : (told Field.Register (a_of w) ≡ true) × (told Field.Unused (b_of w) ≡ true)
@@ -195,7 +194,7 @@ module _ (g : Segment) (p : List ℕ) (at : Aim) (w : ℕ) (hand : InHand g p at
     loads_by : decided (machine_of g p at) ≡ second (machine_of g p at) (sets (address_of g at + 2) (a_of w))
     loads_by = known_acts 1 2 Field.Register Field.Unused load_op load_shape (omega arith) load_fields.0 load_fields.1 refl
 
-    pub load_outside : (x : Aim) (r : Reach) → x.0 ≡ at.0 + 1 → r ≡ reach_of g x → r ≡ Reach.Outside → decided (machine_of g p at) ≡ Effect.Faults outside
+    pub load_outside : (x : Aim) (r : Reach) → x.0 ≡ at.0 + 1 → r ≡ reach_of g x → r ≡ Reach.Outside → decided (machine_of g p at) ≡ Err outside
     load_outside x r ex er e = second_outside x ex r er _ loads_by e
 
     module _ (a : ℕ) (ea : a ≡ w / 16 % 8) where
@@ -207,7 +206,7 @@ module _ (g : Segment) (p : List ℕ) (at : Aim) (w : ℕ) (hand : InHand g p at
       load_acts x r k n ex er ek en = rw (loaded, en) (second_is x ex r er _ loads_by k ek)
 
   -- no register: a second word alone, or none
-  module _ (k n : ℕ) (e : op_of w ≡ k) (sh : decoded (entry_of w) ≡ OrderShape.Known n Field.Unused Field.Unused) where
+  module _ (k n : ℕ) (e : op_of w ≡ k) (sh : decoded (entry_of w) ≡ Some (n, Field.Unused, Field.Unused)) where
     unused : (told Field.Unused (a_of w) ≡ true) × (told Field.Unused (b_of w) ≡ true)
     unused = fields k n Field.Unused Field.Unused e sh
 
@@ -218,11 +217,11 @@ module _ (g : Segment) (p : List ℕ) (at : Aim) (w : ℕ) (hand : InHand g p at
     call_op : op_of w ≡ 16
     call_op = only 16 refl w ek
 
-    pub call_shape : decoded (entry_of w) ≡ OrderShape.Known 2 Field.Unused Field.Unused
+    pub call_shape : decoded (entry_of w) ≡ Some (2, Field.Unused, Field.Unused)
     call_shape = shape_at 16 call_op
 
     module _ (x : Aim) (r : Reach) (ex : x.0 ≡ at.0 + 1) (er : r ≡ reach_of g x) where
-      pub call_outside : r ≡ Reach.Outside → decided (machine_of g p at) ≡ Effect.Faults outside
+      pub call_outside : r ≡ Reach.Outside → decided (machine_of g p at) ≡ Err outside
       call_outside eo = second_outside x ex r er _ (bare_acts 16 2 call_op call_shape (omega arith)) eo
 
       pub call_acts : (n : ℕ) (k : PartPlace) → r ≡ Reach.At k → n ≡ get_or p k.0 0
@@ -233,21 +232,21 @@ module _ (g : Segment) (p : List ℕ) (at : Aim) (w : ℕ) (hand : InHand g p at
     return_op : op_of w ≡ 17
     return_op = only 17 refl w ek
 
-    pub return_shape : decoded (entry_of w) ≡ OrderShape.Known 1 Field.Unused Field.Unused
+    pub return_shape : decoded (entry_of w) ≡ Some (1, Field.Unused, Field.Unused)
     return_shape = shape_at 17 return_op
 
     module _ (v : ℕ) (ev : v ≡ get_or p 1 0) (x : Aim) (ex : x.0 ≡ g.from + v) where
-      returns_by : decided (machine_of g p at) ≡ reading (found (machine_of g p at) v) (λ n. Effect.Does (address_of g at + 1) (Change.Return (mod_word (v + 1)) n))
+      returns_by : decided (machine_of g p at) ≡ reading (found (machine_of g p at) v) (λ n. Ok (address_of g at + 1, Change.Return (mod_word (v + 1)) n))
       returns_by =
           let top : stack (machine_of g p at) ≡ v = register_held g p at 1 (omega arith) (omega arith) ∙ sym ev in
           rw top at (bare_acts 17 1 return_op return_shape (omega arith))
 
       module _ (r : Reach) (er : r ≡ reach_of g x) where
-        pub return_outside : r ≡ Reach.Outside → decided (machine_of g p at) ≡ Effect.Faults outside
+        pub return_outside : r ≡ Reach.Outside → decided (machine_of g p at) ≡ Err outside
         return_outside eo = rw (outside_held g p at v x.0 ex (past_end g x r er eo)) at returns_by
 
         pub return_acts : (k : PartPlace) (n top : ℕ) → r ≡ Reach.At k → n ≡ get_or p k.0 0 → top ≡ mod_word (v + 1)
-            → decided (machine_of g p at) ≡ Effect.Does (address_of g at + 1) (Change.Return top n)
+            → decided (machine_of g p at) ≡ Ok (address_of g at + 1, Change.Return top n)
         return_acts k n top ek en etop =
             rw (en, etop, place_is g x r er k ek) (rw (word_held g p at v x.0 ex (is_lent g p at hand) (within g x r er k ek)) at returns_by)
 
@@ -256,7 +255,7 @@ module _ (g : Segment) (p : List ℕ) (at : Aim) (w : ℕ) (hand : InHand g p at
   condition_bare = omega (arith, flags_held g p at, is_quiet g p at hand)
 
   module _ (e : op_of w ≡ 15) where
-    condition_refused : 2 < a_of w → decided (machine_of g p at) ≡ Effect.Faults bad_order
+    condition_refused : 2 < a_of w → decided (machine_of g p at) ≡ Err bad_order
     unfolding checked
     condition_refused h = rw (shape_at 15 e, lt-leb (a_of w) 2 h) at ordered_by
 
@@ -273,12 +272,12 @@ module _ (g : Segment) (p : List ℕ) (at : Aim) (w : ℕ) (hand : InHand g p at
     jump_acts : op_of w ≡ 14 → Acts 14 2
     jump_acts e = bare_acts 14 2 e (shape_at 14 e) (omega arith)
 
-    pub bad_condition : 2 < a_of w → decided (machine_of g p at) ≡ Effect.Faults bad_order
+    pub bad_condition : 2 < a_of w → decided (machine_of g p at) ≡ Err bad_order
     bad_condition h =
         either_jump (λ e. absurd (omega (arith, eqb-true (a_of w) 0 (unused 14 2 e (shape_at 14 e)).0))) (λ e. condition_refused e h)
 
     module _ (low : a_of w ≤ 2) (x : Aim) (r : Reach) (ex : x.0 ≡ at.0 + 1) (er : r ≡ reach_of g x) where
-      pub jump_outside : r ≡ Reach.Outside → decided (machine_of g p at) ≡ Effect.Faults outside
+      pub jump_outside : r ≡ Reach.Outside → decided (machine_of g p at) ≡ Err outside
       jump_outside h = either_jump (λ e. second_outside x ex r er _ (jump_acts e) h) (λ e. second_outside x ex r er _ (condition_acts e low) h)
 
       module _ (k : PartPlace) (ea : r ≡ Reach.At k) (b : Bool) (eb : b ≡ (eqb (op_of w) 14 || eqb (get_or p 8 0) (a_of w))) where
@@ -294,7 +293,7 @@ module _ (g : Segment) (p : List ℕ) (at : Aim) (w : ℕ) (hand : InHand g p at
         jump_passed z = either_jump (λ e. absurd (true≢false (sym (rw e at eb) ∙ z))) (λ e. rw z at (by_condition e))
 
   -- a service, or an unknown op
-  pub unknown_op : kind_of w ≡ kind_of_order Op.Service → op_of w ≢ 18 → decided (machine_of g p at) ≡ Effect.Faults bad_order
+  pub unknown_op : kind_of w ≡ kind_of_order Op.Service → op_of w ≢ 18 → decided (machine_of g p at) ≡ Err bad_order
   unfolding checked
   unknown_op ek ne = rw (not_service w ek ne) at ordered_by
 
@@ -302,7 +301,7 @@ module _ (g : Segment) (p : List ℕ) (at : Aim) (w : ℕ) (hand : InHand g p at
     service_field : told Field.Unused (b_of w) ≡ true
     service_field = (fields 18 1 Field.Service Field.Unused op (shape_at 18 op)).1
 
-    pub unknown_service : not t ≡ true → decided (machine_of g p at) ≡ Effect.Faults bad_service
+    pub unknown_service : not t ≡ true → decided (machine_of g p at) ≡ Err bad_service
     unknown_service h =
         unserved 18 1 Field.Service Field.Unused op (shape_at 18 op) (omega arith) refl service_field (sym et ∙ not-true t h)
 

@@ -1,8 +1,7 @@
 -- Orders in a row: the part after them, which order ends the row, and how many it has.
-use Rattle.std.specs.Prelude.{Bool, false, cond, ◌||◌, List, ℕ, zero, suc, ◌+◌, eqb, leb, get_or}
+use Rattle.std.specs.Prelude.{Bool, false, cond, ◌||◌, List, ℕ, zero, suc, ◌+◌, eqb, leb, get_or, None, Option, Some}
 use Rattle.paper.specs.Orders.{op_of, a_of, b_of, order_of, shape_of_order}
 use Rattle.paper.specs.declared.Field.{Field}
-use Rattle.paper.specs.declared.OrderShape.{OrderShape}
 use Rattle.effects.specs.Parts.{part_ordered}
 use Rattle.effects.specs.declared.Segment.{Segment}
 
@@ -18,9 +17,9 @@ is_next Field.Register r = eqb r 0
 is_next Field.Condition r = false
 is_next Field.Service r = false
 
-abbrev pub names_next : OrderShape → ℕ → Bool
-names_next OrderShape.Unknown w = false
-names_next (OrderShape.Known n fa fb) w = is_next fa (a_of w) || is_next fb (b_of w)
+abbrev pub names_next : Option (ℕ × Field × Field) → ℕ → Bool
+names_next None w = false
+names_next (Some (n, fa, fb)) w = is_next fa (a_of w) || is_next fb (b_of w)
 
 -- an order ends its row: it faults or asks for a service, or a field of it names R0
 unfoldable pub ends_row : Segment → List ℕ → Bool

@@ -4,7 +4,7 @@
 ghost use Rattle.std.specs.Prelude.{◌≡◌};
 ghost use Rattle.paper.specs.Numbers.{number, verdict_number, kind, answer_task};
 
-use paper::{Answer, NOT_REFUSED, Refusal, Verdict};
+use paper::{Answer, NOT_REFUSED, Refusal};
 
 // The paper's number of a refusal.
 pub fn number_of(r: Refusal) -> u16
@@ -27,12 +27,12 @@ pub fn number_of(r: Refusal) -> u16
 }
 
 // The paper's number of a verdict: 0 where nothing is refused.
-pub fn number_of_verdict(v: Verdict) -> u16
+pub fn number_of_verdict(v: Result<(), Refusal>) -> u16
     ensures { result ≡ verdict_number v }
 {
     match v {
-        Verdict::Fine => NOT_REFUSED,
-        Verdict::Refused(r) => number_of(r),
+        Ok(()) => NOT_REFUSED,
+        Err(r) => number_of(r),
     }
 }
 

@@ -4,10 +4,7 @@ ghost use Rattle.order_table.specs.Entries.{OrderTable};
 
 use happening::step;
 use inspect::inspect;
-use paper::{
-    Answer, CLOCK_AT, ERROR, ERROR_END, FLAGS, HIGH_BYTES, LEAD_WORDS, NO_ERROR, NOTHING_PENDING,
-    PENDING, READY_QUEUE_AT, Reply, TASK_TABLE_AT, TASK_WORDS, TICK, Verdict,
-};
+use paper::{Answer, CLOCK_AT, ERROR, ERROR_END, FLAGS, HIGH_BYTES, LEAD_WORDS, NOTHING_PENDING, NO_ERROR, PENDING, READY_QUEUE_AT, Refusal, TASK_TABLE_AT, TASK_WORDS, TICK};
 
 // A clock by which a tick is an order.
 const SOME_TIME: u16 = 1;
@@ -31,8 +28,8 @@ fn error_of(flags: u16) -> u16 {
 }
 
 // The outcome of a tick that left a task with these flags.
-fn number_of(reply: Reply, flags: u16) -> u16 {
-    let Reply::Accepted(answer) = reply else {
+fn number_of(reply: Result<Answer, Refusal>, flags: u16) -> u16 {
+    let Ok(answer) = reply else {
         return OTHER;
     };
     match answer {
@@ -92,7 +89,7 @@ fn ticked(im: &mut [u16], table: &[u16; HIGH_BYTES], at: usize) -> Outcome
 {
     let found = inspect(im);
     let verdict = found.verdict;
-    let Verdict::Fine = verdict else {
+    let Ok(()) = verdict else {
         return Outcome::Bad;
     };
     let reply = step(found.shape, im, table, TICK, 0, 0);

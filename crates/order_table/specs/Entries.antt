@@ -1,9 +1,8 @@
 -- How the table of orders writes an order as one number, and the rule of the table.
-use Rattle.std.specs.Prelude.{List, cond, ◌||◌, ◌≡◌, ℕ, ◌+◌, ◌*◌, ◌/◌, ◌%◌, ◌<◌, min, eqb, leb, get_or}
+use Rattle.std.specs.Prelude.{List, cond, ◌||◌, ◌≡◌, ℕ, ◌+◌, ◌*◌, ◌/◌, ◌%◌, ◌<◌, min, eqb, leb, get_or, None, Option, Some}
 use Rattle.paper.specs.Orders.{op_of, order_of, shape_of_order, on_bits}
 use Rattle.paper.specs.declared.Op.{Op}
 use Rattle.paper.specs.declared.Field.{Field}
-use Rattle.paper.specs.declared.OrderShape.{OrderShape}
 
 -- the kind of an order, sixteen in all: three pairs share one
 abbrev pub kind_of_order : Op → ℕ
@@ -35,9 +34,9 @@ zeros Field.Condition = 12
 zeros Field.Service = 0
 
 -- and of the low byte of an order
-abbrev pub clear_bits : OrderShape → ℕ
-clear_bits OrderShape.Unknown = 0
-clear_bits (OrderShape.Known n a b) = 16 * zeros a + zeros b
+abbrev pub clear_bits : Option (ℕ × Field × Field) → ℕ
+clear_bits None = 0
+clear_bits (Some (n, a, b)) = 16 * zeros a + zeros b
 
 -- the entry of an order: 4096 x its kind, and the bits that are 0 in its low byte
 abbrev pub encoded : Op → ℕ
@@ -57,8 +56,8 @@ words_of k = cond (eqb k 1 || leb 14 k) 2 1
 abbrev field_of : ℕ → Field
 field_of z = cond (eqb z 15) Field.Unused (cond (eqb z 8) Field.Register (cond (eqb z 12) Field.Condition Field.Service))
 
-unfoldable pub decoded : ℕ → OrderShape
-decoded e = cond (eqb e 0) OrderShape.Unknown (OrderShape.Known (words_of (e / 4096)) (field_of (e / 16 % 16)) (field_of (e % 16)))
+unfoldable pub decoded : ℕ → Option (ℕ × Field × Field)
+decoded e = cond (eqb e 0) None (Some (words_of (e / 4096), field_of (e / 16 % 16), field_of (e % 16)))
 
 -- the rule: the entry of each of the 256 high bytes is that of its order
 unfoldable pub OrderTable : List ℕ → Type 0

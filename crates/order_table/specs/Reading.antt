@@ -1,5 +1,5 @@
 -- What an entry of the table tells of a first word: its fields by their bits, and its op by the kind. Assumes nothing.
-use Rattle.std.specs.Prelude.{◌≡◌, refl, Bool, true, false, not, cond, ◌&&◌, ◌||◌, ◌≢◌, ℕ, zero, suc, ◌+◌, ◌*◌, ◌/◌, ◌%◌, ◌<◌, ◌≤◌, min, eqb, leb, ltb, length}
+use Rattle.std.specs.Prelude.{◌≡◌, refl, Bool, true, false, not, cond, ◌&&◌, ◌||◌, ◌≢◌, ℕ, zero, suc, ◌+◌, ◌*◌, ◌/◌, ◌%◌, ◌<◌, ◌≤◌, min, eqb, leb, ltb, length, Err, None, Option, Some}
 use Rattle.std.proofs.Common.{sym, ap, ◌∙◌, true≢false, zero-add, suc-add, arith, eqb-true, eq-eqb, ne_eqb, ltb-true, ltb-false, leb-true}
 use Rattle.std.proofs.Math.Bool.{So, and-eq-true_iff, or-false}
 use Rattle.std.proofs.Math.Logic.{dite}
@@ -11,8 +11,6 @@ use Rattle.paper.specs.Machines.{Machine}
 use Rattle.paper.specs.Orders.{op_of, a_of, b_of, orders, order_of, two_registers, holds, bad_order, bitwise, on_bits, checked}
 use Rattle.paper.specs.declared.Op.{Op}
 use Rattle.paper.specs.declared.Field.{Field}
-use Rattle.paper.specs.declared.OrderShape.{OrderShape}
-use Rattle.paper.specs.declared.Effect.{Effect}
 use Rattle.order_table.specs.Entries.{kind_of_order, clear_bits, encoded, entry_of, kind_of, words_of, decoded, FitsEntry}
 
 -- a test passes at each number below n
@@ -92,9 +90,9 @@ told_holds Field.Condition x e = lt-leb x 2 (omega (arith, ltb-false x 4 e))
 told_holds Field.Service x e = absurd (true≢false e)
 
 -- both fields of a low byte
-abbrev both_told : OrderShape → ℕ → Bool
-both_told OrderShape.Unknown l = true
-both_told (OrderShape.Known n fa fb) l = told fa (l / 16) && told fb (l % 16)
+abbrev both_told : Option (ℕ × Field × Field) → ℕ → Bool
+both_told None l = true
+both_told (Some (n, fa, fb)) l = told fa (l / 16) && told fb (l % 16)
 
 -- a low byte has no bit that entry e wants 0 exactly where the fields that e stands for are told
 abbrev exact : ℕ → ℕ → Bool
@@ -116,7 +114,7 @@ unfolding Exact
 exact_at w = agrees _ _ (all_below_at 256 (exact (entry_of w)) (exactly (op_of w)) (w % 256) (omega arith))
 
 -- both fields of a word that fits its entry are told
-pub fields_told : (w n : ℕ) (fa fb : Field) → decoded (entry_of w) ≡ OrderShape.Known n fa fb → FitsEntry w
+pub fields_told : (w n : ℕ) (fa fb : Field) → decoded (entry_of w) ≡ Some (n, fa, fb) → FitsEntry w
     → (told fa (a_of w) ≡ true) × (told fb (b_of w) ≡ true)
 unfolding FitsEntry
 fields_told w n fa fb e h =
@@ -132,10 +130,10 @@ and_false false b c d f g e = rw (f refl)
 and_false true b true d f g e = g e
 and_false true b false d f g e = refl
 
-refused : (sh : OrderShape) (m : Machine) (w : ℕ) → both_told sh (w % 256) ≡ false → checked sh m w ≡ Effect.Faults bad_order
+refused : (sh : Option (ℕ × Field × Field)) (m : Machine) (w : ℕ) → both_told sh (w % 256) ≡ false → checked sh m w ≡ Err bad_order
 unfolding checked
-refused OrderShape.Unknown m w e = refl
-refused (OrderShape.Known n fa fb) m w e =
+refused None m w e = refl
+refused (Some (n, fa, fb)) m w e =
     let ea : w % 256 / 16 ≡ a_of w = omega arith in
     let eb : w % 256 % 16 ≡ b_of w = omega arith in
     let no : (holds fa (a_of w) && holds fb (b_of w)) ≡ false = and_false _ _ _ _ (told_holds fa (a_of w)) (told_holds fb (b_of w)) (rw (ea, eb) at e) in
@@ -150,7 +148,7 @@ apart : (op : ℕ) → byte (encoded (order_of op) / 256) op ≡ 0
 unfolding byte
 apart op = eqb-true _ 0 (at_any (λ k o. eqb (byte (encoded o / 256) k) 0) refl (λ k. eq-eqb _ 0 (nothing_meets 8 k)) op)
 
-pub misfit : (w : ℕ) (m : Machine) → on_bits min (entry_of w) w ≢ 0 → checked (decoded (entry_of w)) m w ≡ Effect.Faults bad_order
+pub misfit : (w : ℕ) (m : Machine) → on_bits min (entry_of w) w ≢ 0 → checked (decoded (entry_of w)) m w ≡ Err bad_order
 misfit w m ne =
     let some : byte (entry_of w % 256) (w % 256) ≢ 0 = λ z. ne (in_bytes (entry_of w) w ∙ omega (arith, z, apart (op_of w))) in
     refused (decoded (entry_of w)) m w (sym (exact_at w) ∙ ne_eqb _ 0 some)
@@ -175,7 +173,7 @@ one_of_two m n t w e ne =
     eqb-true (op_of w) n (rw (ne_eqb (op_of w) m ne) at (of_kind (λ k. eqb k m || eqb k n) (kind_of_order (order_of n)) t w e))
 
 -- an op of kind 0 that is not the service is unknown
-pub not_service : (w : ℕ) → kind_of w ≡ 0 → op_of w ≢ 18 → decoded (entry_of w) ≡ OrderShape.Unknown
+pub not_service : (w : ℕ) → kind_of w ≡ 0 → op_of w ≢ 18 → decoded (entry_of w) ≡ None
 unfolding kind_of decoded
 not_service w e ne =
     let test = at_any (λ k o. eqb (encoded o) 0 || not (eqb (encoded o / 4096) 0 && not (eqb k 18))) refl (λ k. refl) (op_of w) in

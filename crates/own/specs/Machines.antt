@@ -1,5 +1,5 @@
 -- A task's own machine, read where it lies and put back there. Assumes nothing.
-use Rattle.std.specs.Prelude.{◌≡◌, refl, ◌⊎◌, ℕ, ◌+◌, ◌<◌, ◌≤◌, set}
+use Rattle.std.specs.Prelude.{◌≡◌, refl, ◌⊎◌, ℕ, ◌+◌, ◌<◌, ◌≤◌, set, Err, None, Ok, Result, Some}
 use Rattle.std.proofs.Common.{sym, ◌∙◌, inl, inr, lt-ltb, le-ltb, length-append, get_or-set_other, get_or-append-add}
 use Rattle.std.proofs.Math.Path.{ap}
 use mathlib.Core.List.{List, [], ◌∷◌, ◌++◌}
@@ -10,9 +10,7 @@ use Rattle.std.proofs.lemmas.List.{set-append_left, set_at}
 use Rattle.paper.specs.Machines.{Machine, Lies, machine, put_back, words_at, over}
 use Rattle.paper.specs.Orders.{register, found, with_register, with_flags, with_word, changed, faulted, after}
 use Rattle.paper.specs.declared.Address.{Address}
-use Rattle.paper.specs.declared.Found.{Found}
 use Rattle.paper.specs.declared.Change.{Change}
-use Rattle.paper.specs.declared.Effect.{Effect}
 use Rattle.own.specs.Spans.{length_words, length_over, get_d_words, Spanned, over_elsewhere, over_before, over_within, set_elsewhere, set_before, over_set, over_words, words_same, words_over, words_last, words_front, words_after, over_after}
 
 -- the row lies before the segment, and the segment within the words
@@ -66,11 +64,11 @@ unfolding machine
 machine_flags g l = refl
 
 -- an address of the segment, and one outside
-pub found_word : (g : Lies) (l : List ℕ) (a : ℕ) → a < g.length → found (machine g l) a ≡ Found.Word (get_or l (g.base + a) 0)
+pub found_word : (g : Lies) (l : List ℕ) (a : ℕ) → a < g.length → found (machine g l) a ≡ Some (get_or l (g.base + a) 0)
 unfolding machine found
 found_word g l a h = rw (length_words l g.base g.length, lt-ltb a g.length h, get_d_words l g.base g.length a h)
 
-pub found_outside : (g : Lies) (l : List ℕ) (a : ℕ) → g.length ≤ a → found (machine g l) a ≡ Found.Outside
+pub found_outside : (g : Lies) (l : List ℕ) (a : ℕ) → g.length ≤ a → found (machine g l) a ≡ None
 unfolding machine found
 found_outside g l a h = rw (length_words l g.base g.length, le-ltb a g.length h)
 
@@ -105,10 +103,10 @@ module _ (g : Lies) (m : Machine) (fits : Fits g m) where
   changed_fits next (Change.Return top w) =
       register_fits g (with_register (with_register m 0 next) 1 top) (register_fits g (with_register m 0 next) (moved_fits next) 1 top) 0 w
 
-  pub after_fits : (e : Effect) → Fits g (after m e)
+  pub after_fits : (e : Result (ℕ × Change) ℕ) → Fits g (after m e)
   unfolding faulted
-  after_fits (Effect.Does next c) = changed_fits next c
-  after_fits (Effect.Faults e) = flags_fits g m fits _
+  after_fits (Ok (next, c)) = changed_fits next c
+  after_fits (Err e) = flags_fits g m fits _
 
 -- a changed machine put back: that one word is written
 module _ (g : Lies) (l : List ℕ) (m : Machine) (fits : Fits g m) where

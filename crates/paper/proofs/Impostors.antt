@@ -1,5 +1,6 @@
 -- The five impostors of "Promises that only this kernel meets": on one image the outcome of each is none that the promise permits.
 -- And the order of tests: a bad image gives its own number, whatever the event and the list. Computed. Assumes nothing.
+use Rattle.std.specs.Prelude.{Err, Ok, Result}
 use mathlib.Core.Path.{◌≡◌, refl, sym, ap, ◌∙◌}
 use mathlib.Core.List.{List, [], ◌∷◌}
 use mathlib.Core.Logic.{◌≢◌}
@@ -21,7 +22,6 @@ use Rattle.paper.specs.Promises.{Happens, Runs}
 use Rattle.paper.specs.declared.Ended.{Ended}
 use Rattle.paper.specs.declared.Answer.{Answer}
 use Rattle.paper.specs.declared.Refusal.{Refusal}
-use Rattle.paper.specs.declared.Reply.{Reply}
 
 -- the fresh image of the plan of "One run in full", a tick, and a list of two
 abbrev image : List ℕ
@@ -39,7 +39,7 @@ status_word im = get_or im 32 0
 
 -- what the kernel does there: the first tick carries out an order, the second one waits for input
 record Computed : Type 0 where
-  first_reply : (event image 0 0 0).reply ≡ Reply.Accepted (Answer.OrderDone (task 0))
+  first_reply : (event image 0 0 0).reply ≡ Ok (Answer.OrderDone (task 0))
   r0_before : r0 image ≡ 0
   r0_after : r0 (event image 0 0 0).image ≡ 1
   status_after_one : status_word (event image 0 0 0).image ≡ 0
@@ -64,17 +64,17 @@ computed =
 
 pub record ShutOut : Type 0 where
   -- refuses every event
-  pub refusing : (r : Refusal) (after : List ℕ) → Happens image 0 0 0 (Reply.Refused r) after → ⊥
+  pub refusing : (r : Refusal) (after : List ℕ) → Happens image 0 0 0 (Err r) after → ⊥
   -- answers idle each time
-  pub idling : (after : List ℕ) → Happens image 0 0 0 (Reply.Accepted Answer.Idle) after → ⊥
+  pub idling : (after : List ℕ) → Happens image 0 0 0 (Ok Answer.Idle) after → ⊥
   -- leaves the image untouched
-  pub untouching : (answer : Reply) → Happens image 0 0 0 answer image → ⊥
+  pub untouching : (answer : Result Answer Refusal) → Happens image 0 0 0 answer image → ⊥
   -- carries out event 1 and merely answers for the rest
   pub starting : (answer : Ended) → Runs image two_ticks answer (event image 0 0 0).image → ⊥
   -- a run whose taken-count does not match the image
   pub miscounting : (answer : Ended) (after : List ℕ) → answer.taken ≢ 2 → Runs image two_ticks answer after → ⊥
   -- tests the image after the event
-  pub image_last : (answer : Reply) (after : List ℕ) → reply_number answer ≡ 7 → Happens [] 9 9 9 answer after → ⊥
+  pub image_last : (answer : Result Answer Refusal) (after : List ℕ) → reply_number answer ≡ 7 → Happens [] 9 9 9 answer after → ⊥
   -- tests the list's length before the image
   pub list_first : (answer : Ended) (after : List ℕ) → verdict_number answer.stop ≡ 7 → Runs [] (0 ∷ []) answer after → ⊥
 
@@ -87,7 +87,7 @@ shut_out =
     record {
       refusing = λ r after p. let z : ◌≡◌ {A = ℕ} 0 1 = never r (p.answered ∙ computed.first_reply) in omega arith;
       idling = λ after p.
-          let e : ◌≡◌ {A = ℕ} 0 6 = ap (λ (a : Reply). get_or (reply_values a) 0 9) (p.answered ∙ computed.first_reply) in
+          let e : ◌≡◌ {A = ℕ} 0 6 = ap (λ (a : Result Answer Refusal). get_or (reply_values a) 0 9) (p.answered ∙ computed.first_reply) in
           omega arith;
       untouching = λ answer p. clash 0 1 (omega arith) (r0 image) (r0 (event image 0 0 0).image) computed.r0_before computed.r0_after (ap r0 p.left);
       starting = λ answer p.
@@ -97,5 +97,5 @@ shut_out =
       list_first = λ answer after e p. clash 7 1 (omega arith) (verdict_number answer.stop) (verdict_number (run [] (0 ∷ [])).stop) e computed.bad_image_before_list p.numbered;
     }
   where
-    never : (r : Refusal) → Reply.Refused r ≡ Reply.Accepted (Answer.OrderDone (task 0)) → ◌≡◌ {A = ℕ} 0 1
+    never : (r : Refusal) → Err r ≡ Ok (Answer.OrderDone (task 0)) → ◌≡◌ {A = ℕ} 0 1
     never r e = cc

@@ -1,5 +1,6 @@
 -- The examples that the paper marks, proved together as one statement, by computation.
 -- Every expected word was worked out by hand from the paper. Assumes nothing.
+use Rattle.std.specs.Prelude.{Err, None, Ok, Result, Some}
 use mathlib.Core.Path.{◌≡◌, refl}
 use mathlib.Core.List.{List, [], ◌∷◌, ◌++◌}
 use mathlib.Core.Bool.{false}
@@ -22,20 +23,18 @@ use Rattle.paper.specs.Numbers.{number, verdict_number, kind, answer_task, out_o
 use Rattle.paper.specs.Calls.{built, event, run}
 use Rattle.paper.specs.Counts.{all_counts, grown, most_count, counted_event, Reported, report, sum, share}
 use Rattle.paper.specs.Runner.{words_of, check_file, decimal, line, printed_from, runner}
-use Rattle.paper.specs.declared.Reply.{Reply}
 use Rattle.paper.specs.declared.Refusal.{Refusal}
-use Rattle.paper.specs.declared.Verdict.{Verdict}
-use Rattle.paper.specs.declared.Share.{Share}
 use Rattle.paper.specs.declared.Queue.{Queue}
+use Rattle.paper.specs.declared.Answer.{Answer}
 
 -- what an event shows: its kind and task or, alone, the number of its refusal; and the image after it
 pub record Shown : Type 0 where
   pub line : List ℕ
   pub image : List ℕ
 
-abbrev line_of : Reply → List ℕ
-line_of (Reply.Accepted a) = kind a ∷ answer_task a ∷ []
-line_of (Reply.Refused r) = number r ∷ []
+abbrev line_of : Result Answer Refusal → List ℕ
+line_of (Ok a) = kind a ∷ answer_task a ∷ []
+line_of (Err r) = number r ∷ []
 
 abbrev shown : Outcome → Shown
 shown o = record { line = line_of o.reply; image = o.image }
@@ -165,7 +164,7 @@ full_counts = counts_of (2 ∷ 2 ∷ 1 ∷ 1 ∷ 0 ∷ 1 ∷ []) 1
 
 -- a report that took n events and was stopped by refusal r
 abbrev stopped_by : Refusal → ℕ → List ℕ → List ℕ → Reported
-stopped_by r n im counts = record { taken = n; stop = Verdict.Refused r; image = im; counts = counts }
+stopped_by r n im counts = record { taken = n; stop = Err r; image = im; counts = counts }
 
 pub record Worked : Type 0 where
   pub event_2 :
@@ -226,12 +225,12 @@ pub record Worked : Type 0 where
   -- a send to no task, 6 6 5 1: two orders, a fault, an error stop
   pub fault_counted : (report (fresh (nobody_plan 4624)) (ticks 4) no_counts).counts ≡ counts_of (2 ∷ 0 ∷ 0 ∷ 1 ∷ 1 ∷ 0 ∷ []) 0
   -- shares: 7 of 8 ticks, none of them, no such task; all of 4; 2^33 - 1 of 2^33; no ticks at all
-  pub share_of_seven : share full_counts 0 ≡ Share.Of (fin false 7 (negsuc 2))
-  pub share_of_none : share full_counts 1 ≡ Share.Of (fin false 0 (pos 0))
-  pub share_of_no_task : share full_counts 16 ≡ Share.Of (fin false 0 (pos 0))
-  pub share_of_all : share (counts_of (2 ∷ 0 ∷ 0 ∷ 1 ∷ 1 ∷ 0 ∷ []) 0) 0 ≡ Share.Of (fin false 1 (pos 0))
-  pub share_past_one_count : share (counts_of (most_count ∷ 1 ∷ most_count ∷ 0 ∷ 0 ∷ 0 ∷ []) 1) 0 ≡ Share.Of (fin false 8589934591 (negsuc 32))
-  pub share_without_ticks : share no_counts 0 ≡ Share.NoTicks
+  pub share_of_seven : share full_counts 0 ≡ Some (fin false 7 (negsuc 2))
+  pub share_of_none : share full_counts 1 ≡ Some (fin false 0 (pos 0))
+  pub share_of_no_task : share full_counts 16 ≡ Some (fin false 0 (pos 0))
+  pub share_of_all : share (counts_of (2 ∷ 0 ∷ 0 ∷ 1 ∷ 1 ∷ 0 ∷ []) 0) 0 ≡ Some (fin false 1 (pos 0))
+  pub share_past_one_count : share (counts_of (most_count ∷ 1 ∷ most_count ∷ 0 ∷ 0 ∷ 0 ∷ []) 1) 0 ≡ Some (fin false 8589934591 (negsuc 32))
+  pub share_without_ticks : share no_counts 0 ≡ None
 
 pub worked : Worked
 unfolding total shape_of place at put step appended first taken held free empty full dispatched with_status readied woken left with_woken service_faulted waiting delivered printing printing_if_idle served waits_for finished service machine put_back with_register with_flags with_word operand found effect_of checked decided changed faulted ordered event_of stopped turned spent turn_of tick input port_next output_done happening plan_shape fresh every queued cleared queue_holds buffers_hold characters readied_once readied_tasks clock_holds port_holds flags_hold status_holds task_holds rules_hold out_of_range not_packed segment_right wrong_segments check plan_broken check_plan check_build built event run grown counted_event report sum share span climb size count_trailing_zeros odd units round words_of check_file decimal line printed_from runner

@@ -1,5 +1,5 @@
 -- "Who used the machine last night" (request 4): the heading of an answer, the counts, a run that counts, a task's share.
-use Rattle.std.specs.Prelude.{List, [], ◌∷◌, Bool, false, cond, ℕ, ◌+◌, ◌*◌, eqb, ltb, get_or, set, take, drop}
+use Rattle.std.specs.Prelude.{List, [], ◌∷◌, Bool, false, cond, ℕ, ◌+◌, ◌*◌, eqb, ltb, get_or, set, take, drop, Err, Float, None, Ok, Option, Result, Some, ⊤}
 use Rattle.std.specs.Float.{binary64}
 use Rattle.std.specs.Float.Ieee.{round}
 use Rattle.paper.specs.Image.{most_tasks, shape_of}
@@ -10,11 +10,8 @@ use Rattle.paper.specs.declared.Shape.{Shape}
 use Rattle.paper.specs.declared.Event.{Event}
 use Rattle.paper.specs.declared.Answer.{Answer}
 use Rattle.paper.specs.declared.Refusal.{Refusal}
-use Rattle.paper.specs.declared.Verdict.{Verdict}
-use Rattle.paper.specs.declared.Reply.{Reply}
 use Rattle.paper.specs.declared.Heading.{Heading}
 use Rattle.paper.specs.declared.Tally.{Tally}
-use Rattle.paper.specs.declared.Share.{Share}
 
 -- the heading of an answer: faults are kinds 5 and 7 together, and an event of a device is under none
 abbrev pub tally : Answer → Tally
@@ -74,16 +71,16 @@ passes_end counts (Tally.Under i h) = at_end counts (count_place i h)
 
 -- a counted event: the reply, the image and the counts after it
 pub record Counted : Type 0 where
-  pub reply : Reply
+  pub reply : Result Answer Refusal
   pub image : List ℕ
   pub counts : List ℕ
 
 -- 17 is tested last; a refused event alters nothing
-abbrev pub counting : Reply → List ℕ → List ℕ → List ℕ → Counted
-counting (Reply.Accepted a) im after counts =
-    cond (passes_end counts (tally a)) (record { reply = Reply.Refused Refusal.CountFull; image = im; counts = counts })
-    (record { reply = Reply.Accepted a; image = after; counts = counted counts (tally a) })
-counting (Reply.Refused r) im after counts = record { reply = Reply.Refused r; image = after; counts = counts }
+abbrev pub counting : Result Answer Refusal → List ℕ → List ℕ → List ℕ → Counted
+counting (Ok a) im after counts =
+    cond (passes_end counts (tally a)) (record { reply = Err Refusal.CountFull; image = im; counts = counts })
+    (record { reply = Ok a; image = after; counts = counted counts (tally a) })
+counting (Err r) im after counts = record { reply = Err r; image = after; counts = counts }
 
 unfoldable pub counted_event : Shape → List ℕ → List ℕ → Event → Counted
 counted_event s im counts e = counting (happening s im e).reply im (happening s im e).image counts
@@ -91,33 +88,33 @@ counted_event s im counts e = counting (happening s im e).reply im (happening s 
 -- a run that counts: how many events were taken, where it stopped, the image and the counts that hold exactly those
 pub record Reported : Type 0 where
   pub taken : ℕ
-  pub stop : Verdict
+  pub stop : Result ⊤ Refusal
   pub image : List ℕ
   pub counts : List ℕ
 
-abbrev pub reported_at : Verdict → List ℕ → List ℕ → Reported
+abbrev pub reported_at : Result ⊤ Refusal → List ℕ → List ℕ → Reported
 reported_at v im counts = record { taken = 0; stop = v; image = im; counts = counts }
 
 abbrev pub one_reported : Reported → Reported
 one_reported r = record { taken = 1 + r.taken; stop = r.stop; image = r.image; counts = r.counts }
 
-abbrev pub reports_on : Reply → List ℕ → List ℕ → (List ℕ → List ℕ → Reported) → Reported
-reports_on (Reply.Accepted a) im counts later = one_reported (later im counts)
-reports_on (Reply.Refused r) im counts later = reported_at (Verdict.Refused r) im counts
+abbrev pub reports_on : Result Answer Refusal → List ℕ → List ℕ → (List ℕ → List ℕ → Reported) → Reported
+reports_on (Ok a) im counts later = one_reported (later im counts)
+reports_on (Err r) im counts later = reported_at (Err r) im counts
 
 -- counted events one after another, up to the first refused one
 abbrev pub report_from : Shape → List ℕ → List ℕ → List ℕ → Reported
-report_from s im counts [] = reported_at Verdict.Fine im counts
-report_from s im counts (k ∷ []) = reported_at (Verdict.Refused Refusal.MalformedEvent) im counts
-report_from s im counts (k ∷ d ∷ []) = reported_at (Verdict.Refused Refusal.MalformedEvent) im counts
+report_from s im counts [] = reported_at (Ok tt) im counts
+report_from s im counts (k ∷ []) = reported_at (Err Refusal.MalformedEvent) im counts
+report_from s im counts (k ∷ d ∷ []) = reported_at (Err Refusal.MalformedEvent) im counts
 report_from s im counts (k ∷ d ∷ c ∷ events) =
     let o = counted_event s im counts (event_of s k d c) in
     reports_on o.reply o.image o.counts (λ next more. report_from s next more events)
 
 -- the image and the list's length are checked first, as for a run; a refused one counts nothing
-abbrev pub report_if : Verdict → List ℕ → List ℕ → List ℕ → Reported
-report_if Verdict.Fine im events counts = report_from (shape_of im) im counts events
-report_if (Verdict.Refused r) im events counts = reported_at (Verdict.Refused r) im counts
+abbrev pub report_if : Result ⊤ Refusal → List ℕ → List ℕ → List ℕ → Reported
+report_if (Ok tt) im events counts = report_from (shape_of im) im counts events
+report_if (Err r) im events counts = reported_at (Err r) im counts
 
 unfoldable pub report : List ℕ → List ℕ → List ℕ → Reported
 report im events counts = report_if (check_run im events) im events counts
@@ -134,8 +131,8 @@ abbrev pub all_ticks : List ℕ → ℕ
 all_ticks counts = sum counts
 
 -- a task's share of all ticks: one division of the two counts, rounded once; no ticks at all is a word of its own
-abbrev pub share_of : ℕ → ℕ → Share
-share_of ticks all = cond (eqb all 0) Share.NoTicks (Share.Of (round binary64 false ticks all))
+abbrev pub share_of : ℕ → ℕ → Option Float
+share_of ticks all = cond (eqb all 0) None (Some (round binary64 false ticks all))
 
-unfoldable pub share : List ℕ → ℕ → Share
+unfoldable pub share : List ℕ → ℕ → Option Float
 share counts i = share_of (task_ticks counts i) (all_ticks counts)

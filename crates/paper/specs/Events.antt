@@ -1,5 +1,5 @@
 -- "Events": the three kinds, the tick's five rules, input and output done.
-use Rattle.std.specs.Prelude.{Bool, not, cond, ◌&&◌, List, ℕ, ◌-◌, eqb, leb, ltb}
+use Rattle.std.specs.Prelude.{Bool, not, cond, ◌&&◌, List, ℕ, ◌-◌, eqb, leb, ltb, None, Option, Result, Some}
 use Rattle.paper.specs.Image.{task, most_character, at, put, clock, status, busy, character}
 use Rattle.paper.specs.Queues.{appended, first, taken, empty, full}
 use Rattle.paper.specs.Flags.{error, pending, waits, is_stopped}
@@ -10,11 +10,10 @@ use Rattle.paper.specs.declared.Task.{Task}
 use Rattle.paper.specs.declared.Shape.{Shape}
 use Rattle.paper.specs.declared.Queue.{Queue}
 use Rattle.paper.specs.declared.Service.{Service}
-use Rattle.paper.specs.declared.Asked.{Asked}
 use Rattle.paper.specs.declared.Event.{Event}
-use Rattle.paper.specs.declared.Effect.{Effect}
 use Rattle.paper.specs.declared.Answer.{Answer}
 use Rattle.paper.specs.declared.Refusal.{Refusal}
+use Rattle.paper.specs.declared.Change.{Change}
 
 -- kind 0 is a tick, the other two words 0
 abbrev pub is_tick : ℕ → ℕ → ℕ → Bool
@@ -56,13 +55,13 @@ abbrev pub serving : Shape → List ℕ → Task → Service → Answered
 serving s im i v = service s (spent s im) i v
 
 -- rule 5: one order; the clock falls by 1, also when the order faults
-unfoldable pub ordered : Shape → List ℕ → Task → Effect → Answered
+unfoldable pub ordered : Shape → List ℕ → Task → Result (ℕ × Change) ℕ → Answered
 ordered s im i e = answered (order_answer i e) (spent s (after_order s im i e))
 
 -- rules 4 and 5
-abbrev pub acting : Shape → List ℕ → Task → Asked → Answered
-acting s im i (Asked.For v) = serving s im i v
-acting s im i Asked.Nothing = ordered s im i (order s im i)
+abbrev pub acting : Shape → List ℕ → Task → Option Service → Answered
+acting s im i (Some v) = serving s im i v
+acting s im i None = ordered s im i (order s im i)
 
 -- rules 2 to 5, of the first task
 unfoldable pub turn_of : Shape → List ℕ → Task → Answered

@@ -1,14 +1,12 @@
 -- "Numbers that come back": the refusals, their order of tests, and the answers.
-use Rattle.std.specs.Prelude.{List, [], ◌∷◌, Bool, not, cond, ◌&&◌, ◌||◌, ℕ, ◌+◌, ◌*◌, eqb, leb, ltb, length, get_or}
+use Rattle.std.specs.Prelude.{List, [], ◌∷◌, Bool, not, cond, ◌&&◌, ◌||◌, ℕ, ◌+◌, ◌*◌, eqb, leb, ltb, length, get_or, Err, Ok, Result, ⊤}
 use Rattle.paper.specs.Image.{header_words, mark, edition, most_tasks, most_slice, most_capacity, most_words, offsets, total, header_word, shape_of, segment_start, at, base, len}
 use Rattle.paper.specs.Plans.{plan_tasks, segment_length, program_length, program_start, plan_shape}
 use Rattle.paper.specs.Tests.{every, every_task, rules_hold}
 use Rattle.paper.specs.declared.Task.{Task}
 use Rattle.paper.specs.declared.Shape.{Shape}
 use Rattle.paper.specs.declared.Refusal.{Refusal}
-use Rattle.paper.specs.declared.Verdict.{Verdict}
 use Rattle.paper.specs.declared.Answer.{Answer}
-use Rattle.paper.specs.declared.Reply.{Reply}
 
 -- the number of each refusal
 abbrev pub number : Refusal → ℕ
@@ -26,17 +24,17 @@ number Refusal.WrongTarget = 12
 number Refusal.CountFull = 17
 
 -- a check or a build that succeeds returns 0
-abbrev pub verdict_number : Verdict → ℕ
-verdict_number Verdict.Fine = 0
-verdict_number (Verdict.Refused r) = number r
+abbrev pub verdict_number : Result ⊤ Refusal → ℕ
+verdict_number (Ok tt) = 0
+verdict_number (Err r) = number r
 
 -- a test in its order: refused where it shows a fault, else what the later tests say
-abbrev pub refused_if : Bool → Refusal → Verdict → Verdict
-refused_if b r later = cond b (Verdict.Refused r) later
+abbrev pub refused_if : Bool → Refusal → Result ⊤ Refusal → Result ⊤ Refusal
+refused_if b r later = cond b (Err r) later
 
-abbrev pub and_then : Verdict → Verdict → Verdict
-and_then Verdict.Fine later = later
-and_then (Verdict.Refused r) later = Verdict.Refused r
+abbrev pub and_then : Result ⊤ Refusal → Result ⊤ Refusal → Result ⊤ Refusal
+and_then (Ok tt) later = later
+and_then (Err r) later = Err r
 
 -- 1: image under 18 words
 abbrev pub too_short : List ℕ → Bool
@@ -69,14 +67,14 @@ wrong_segments s im =
     every_task s (segment_right s im) && eqb (segment_start s im s.n) (total s))
 
 -- 6: another rule of the image is broken. Images are tested 1 to 6
-unfoldable pub check : List ℕ → Verdict
+unfoldable pub check : List ℕ → Result ⊤ Refusal
 check im =
     refused_if (too_short im) Refusal.TooShort
     (refused_if (not_marked im) Refusal.NotMarked
     (refused_if (out_of_range (shape_of im)) Refusal.OutOfRange
     (refused_if (not_packed (shape_of im)) Refusal.NotPacked
     (refused_if (wrong_segments (shape_of im) im) Refusal.WrongSegments
-    (refused_if (not (rules_hold (shape_of im) im)) Refusal.RuleBroken Verdict.Fine)))))
+    (refused_if (not (rules_hold (shape_of im) im)) Refusal.RuleBroken (Ok tt))))))
 
 -- 11: plan under 5 words
 abbrev pub plan_short : List ℕ → Bool
@@ -92,17 +90,17 @@ plan_broken plan =
     not (eqb (length plan) (program_start plan (plan_tasks plan))) || ltb most_words (total (plan_shape plan))
 
 -- a plan: under 5 words (11), then 3, then the rest of 11
-unfoldable pub check_plan : List ℕ → Verdict
+unfoldable pub check_plan : List ℕ → Result ⊤ Refusal
 check_plan plan =
     refused_if (plan_short plan) Refusal.BadPlan
     (refused_if (out_of_range (plan_shape plan)) Refusal.OutOfRange
-    (refused_if (plan_broken plan) Refusal.BadPlan Verdict.Fine))
+    (refused_if (plan_broken plan) Refusal.BadPlan (Ok tt)))
 
 -- 12: target is not T words; tested last
-unfoldable pub check_build : List ℕ → List ℕ → Verdict
+unfoldable pub check_build : List ℕ → List ℕ → Result ⊤ Refusal
 check_build plan target =
     and_then (check_plan plan)
-    (refused_if (not (eqb (length target) (total (plan_shape plan)))) Refusal.WrongTarget Verdict.Fine)
+    (refused_if (not (eqb (length target) (total (plan_shape plan)))) Refusal.WrongTarget (Ok tt))
 
 -- an accepted event answers (kind, task)
 abbrev pub kind : Answer → ℕ
@@ -131,10 +129,10 @@ answer_task (Answer.Input i) = i.0
 answer_task (Answer.OutputDone i) = i.0
 
 -- an event returns 0 and these two values, or the number of its refusal alone
-abbrev pub reply_number : Reply → ℕ
-reply_number (Reply.Accepted a) = 0
-reply_number (Reply.Refused r) = number r
+abbrev pub reply_number : Result Answer Refusal → ℕ
+reply_number (Ok a) = 0
+reply_number (Err r) = number r
 
-abbrev pub reply_values : Reply → List ℕ
-reply_values (Reply.Accepted a) = kind a ∷ answer_task a ∷ []
-reply_values (Reply.Refused r) = []
+abbrev pub reply_values : Result Answer Refusal → List ℕ
+reply_values (Ok a) = kind a ∷ answer_task a ∷ []
+reply_values (Err r) = []

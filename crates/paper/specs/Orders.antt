@@ -1,5 +1,5 @@
 -- "Order code": one order of a task's own machine, and of a task of an image.
-use Rattle.std.specs.Prelude.{Bool, true, cond, ◌&&◌, List, [], ◌∷◌, ℕ, zero, suc, ◌+◌, ◌-◌, ◌*◌, ◌/◌, ◌%◌, min, max, eqb, leb, ltb, length, get_or, set}
+use Rattle.std.specs.Prelude.{Bool, true, cond, ◌&&◌, List, [], ◌∷◌, ℕ, zero, suc, ◌+◌, ◌-◌, ◌*◌, ◌/◌, ◌%◌, min, max, eqb, leb, ltb, length, get_or, set, Err, None, Ok, Option, Result, Some}
 use Rattle.paper.specs.Image.{address}
 use Rattle.paper.specs.Flags.{flags_of, cc_of, error_of, pending_of, most_cc}
 use Rattle.paper.specs.Machines.{Machine, own, with_own}
@@ -9,10 +9,7 @@ use Rattle.paper.specs.declared.Address.{Address}
 use Rattle.paper.specs.declared.Shape.{Shape}
 use Rattle.paper.specs.declared.Op.{Op}
 use Rattle.paper.specs.declared.Field.{Field}
-use Rattle.paper.specs.declared.OrderShape.{OrderShape}
-use Rattle.paper.specs.declared.Found.{Found}
 use Rattle.paper.specs.declared.Change.{Change}
-use Rattle.paper.specs.declared.Effect.{Effect}
 use Rattle.paper.specs.declared.Answer.{Answer}
 
 -- first word: op = word / 256, a = word / 16 mod 16, b = word mod 16
@@ -35,12 +32,12 @@ abbrev pub order_of : ℕ → Op
 order_of k = get_or orders k Op.Unknown
 
 -- the shape of an order: count of words, and what the fields a and b hold
-abbrev pub two_registers : OrderShape
-two_registers = OrderShape.Known 1 Field.Register Field.Register
+abbrev pub two_registers : Option (ℕ × Field × Field)
+two_registers = Some (1, Field.Register, Field.Register)
 
-abbrev pub shape_of_order : Op → OrderShape
-shape_of_order Op.Unknown = OrderShape.Unknown
-shape_of_order Op.Load = OrderShape.Known 2 Field.Register Field.Unused
+abbrev pub shape_of_order : Op → Option (ℕ × Field × Field)
+shape_of_order Op.Unknown = None
+shape_of_order Op.Load = Some (2, Field.Register, Field.Unused)
 shape_of_order Op.Copy = two_registers
 shape_of_order Op.Fetch = two_registers
 shape_of_order Op.Store = two_registers
@@ -53,11 +50,11 @@ shape_of_order Op.And = two_registers
 shape_of_order Op.Or = two_registers
 shape_of_order Op.ExclusiveOr = two_registers
 shape_of_order Op.Compare = two_registers
-shape_of_order Op.Jump = OrderShape.Known 2 Field.Unused Field.Unused
-shape_of_order Op.JumpIf = OrderShape.Known 2 Field.Condition Field.Unused
-shape_of_order Op.Call = OrderShape.Known 2 Field.Unused Field.Unused
-shape_of_order Op.Return = OrderShape.Known 1 Field.Unused Field.Unused
-shape_of_order Op.Service = OrderShape.Known 1 Field.Service Field.Unused
+shape_of_order Op.Jump = Some (2, Field.Unused, Field.Unused)
+shape_of_order Op.JumpIf = Some (2, Field.Condition, Field.Unused)
+shape_of_order Op.Call = Some (2, Field.Unused, Field.Unused)
+shape_of_order Op.Return = Some (1, Field.Unused, Field.Unused)
+shape_of_order Op.Service = Some (1, Field.Service, Field.Unused)
 
 -- registers are 0..7, unused fields are 0, a condition is 0..2; a service number is tested apart
 abbrev pub holds : Field → ℕ → Bool
@@ -125,33 +122,33 @@ abbrev pub inside : Machine → ℕ → Bool
 inside m a = ltb a (length m.segment)
 
 -- the word at an address of the segment
-unfoldable pub found : Machine → ℕ → Found
-found m a = cond (inside m a) (Found.Word (get_or m.segment a 0)) Found.Outside
+unfoldable pub found : Machine → ℕ → Option ℕ
+found m a = cond (inside m a) (Some (get_or m.segment a 0)) None
 
-abbrev pub reading : Found → (ℕ → Effect) → Effect
-reading (Found.Word w) f = f w
-reading Found.Outside f = Effect.Faults outside
+abbrev pub reading : Option ℕ → (ℕ → Result (ℕ × Change) ℕ) → Result (ℕ × Change) ℕ
+reading (Some w) f = f w
+reading None f = Err outside
 
-abbrev pub storing : Machine → ℕ → Effect → Effect
-storing m a e = cond (inside m a) e (Effect.Faults outside)
+abbrev pub storing : Machine → ℕ → Result (ℕ × Change) ℕ → Result (ℕ × Change) ℕ
+storing m a e = cond (inside m a) e (Err outside)
 
 -- n, the second word of an order, at the address after the first
-abbrev pub second : Machine → (ℕ → Effect) → Effect
+abbrev pub second : Machine → (ℕ → Result (ℕ × Change) ℕ) → Result (ℕ × Change) ℕ
 second m f = reading (found m (next_order m + 1)) f
 
 -- Ra becomes a word; a jump: R0 becomes one; the flags become a word
-abbrev pub sets : ℕ → ℕ → ℕ → Effect
-sets next a w = Effect.Does next (Change.Register a w)
+abbrev pub sets : ℕ → ℕ → ℕ → Result (ℕ × Change) ℕ
+sets next a w = Ok (next, Change.Register a w)
 
-abbrev pub jumps : ℕ → ℕ → Effect
+abbrev pub jumps : ℕ → ℕ → Result (ℕ × Change) ℕ
 jumps next n = sets next 0 n
 
-abbrev pub flags_become : ℕ → ℕ → Effect
-flags_become next f = Effect.Does next (Change.Flags f)
+abbrev pub flags_become : ℕ → ℕ → Result (ℕ × Change) ℕ
+flags_become next f = Ok (next, Change.Flags f)
 
 -- quotient and remainder: a zero divisor faults
-abbrev pub unless_zero : ℕ → Effect → Effect
-unless_zero y e = cond (eqb y 0) (Effect.Faults zero_divisor) e
+abbrev pub unless_zero : ℕ → Result (ℕ × Change) ℕ → Result (ℕ × Change) ℕ
+unless_zero y e = cond (eqb y 0) (Err zero_divisor) e
 
 -- and, or, exclusive or: bit by bit, over the 16 bits of a word
 abbrev pub bitwise : (ℕ → ℕ → ℕ) → ℕ → ℕ → ℕ → ℕ
@@ -176,16 +173,16 @@ abbrev pub pending : Machine → ℕ
 pending m = pending_of m.flags
 
 -- call: R1 falls by 1, the return address is stored there, R0 becomes n
-abbrev pub calls : Machine → ℕ → ℕ → ℕ → Effect
-calls m next top n = storing m top (Effect.Does next (Change.Call (address top) n))
+abbrev pub calls : Machine → ℕ → ℕ → ℕ → Result (ℕ × Change) ℕ
+calls m next top n = storing m top (Ok (next, Change.Call (address top) n))
 
 -- what each order does: next is R0 past it, x is Ra and y is Rb
-abbrev pub effect : Op → Machine → ℕ → ℕ → ℕ → ℕ → Effect
-effect Op.Unknown m next a x y = Effect.Faults bad_order
+abbrev pub effect : Op → Machine → ℕ → ℕ → ℕ → ℕ → Result (ℕ × Change) ℕ
+effect Op.Unknown m next a x y = Err bad_order
 effect Op.Load m next a x y = second m (sets next a)
 effect Op.Copy m next a x y = sets next a y
 effect Op.Fetch m next a x y = reading (found m y) (sets next a)
-effect Op.Store m next a x y = storing m y (Effect.Does next (Change.Store (address y) x))
+effect Op.Store m next a x y = storing m y (Ok (next, Change.Store (address y) x))
 effect Op.Add m next a x y = sets next a (mod_word (x + y))
 effect Op.Subtract m next a x y = sets next a (mod_word (x + 65536 - y))
 effect Op.Multiply m next a x y = sets next a (mod_word (x * y))
@@ -198,25 +195,25 @@ effect Op.Compare m next a x y = flags_become next (flags_of (compared x y) (err
 effect Op.Jump m next a x y = second m (jumps next)
 effect Op.JumpIf m next a x y = second m (λ n. jumps next (cond (eqb (cc m) a) n next))
 effect Op.Call m next a x y = second m (calls m next (mod_word (stack m + 65535)))
-effect Op.Return m next a x y = reading (found m (stack m)) (λ w. Effect.Does next (Change.Return (mod_word (stack m + 1)) w))
+effect Op.Return m next a x y = reading (found m (stack m)) (λ w. Ok (next, Change.Return (mod_word (stack m + 1)) w))
 effect Op.Service m next a x y = flags_become next (flags_of (cc m) (error m) a)
 
 -- an order of op, a and b, of n words
-unfoldable pub effect_of : Machine → ℕ → ℕ → ℕ → ℕ → Effect
+unfoldable pub effect_of : Machine → ℕ → ℕ → ℕ → ℕ → Result (ℕ × Change) ℕ
 effect_of m op n a b =
     let next = past m n in
     effect (order_of op) m next a (operand m next a) (operand m next b)
 
 -- op and fields, save the service number; service number; then the order
-unfoldable pub checked : OrderShape → Machine → ℕ → Effect
-checked OrderShape.Unknown m w = Effect.Faults bad_order
-checked (OrderShape.Known n fa fb) m w =
+unfoldable pub checked : Option (ℕ × Field × Field) → Machine → ℕ → Result (ℕ × Change) ℕ
+checked None m w = Err bad_order
+checked (Some (n, fa, fb)) m w =
     cond (holds fa (a_of w) && holds fb (b_of w))
-    (cond (serves fa (a_of w)) (effect_of m (op_of w) n (a_of w) (b_of w)) (Effect.Faults bad_service))
-    (Effect.Faults bad_order)
+    (cond (serves fa (a_of w)) (effect_of m (op_of w) n (a_of w) (b_of w)) (Err bad_service))
+    (Err bad_order)
 
 -- one order: the first word's address before all
-unfoldable pub decided : Machine → Effect
+unfoldable pub decided : Machine → Result (ℕ × Change) ℕ
 decided m = reading (found m (next_order m)) (λ w. checked (shape_of_order (order_of (op_of w))) m w)
 
 -- the machine with R1 and R0 written anew
@@ -236,17 +233,17 @@ unfoldable pub faulted : Machine → ℕ → Machine
 faulted m e = with_flags m (flags_of (cc m) e (pending m))
 
 -- the machine after an order, and its answer
-abbrev pub after : Machine → Effect → Machine
-after m (Effect.Does next c) = changed m next c
-after m (Effect.Faults e) = faulted m e
+abbrev pub after : Machine → Result (ℕ × Change) ℕ → Machine
+after m (Ok (next, c)) = changed m next c
+after m (Err e) = faulted m e
 
-abbrev pub order_answer : Task → Effect → Answer
-order_answer i (Effect.Does next c) = Answer.OrderDone i
-order_answer i (Effect.Faults e) = Answer.OrderFaulted i
+abbrev pub order_answer : Task → Result (ℕ × Change) ℕ → Answer
+order_answer i (Ok (next, c)) = Answer.OrderDone i
+order_answer i (Err e) = Answer.OrderFaulted i
 
 -- an order of task i: what its own machine decides, and the image with that machine put back into its place
-abbrev pub order : Shape → List ℕ → Task → Effect
+abbrev pub order : Shape → List ℕ → Task → Result (ℕ × Change) ℕ
 order s im i = decided (own s im i)
 
-abbrev pub after_order : Shape → List ℕ → Task → Effect → List ℕ
+abbrev pub after_order : Shape → List ℕ → Task → Result (ℕ × Change) ℕ → List ℕ
 after_order s im i e = with_own s im i (after (own s im i) e)

@@ -1,5 +1,5 @@
 -- "Events", the services: what a pending service does for the first task, i.
-use Rattle.std.specs.Prelude.{Bool, cond, ◌&&◌, List, [], ◌∷◌, ℕ, zero, suc, eqb, leb, ltb, length}
+use Rattle.std.specs.Prelude.{Bool, cond, ◌&&◌, List, [], ◌∷◌, ℕ, zero, suc, eqb, leb, ltb, length, None, Option, Some}
 use Rattle.paper.specs.Image.{task, most_character, at, put, reg, status, peer, busy, character}
 use Rattle.paper.specs.Queues.{appended, first, taken, empty, full}
 use Rattle.paper.specs.Flags.{cc, error, put_flags, waits}
@@ -8,9 +8,6 @@ use Rattle.paper.specs.declared.Task.{Task}
 use Rattle.paper.specs.declared.Shape.{Shape}
 use Rattle.paper.specs.declared.Queue.{Queue}
 use Rattle.paper.specs.declared.Service.{Service}
-use Rattle.paper.specs.declared.Asked.{Asked}
-use Rattle.paper.specs.declared.Fault.{Fault}
-use Rattle.paper.specs.declared.Woken.{Woken}
 use Rattle.paper.specs.declared.Answer.{Answer}
 
 -- send (1), receive (2), input (3), output (4)
@@ -18,13 +15,13 @@ abbrev pub services : List Service
 services = Service.Send ∷ Service.Receive ∷ Service.Input ∷ Service.Output ∷ []
 
 -- the service of a number; 0 asks for nothing
-abbrev pub numbered : List Service → ℕ → Asked
-numbered [] k = Asked.Nothing
-numbered (v ∷ vs) zero = Asked.For v
+abbrev pub numbered : List Service → ℕ → Option Service
+numbered [] k = None
+numbered (v ∷ vs) zero = Some v
 numbered (v ∷ vs) (suc k) = numbered vs k
 
-abbrev pub asked : ℕ → Asked
-asked zero = Asked.Nothing
+abbrev pub asked : ℕ → Option Service
+asked zero = None
 asked (suc k) = numbered services k
 
 -- the numbers of services: 1..4
@@ -49,20 +46,20 @@ no_character = 6
 unfoldable pub service_faulted : Shape → List ℕ → Task → ℕ → List ℕ
 service_faulted s im i e = put_flags s im i (cc s im i) e 0
 
-abbrev pub error_if : Bool → ℕ → Fault
-error_if b e = cond b (Fault.Error e) Fault.Nothing
+abbrev pub error_if : Bool → ℕ → Option ℕ
+error_if b e = cond b (Some e) None
 
 -- a number in R2 of N or more gives error 5; output of more than 255 gives error 6
-abbrev pub fault_of : Shape → List ℕ → Task → Service → Fault
+abbrev pub fault_of : Shape → List ℕ → Task → Service → Option ℕ
 fault_of s im i Service.Send = error_if (leb s.n (other s im i).0) no_such_task
 fault_of s im i Service.Receive = error_if (leb s.n (other s im i).0) no_such_task
-fault_of s im i Service.Input = Fault.Nothing
+fault_of s im i Service.Input = None
 fault_of s im i Service.Output = error_if (ltb most_character (given s im i)) no_character
 
 -- both come before the buffer is looked at
-abbrev pub unless_wrong : Fault → Shape → List ℕ → Task → Answered → Answered
-unless_wrong (Fault.Error e) s im i o = answered (Answer.ServiceFaulted i) (service_faulted s im i e)
-unless_wrong Fault.Nothing s im i o = o
+abbrev pub unless_wrong : Option ℕ → Shape → List ℕ → Task → Answered → Answered
+unless_wrong (Some e) s im i o = answered (Answer.ServiceFaulted i) (service_faulted s im i e)
+unless_wrong None s im i o = o
 
 -- the buffer of a service
 abbrev pub buffer : Shape → List ℕ → Task → Service → Queue
@@ -124,11 +121,11 @@ unfoldable pub waits_for : Shape → List ℕ → Task → Service → Task → 
 waits_for s im j v i = eqb (at s im (status j)) (waits v) && eqb (at s im (peer j)) i.0
 
 -- a send wakes the peer if it waits to receive from the sender; a receive wakes the source if it waits to send to the receiver
-abbrev pub wakes : Shape → List ℕ → Task → Service → Woken
+abbrev pub wakes : Shape → List ℕ → Task → Service → Option Task
 wakes s im i Service.Send = one_if (waits_for s im (other s im i) Service.Receive i) (other s im i)
 wakes s im i Service.Receive = one_if (waits_for s im (other s im i) Service.Send i) (other s im i)
-wakes s im i Service.Input = Woken.Nobody
-wakes s im i Service.Output = Woken.Nobody
+wakes s im i Service.Input = None
+wakes s im i Service.Output = None
 
 -- the word moves, and whoever waits for that is woken
 unfoldable pub finished : Shape → List ℕ → Task → Service → Answered

@@ -1,15 +1,13 @@
 -- "Events": what an event comes to, dispatch, waking and waiting.
-use Rattle.std.specs.Prelude.{Bool, cond, List, ℕ}
+use Rattle.std.specs.Prelude.{Bool, cond, List, ℕ, Err, None, Ok, Option, Result, Some}
 use Rattle.paper.specs.Image.{put, clock, status, peer}
 use Rattle.paper.specs.Queues.{appended, taken, empty}
 use Rattle.paper.specs.Flags.{is_ready}
 use Rattle.paper.specs.declared.Task.{Task}
 use Rattle.paper.specs.declared.Shape.{Shape}
 use Rattle.paper.specs.declared.Queue.{Queue}
-use Rattle.paper.specs.declared.Woken.{Woken}
 use Rattle.paper.specs.declared.Answer.{Answer}
 use Rattle.paper.specs.declared.Refusal.{Refusal}
-use Rattle.paper.specs.declared.Reply.{Reply}
 
 -- what a tick comes to: its answer, and the image after it
 pub record Answered : Type 0 where
@@ -21,20 +19,20 @@ answered a im = record { answer = a; image = im }
 
 -- what an event comes to: the reply, and the image after it
 pub record Outcome : Type 0 where
-  pub reply : Reply
+  pub reply : Result Answer Refusal
   pub image : List ℕ
 
-abbrev pub outcome : Reply → List ℕ → Outcome
+abbrev pub outcome : Result Answer Refusal → List ℕ → Outcome
 outcome r im = record { reply = r; image = im }
 
 abbrev pub accepted : Answer → List ℕ → Outcome
-accepted a im = outcome (Reply.Accepted a) im
+accepted a im = outcome (Ok a) im
 
 abbrev pub accepting : Answered → Outcome
 accepting t = accepted t.answer t.image
 
 abbrev pub refused : Refusal → List ℕ → Outcome
-refused r im = outcome (Reply.Refused r) im
+refused r im = outcome (Err r) im
 
 -- dispatch: clock becomes S, or 0 if the ready queue is empty
 unfoldable pub dispatched : Shape → List ℕ → List ℕ
@@ -57,9 +55,9 @@ unfoldable pub left : Shape → List ℕ → List ℕ
 left s im = dispatched s (taken s im Queue.Ready)
 
 -- whom a test wakes
-abbrev pub one_if : Bool → Task → Woken
-one_if b i = cond b (Woken.One i) Woken.Nobody
+abbrev pub one_if : Bool → Task → Option Task
+one_if b i = cond b (Some i) None
 
-unfoldable pub with_woken : Shape → List ℕ → Woken → List ℕ
-with_woken s im Woken.Nobody = im
-with_woken s im (Woken.One i) = woken s im i
+unfoldable pub with_woken : Shape → List ℕ → Option Task → List ℕ
+with_woken s im None = im
+with_woken s im (Some i) = woken s im i

@@ -259,20 +259,6 @@ pub const ASK_INPUT: u16 = 3;
 
 pub const ASK_OUTPUT: u16 = 4;
 
-// What the pending field of a task's flags asks for.
-#[derive(Clone, Copy)]
-pub enum Asked {
-    Nothing,
-    For(Service),
-}
-
-// What is wrong with a service that is asked for.
-#[derive(Clone, Copy)]
-pub enum Fault {
-    Nothing,
-    Error(u16),
-}
-
 // No error, the errors of orders, and those of services.
 pub const NO_ERROR: u16 = 0;
 
@@ -287,13 +273,6 @@ pub const ZERO_DIVISOR: u16 = 4;
 pub const NO_SUCH_TASK: u16 = 5;
 
 pub const NO_CHARACTER: u16 = 6;
-
-// Whom an event wakes.
-#[derive(Clone, Copy)]
-pub enum Woken {
-    Nobody,
-    One(Task),
-}
 
 // An event that is well formed, or that it is not.
 #[derive(Clone, Copy)]
@@ -345,35 +324,14 @@ pub enum Refusal {
     CountFull,
 }
 
-// What a check or a build comes to.
-#[derive(Clone, Copy)]
-pub enum Verdict {
-    Fine,
-    Refused(Refusal),
-}
-
 // The number that comes back where nothing is refused.
 pub const NOT_REFUSED: u16 = 0;
-
-// How many words an accepted plan needs, or why it is refused.
-#[derive(Clone, Copy)]
-pub enum Size {
-    Words(usize),
-    Refused(Refusal),
-}
-
-// What an event comes to.
-#[derive(Clone, Copy)]
-pub enum Reply {
-    Accepted(Answer),
-    Refused(Refusal),
-}
 
 // How a run ended: how many events were taken, and whether one was refused.
 #[derive(Clone, Copy)]
 pub struct Ended {
     pub taken: usize,
-    pub stop: Verdict,
+    pub stop: Result<(), Refusal>,
 }
 
 // What a task's ticks are counted under, in the order of its row of counts.
@@ -403,13 +361,6 @@ pub const IDLE_COUNT: usize = 96;
 pub const COUNTS: usize = 97;
 
 pub const MOST_COUNT: u32 = 4294967295;
-
-// A task's share of all ticks, or the word that none were counted.
-#[derive(Clone, Copy)]
-pub enum Share {
-    Of(f64),
-    NoTicks,
-}
 
 // The orders of the order code, and any other op.
 #[derive(Clone, Copy)]
@@ -458,22 +409,8 @@ pub const FIELD: u16 = 16;
 
 pub const REGISTERS: u16 = 8;
 
-// The shape of an order: how many words it has, and what its fields hold.
-#[derive(Clone, Copy)]
-pub enum OrderShape {
-    Unknown,
-    Known(u8, Field, Field),
-}
-
 // The high bytes, each of which has a shape.
 pub const HIGH_BYTES: usize = 256;
-
-// The word at an address of a task's segment.
-#[derive(Clone, Copy)]
-pub enum Found {
-    Word(u16),
-    Outside,
-}
 
 // What an order changes of its task's own machine, beside that R0 is moved past it.
 #[derive(Clone, Copy)]
@@ -490,9 +427,3 @@ pub enum Change {
     Return(u16, u16),
 }
 
-// What an order comes to: R0 is moved to a word and something changes, or it faults with an error.
-#[derive(Clone, Copy)]
-pub enum Effect {
-    Does(u16, Change),
-    Faults(u16),
-}

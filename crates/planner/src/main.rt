@@ -12,7 +12,7 @@ use disk::{
 };
 use joining::{Asked, Task, read_task, read_word};
 use numbers::number_of;
-use paper::{LEADING_WORDS, MOST_TASKS, PAIR_WORDS, Refusal, Size};
+use paper::{LEADING_WORDS, MOST_TASKS, PAIR_WORDS, Refusal};
 use plans::size;
 use saying::{put_plan_cause, put_refused};
 
@@ -140,8 +140,8 @@ fn write_plan(rt: &HostRuntime, plan: &[u16]) -> Outcome {
     let mut path = [0u8; ARG_BYTES];
     let end = short_arg(rt, 1, &mut path);
     match size(plan) {
-        Size::Words(_) => save(rt, &path[..end], plan),
-        Size::Refused(r) => refuse(rt, &path[..end], plan, r),
+        Ok(_) => save(rt, &path[..end], plan),
+        Err(r) => refuse(rt, &path[..end], plan, r),
     }
 }
 

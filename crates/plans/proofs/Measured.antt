@@ -1,4 +1,5 @@
 -- How a plan is measured: its pairs added up, its shape, and the tests in their order. Assumes nothing.
+use Rattle.std.specs.Prelude.{Err, Ok, Result, ℕ}
 use mathlib.Core.Path.{◌≡◌, refl, sym, ◌∙◌, ap}
 use mathlib.Core.List.{List}
 use mathlib.Core.Bool.{Bool, true, false, not, ◌&&◌, ◌||◌}
@@ -17,8 +18,6 @@ use Rattle.paper.specs.Promises.{Measures}
 use Rattle.paper.specs.declared.Shape.{Shape}
 use Rattle.paper.specs.declared.Part.{Part}
 use Rattle.paper.specs.declared.Refusal.{Refusal}
-use Rattle.paper.specs.declared.Verdict.{Verdict}
-use Rattle.paper.specs.declared.Size.{Size}
 use Rattle.laws.specs.Every.{every_none}
 use Rattle.laws.specs.Layout.{Ranged, largest_offset, total_is}
 use Rattle.laws.specs.Checked.{ranged_is}
@@ -88,7 +87,7 @@ module _ (plan : List ℕ) where
   unfolding plan_shape
   words_planned = refl
 
-  pub words_left : (s : Shape) (first whole : ℕ) → SizesOf plan s → first ≡ start s Part.Segments → check_plan plan ≡ Verdict.Fine
+  pub words_left : (s : Shape) (first whole : ℕ) → SizesOf plan s → first ≡ start s Part.Segments → check_plan plan ≡ Ok tt
       → whole ≡ total (plan_shape plan) → (whole - first ≡ segment_words plan (plan_tasks plan)) × (whole - first ≤ most_planned)
   words_left s first whole z ef fine ew =
       (omega (arith, start_planned s z, total_is (plan_shape plan), words_planned), omega (arith, (planned plan fine).fit.words))
@@ -138,31 +137,31 @@ module _ (plan : List ℕ) where
   broken_tested n w end t right a b o en sum ea eb et eo = rw (eo, eb, ea, et, sum.pairs, sum.programs, en)
 
   -- the answer that a verdict gives
-  measured : (answer : Size) → answer ≡ plan_size plan → Measures plan answer
+  measured : (answer : Result ℕ Refusal) → answer ≡ plan_size plan → Measures plan answer
   measured answer e = record { answered = e; numbered = ap size_number e; valued = ap size_value e }
 
-  refused : (r : Refusal) → check_plan plan ≡ Verdict.Refused r → Measures plan (Size.Refused r)
+  refused : (r : Refusal) → check_plan plan ≡ Err r → Measures plan (Err r)
   unfolding plan_size
-  refused r e = measured (Size.Refused r) (rw e)
+  refused r e = measured (Err r) (rw e)
 
   -- the answer, test by test
-  pub short_so : length plan < 5 → Measures plan (Size.Refused Refusal.BadPlan)
+  pub short_so : length plan < 5 → Measures plan (Err Refusal.BadPlan)
   unfolding check_plan
   short_so h = refused Refusal.BadPlan (rw (lt-ltb (length plan) 5 h))
 
   module _ (long : 5 ≤ length plan) (s : Shape) (z : SizesOf plan s) (r : Bool) (er : r ≡ out_of_range s) where
-    pub range_so : r ≡ true → Measures plan (Size.Refused Refusal.OutOfRange)
+    pub range_so : r ≡ true → Measures plan (Err Refusal.OutOfRange)
     unfolding check_plan
     range_so e = refused Refusal.OutOfRange (rw (le-ltb (length plan) 5 long, ← same_range plan s z, ← er, e))
 
     module _ (inside : r ≡ false) (b : Bool) (eb : b ≡ plan_broken plan) where
-      pub broken_so : b ≡ true → Measures plan (Size.Refused Refusal.BadPlan)
+      pub broken_so : b ≡ true → Measures plan (Err Refusal.BadPlan)
       unfolding check_plan
       broken_so e = refused Refusal.BadPlan (rw (le-ltb (length plan) 5 long, ← same_range plan s z, ← er, inside, ← eb, e))
 
-      pub size_so : b ≡ false → (t : ℕ) → t ≡ total (plan_shape plan) → Measures plan (Size.Words t)
+      pub size_so : b ≡ false → (t : ℕ) → t ≡ total (plan_shape plan) → Measures plan (Ok t)
       unfolding check_plan plan_size
-      size_so e t et = measured (Size.Words t) (rw (le-ltb (length plan) 5 long, ← same_range plan s z, ← er, inside, ← eb, e, et))
+      size_so e t et = measured (Ok t) (rw (le-ltb (length plan) 5 long, ← same_range plan s z, ← er, inside, ← eb, e, et))
 
 pub all_pairs : (plan : List ℕ) (n k : ℕ) (right : Bool) (words end : ℕ) → Summed plan k right words end → n ≤ k → k ≤ n → Summed plan n right words end
 all_pairs plan n k right words end sum h l = let z : n ≡ k = omega arith in rw z sum

@@ -1,5 +1,5 @@
 -- What a plan gives: its sizes, what its pairs add up to, a packed shape, and what its size tells. Assumes nothing.
-use Rattle.std.specs.Prelude.{◌≡◌, refl, List, Bool, ℕ, ◌+◌, ◌*◌, ◌≤◌, get_or}
+use Rattle.std.specs.Prelude.{◌≡◌, refl, List, Bool, ℕ, ◌+◌, ◌*◌, ◌≤◌, get_or, Err, Ok, Result, ⊤}
 use Rattle.std.proofs.Common.{sym, ◌∙◌, ap, arith}
 use Rattle.paper.specs.Image.{most_tasks, offsets, start, total}
 use Rattle.paper.specs.Tests.{every}
@@ -10,8 +10,6 @@ use Rattle.paper.specs.Promises.{Measures}
 use Rattle.paper.specs.declared.Shape.{Shape}
 use Rattle.paper.specs.declared.Part.{Part}
 use Rattle.paper.specs.declared.Refusal.{Refusal}
-use Rattle.paper.specs.declared.Verdict.{Verdict}
-use Rattle.paper.specs.declared.Size.{Size}
 use Rattle.laws.specs.Layout.{Ranged, fit_ranged}
 use Rattle.laws.specs.Fresh.{planned}
 
@@ -47,23 +45,23 @@ first_is s l e = rw e
 
 module _ (plan : List ℕ) where
   -- the verdict that an answer tells
-  words_from : (v : Verdict) (t : ℕ) → Size.Words t ≡ size_as v plan → (v ≡ Verdict.Fine) × (t ≡ total (plan_shape plan))
-  words_from Verdict.Fine t e = (refl, ap size_value e)
-  words_from (Verdict.Refused r) t e = let z : ◌≡◌ {A = ℕ} 0 1 = cc in absurd (omega arith)
+  words_from : (v : Result ⊤ Refusal) (t : ℕ) → Ok t ≡ size_as v plan → (v ≡ Ok tt) × (t ≡ total (plan_shape plan))
+  words_from (Ok tt) t e = (refl, ap size_value e)
+  words_from (Err r) t e = let z : ◌≡◌ {A = ℕ} 0 1 = cc in absurd (omega arith)
 
-  refusal_from : (v : Verdict) (r : Refusal) → Size.Refused r ≡ size_as v plan → v ≡ Verdict.Refused r
-  refusal_from Verdict.Fine r e = let z : ◌≡◌ {A = ℕ} 0 1 = cc in absurd (omega arith)
-  refusal_from (Verdict.Refused q) r e = cc
+  refusal_from : (v : Result ⊤ Refusal) (r : Refusal) → Err r ≡ size_as v plan → v ≡ Err r
+  refusal_from (Ok tt) r e = let z : ◌≡◌ {A = ℕ} 0 1 = cc in absurd (omega arith)
+  refusal_from (Err q) r e = cc
 
-  pub told_words : (answer : Size) (t : ℕ) → Measures plan answer → answer ≡ Size.Words t
-      → (check_plan plan ≡ Verdict.Fine) × (t ≡ total (plan_shape plan))
+  pub told_words : (answer : Result ℕ Refusal) (t : ℕ) → Measures plan answer → answer ≡ Ok t
+      → (check_plan plan ≡ Ok tt) × (t ≡ total (plan_shape plan))
   unfolding plan_size
   told_words answer t m e = words_from (check_plan plan) t (sym e ∙ m.answered)
 
-  pub told_refusal : (answer : Size) (r : Refusal) → Measures plan answer → answer ≡ Size.Refused r → check_plan plan ≡ Verdict.Refused r
+  pub told_refusal : (answer : Result ℕ Refusal) (r : Refusal) → Measures plan answer → answer ≡ Err r → check_plan plan ≡ Err r
   unfolding plan_size
   told_refusal answer r m e = refusal_from (check_plan plan) r (sym e ∙ m.answered)
 
   -- what an accepted plan leaves to the later steps
-  pub fine_ranged : check_plan plan ≡ Verdict.Fine → Ranged (plan_shape plan)
+  pub fine_ranged : check_plan plan ≡ Ok tt → Ranged (plan_shape plan)
   fine_ranged e = fit_ranged (plan_shape plan) (planned plan e).fit

@@ -1,22 +1,18 @@
 // A plan: its verdict, its shape and its size.
 #![tactic(auto)]
 
-ghost use Rattle.std.specs.Prelude.{◌≡◌, ◌≤◌};
+ghost use Rattle.std.specs.Prelude.{◌≡◌, ◌≤◌, Ok, tt};
 ghost use Rattle.paper.specs.Plans.{plan_tasks, segment_length, program_length, segment_words, plan_shape as shape_planned};
 ghost use Rattle.paper.specs.Image.{most_tasks, start, total};
 ghost use Rattle.paper.specs.Numbers.{plan_broken, check_plan as verdict_on_plan};
 ghost use Rattle.paper.specs.Promises.{Measures};
 ghost use Rattle.paper.specs.declared.Part.TheVariants.{Segments};
-ghost use Rattle.paper.specs.declared.Verdict.TheVariants.{Fine};
 ghost use Rattle.laws.specs.Layout.{Ranged};
 ghost use Rattle.plans.specs.Sizes.{most_planned, Summed, SizesOf, Packed};
 
 use connectives::{both, either};
 use headers::{header_word, offsets, out_of_range, word_or_zero};
-use paper::{
-    LEADING_WORDS, MOST_WORDS, OFFSETS, PAIR_WORDS, PLAN_CI_AT, PLAN_CM_AT, PLAN_CO_AT,
-    PLAN_SLICE_AT, PLAN_TASKS_AT, Place, Refusal, SEGMENTS, Shape, Size, Task, Verdict,
-};
+use paper::{LEADING_WORDS, MOST_WORDS, OFFSETS, PAIR_WORDS, PLAN_CI_AT, PLAN_CM_AT, PLAN_CO_AT, PLAN_SLICE_AT, PLAN_TASKS_AT, Place, Refusal, SEGMENTS, Shape, Task};
 
 // What the pairs of a plan add up to: whether each is right, the words of all segments, and where the last program ends.
 #[derive(Clone, Copy)]
@@ -131,7 +127,7 @@ fn first_segment(s: Shape) -> Place
 
 // The shape of an accepted plan whose T is known.
 pub fn shape_sized(plan: &[u16], whole: usize) -> Shape
-    requires plan_value { verdict_on_plan plan.now ≡ Fine }
+    requires plan_value { verdict_on_plan plan.now ≡ Ok tt }
     requires whole_value { whole ≡ total (shape_planned plan.now) }
     ensures value { result ≡ shape_planned plan.now }
     ensures packed { Packed result }
@@ -154,32 +150,32 @@ fn is_broken(plan: &[u16], n: usize, all: Sums, whole: usize) -> bool
 }
 
 // How many words a plan needs.
-pub fn size(plan: &[u16]) -> Size
+pub fn size(plan: &[u16]) -> Result<usize, Refusal>
     ensures { Measures plan.now result }
 {
     if plan.len() < LEADING_WORDS {
-        return Size::Refused(Refusal::BadPlan);
+        return Err(Refusal::BadPlan);
     }
     let sizes = sizes_of(plan);
     if out_of_range(sizes) {
-        return Size::Refused(Refusal::OutOfRange);
+        return Err(Refusal::OutOfRange);
     }
     let all = add_up(plan, sizes.n);
     let first = first_segment(sizes);
     let whole = first.0 + all.words;
     if is_broken(plan, sizes.n, all, whole) {
-        return Size::Refused(Refusal::BadPlan);
+        return Err(Refusal::BadPlan);
     }
-    Size::Words(whole)
+    Ok(whole)
 }
 
 // The verdict on a plan.
-pub fn verdict(plan: &[u16]) -> Verdict
+pub fn verdict(plan: &[u16]) -> Result<(), Refusal>
     ensures { result ≡ verdict_on_plan plan.now }
 {
     let found = size(plan);
     match found {
-        Size::Words(_) => Verdict::Fine,
-        Size::Refused(r) => Verdict::Refused(r),
+        Ok(_) => Ok(()),
+        Err(r) => Err(r),
     }
 }

@@ -1,5 +1,5 @@
 -- Against the paper: a word is spelt as an order exactly where the paper has an order for it. Assumes nothing.
-use Rattle.std.specs.Prelude.{◌≡◌, refl, Bool, true, false, not, cond, ◌&&◌, ◌||◌, ◌⊎◌, ℕ, ◌+◌, ◌≤◌, eqb, length}
+use Rattle.std.specs.Prelude.{◌≡◌, refl, Bool, true, false, not, cond, ◌&&◌, ◌||◌, ◌⊎◌, ℕ, ◌+◌, ◌≤◌, eqb, length, Err, None, Ok, Option, Result, Some}
 use Rattle.std.proofs.Common.{ap, sym, ◌∙◌, true≢false, inl, inr, ⊎_elim, arith, eqb-true}
 use Rattle.std.proofs.Math.Bool.{and-eq-true_iff}
 use Rattle.std.proofs.lemmas.Bool.{not-true}
@@ -7,9 +7,6 @@ use Rattle.std.proofs.Math.ListN.{get_or-eq_default}
 use Rattle.paper.specs.Machines.{Machine}
 use Rattle.paper.specs.Orders.{op_of, a_of, b_of, next_order, stack, mod_word, orders, order_of, shape_of_order, holds, serves, outside, bad_order, bad_service, zero_divisor, found, reading, inside, effect, effect_of, checked}
 use Rattle.paper.specs.declared.Op.{Op}
-use Rattle.paper.specs.declared.OrderShape.{OrderShape}
-use Rattle.paper.specs.declared.Found.{Found}
-use Rattle.paper.specs.declared.Effect.{Effect}
 use Rattle.grammar.specs.Tokens.{bytes}
 use Rattle.grammar.specs.Kept.{kept_words}
 use Rattle.grammar.specs.Lines.{words_by}
@@ -18,15 +15,17 @@ use Rattle.grammar.specs.declared.Operands.{Operands}
 use Rattle.print_laws.specs.Sweep.{end_of_orders}
 use Rattle.print_laws.specs.Orders.{shape_at, decides, Runs, AsThePaper}
 use Rattle.print_laws.proofs.Sweep.{swept}
+use Rattle.paper.specs.declared.Change.{Change}
+use Rattle.paper.specs.declared.Field.{Field}
 
 -- whether the tests of a word's fields and service pass, and the count of words
-abbrev passes : ℕ → OrderShape → Bool
-passes w OrderShape.Unknown = false
-passes w (OrderShape.Known n fa fb) = (holds fa (a_of w) && holds fb (b_of w)) && serves fa (a_of w)
+abbrev passes : ℕ → Option (ℕ × Field × Field) → Bool
+passes w None = false
+passes w (Some (n, fa, fb)) = (holds fa (a_of w) && holds fb (b_of w)) && serves fa (a_of w)
 
-abbrev count_of : OrderShape → ℕ
-count_of OrderShape.Unknown = 0
-count_of (OrderShape.Known n fa fb) = n
+abbrev count_of : Option (ℕ × Field × Field) → ℕ
+count_of None = 0
+count_of (Some (n, fa, fb)) = n
 
 -- they do exactly for the words that are spelt as orders
 abbrev agrees : ℕ → Named → Bool
@@ -41,27 +40,27 @@ unfolding bytes kept_words named_in named_as
 agreed w = swept agrees refl (λ v l. rw (unknown_past v l)) w
 
 -- what is decided, by those tests
-decided_bad : (m : Machine) (w : ℕ) (sh : OrderShape) → passes w sh ≡ false → (checked sh m w ≡ Effect.Faults bad_order) ⊎ (checked sh m w ≡ Effect.Faults bad_service)
+decided_bad : (m : Machine) (w : ℕ) (sh : Option (ℕ × Field × Field)) → passes w sh ≡ false → (checked sh m w ≡ Err bad_order) ⊎ (checked sh m w ≡ Err bad_service)
 unfolding checked
-decided_bad m w OrderShape.Unknown e = inl refl
-decided_bad m w (OrderShape.Known n fa fb) e = go (holds fa (a_of w) && holds fb (b_of w)) (serves fa (a_of w)) e
+decided_bad m w None e = inl refl
+decided_bad m w (Some (n, fa, fb)) e = go (holds fa (a_of w) && holds fb (b_of w)) (serves fa (a_of w)) e
   where
-    go : (t u : Bool) → (t && u) ≡ false → (cond t (cond u (effect_of m (op_of w) n (a_of w) (b_of w)) (Effect.Faults bad_service)) (Effect.Faults bad_order) ≡ Effect.Faults bad_order)
-        ⊎ (cond t (cond u (effect_of m (op_of w) n (a_of w) (b_of w)) (Effect.Faults bad_service)) (Effect.Faults bad_order) ≡ Effect.Faults bad_service)
+    go : (t u : Bool) → (t && u) ≡ false → (cond t (cond u (effect_of m (op_of w) n (a_of w) (b_of w)) (Err bad_service)) (Err bad_order) ≡ Err bad_order)
+        ⊎ (cond t (cond u (effect_of m (op_of w) n (a_of w) (b_of w)) (Err bad_service)) (Err bad_order) ≡ Err bad_service)
     go true true e = absurd (true≢false e)
     go true false e = inr refl
     go false u e = inl refl
 
-decided_runs : (m : Machine) (w : ℕ) (o : Operands) (sh : OrderShape) → shape_at w ≡ sh → passes w sh ≡ true → count_of sh ≡ words_by o → Runs m w o
+decided_runs : (m : Machine) (w : ℕ) (o : Operands) (sh : Option (ℕ × Field × Field)) → shape_at w ≡ sh → passes w sh ≡ true → count_of sh ≡ words_by o → Runs m w o
 unfolding checked
-decided_runs m w o OrderShape.Unknown is e c = absurd (true≢false (sym e))
-decided_runs m w o (OrderShape.Known n fa fb) is e c =
+decided_runs m w o None is e c = absurd (true≢false (sym e))
+decided_runs m w o (Some (n, fa, fb)) is e c =
     let served = (and-eq-true_iff (holds fa (a_of w) && holds fb (b_of w)) (serves fa (a_of w))).0 e in
     let held = (and-eq-true_iff (holds fa (a_of w)) (holds fb (b_of w))).0 served.0 in
     record {
       a_field = fa;
       b_field = fb;
-      shape = is ∙ ap (λ k. OrderShape.Known k fa fb) c;
+      shape = is ∙ ap (λ k. Some (k, fa, fb)) c;
       a_holds = held.0;
       b_holds = held.1;
       is_served = served.1;
@@ -69,19 +68,19 @@ decided_runs m w o (OrderShape.Known n fa fb) is e c =
     }
 
 -- an order that runs faults with 1 or 4 alone
-abbrev proper : Effect → Bool
-proper (Effect.Does next c) = true
-proper (Effect.Faults e) = eqb e outside || eqb e zero_divisor
+abbrev proper : Result (ℕ × Change) ℕ → Bool
+proper (Ok (next, c)) = true
+proper (Err e) = eqb e outside || eqb e zero_divisor
 
-proper_reading : (x : Found) (f : ℕ → Effect) → ((w : ℕ) → proper (f w) ≡ true) → proper (reading x f) ≡ true
-proper_reading (Found.Word w) f h = h w
-proper_reading Found.Outside f h = refl
+proper_reading : (x : Option ℕ) (f : ℕ → Result (ℕ × Change) ℕ) → ((w : ℕ) → proper (f w) ≡ true) → proper (reading x f) ≡ true
+proper_reading (Some w) f h = h w
+proper_reading None f h = refl
 
-proper_storing : (t : Bool) (e : Effect) → proper e ≡ true → proper (cond t e (Effect.Faults outside)) ≡ true
+proper_storing : (t : Bool) (e : Result (ℕ × Change) ℕ) → proper e ≡ true → proper (cond t e (Err outside)) ≡ true
 proper_storing true e h = h
 proper_storing false e h = refl
 
-proper_dividing : (t : Bool) (e : Effect) → proper e ≡ true → proper (cond t (Effect.Faults zero_divisor) e) ≡ true
+proper_dividing : (t : Bool) (e : Result (ℕ × Change) ℕ) → proper e ≡ true → proper (cond t (Err zero_divisor) e) ≡ true
 proper_dividing true e h = refl
 proper_dividing false e h = h
 
@@ -112,7 +111,7 @@ module _ (m : Machine) (w : ℕ) where
   unfolding effect_of
   proper_run o e r = rw r.does (proper_effect w m _ _ _ _ (order_of (op_of w)) e)
 
-  by_name : (n : Named) → agrees w n ≡ true → ((n ≡ Named.none) → (decides m w ≡ Effect.Faults bad_order) ⊎ (decides m w ≡ Effect.Faults bad_service))
+  by_name : (n : Named) → agrees w n ≡ true → ((n ≡ Named.none) → (decides m w ≡ Err bad_order) ⊎ (decides m w ≡ Err bad_service))
       × (proper (decides m w) ≡ false → n ≡ Named.none)
   by_name Named.none e = (λ is. decided_bad m w (shape_at w) (not-true (passes w (shape_at w)) e), λ bad. refl)
   by_name (Named.order name o) e = (

@@ -1,4 +1,5 @@
 -- A text that is printed lies in its buffer, and an image that is not refused is sound. Assumes nothing.
+use Rattle.std.specs.Prelude.{Ok, Result, ⊤}
 use mathlib.Core.Path.{◌≡◌, sym, ◌∙◌}
 use mathlib.Core.Bool.{Bool, true, false}
 use mathlib.Core.List.{List}
@@ -9,7 +10,6 @@ use lib.ListN.{length, length-append}
 use Rattle.paper.specs.Image.{shape_of}
 use Rattle.paper.specs.Numbers.{check}
 use Rattle.paper.specs.declared.Shape.{Shape}
-use Rattle.paper.specs.declared.Verdict.{Verdict}
 use Rattle.laws.specs.Checked.{good_sound}
 use Rattle.laws.specs.Events.{good, inspected_lawful}
 use Rattle.laws.specs.Sound.{Sound}
@@ -37,5 +37,5 @@ unfolding printing measured
 bytes_in ws buffer after told n p e = rw p.left (fits_by (printed ws) buffer n (leb (length ws) most_printed) (sym p.answers ∙ e))
 
 -- an image that is not refused
-pub inspected_sound : (s : Shape) (im : List ℕ) (v : Verdict) → v ≡ check im → s ≡ shape_of im → v ≡ Verdict.Fine → Sound s im
+pub inspected_sound : (s : Shape) (im : List ℕ) (v : Result ⊤ Refusal) → v ≡ check im → s ≡ shape_of im → v ≡ Ok tt → Sound s im
 inspected_sound s im v ev es f = good_sound s im (good (inspected_lawful s im v ev es f))

@@ -13,7 +13,7 @@ use flaws::number_of;
 use grammar::Printing;
 use inspect::inspect;
 use joining::{Asked, read_word};
-use paper::{Shape, Task, Verdict};
+use paper::{Shape, Task};
 use printing::print;
 use saying::{put_refused, say_refused_image};
 use showing::{TEXT_BYTES, show_task};
@@ -88,7 +88,7 @@ fn print_task(rt: &HostRuntime, path: &[u8], s: Shape, im: &[u16]) -> Outcome
 fn print_image(rt: &HostRuntime, path: &[u8], im: &[u16]) -> Outcome {
     let found = inspect(im);
     let verdict = found.verdict;
-    if let Verdict::Refused(r) = verdict {
+    if let Err(r) = verdict {
         say_refused_image(rt, path, im, r);
         return Outcome::Refused;
     }

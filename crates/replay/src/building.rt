@@ -3,7 +3,7 @@ ghost use Rattle.std.specs.Prelude.{◌≡◌, true};
 ghost use Rattle.paper.specs.Calls.{size_number as numbered, size_value};
 
 use numbers::number_of;
-use paper::{NOT_REFUSED, Size};
+use paper::{NOT_REFUSED, Refusal};
 use std::io::Read;
 use vectors::records::{Found, Head, read_words, wide};
 use vectors::tally::{Answer, compared, worse};
@@ -74,27 +74,27 @@ fn target_answer<R: Read>(source: &mut R, target: &[u16], case: Case) -> Answer 
 }
 
 // The words that a plan needs, or 0 where it is refused.
-fn size_words(size: Size) -> usize
+fn size_words(size: Result<usize, Refusal>) -> usize
     ensures { result ≡ size_value size }
 {
     match size {
-        Size::Words(n) => n,
-        Size::Refused(_) => 0,
+        Ok(n) => n,
+        Err(_) => 0,
     }
 }
 
 // The number of a plan's refusal, or 0.
-fn size_number(size: Size) -> u16
+fn size_number(size: Result<usize, Refusal>) -> u16
     ensures { result ≡ numbered size }
 {
     match size {
-        Size::Words(_) => NOT_REFUSED,
-        Size::Refused(r) => number_of(r),
+        Ok(_) => NOT_REFUSED,
+        Err(r) => number_of(r),
     }
 }
 
 // Whether a plan's size is the one expected: a yes means that words and number are.
-fn is_sized(size: Size, case: Case) -> bool
+fn is_sized(size: Result<usize, Refusal>, case: Case) -> bool
     ensures { result ≡ true → (numbered size ≡ case.size_number) × (size_value size ≡ case.size) }
 {
     if size_number(size) != case.size_number {

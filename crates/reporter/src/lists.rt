@@ -5,7 +5,7 @@ use causes::{EventCause, event_cause};
 use disk::{Outcome, Source, fail, fail_missing, open_source, read_full};
 use files::put_words;
 use kernel::report;
-use paper::{COUNTS, EVENT_WORDS, Refusal, Verdict};
+use paper::{COUNTS, EVENT_WORDS, Refusal};
 use runner_events::{EVENT_BYTES, whole_events};
 use saying::say_refused_event;
 use std::io::Read;
@@ -53,8 +53,8 @@ fn count_events(
     let stop = ended.stop;
     let taken = ended.taken;
     match stop {
-        Verdict::Fine => Turn::On,
-        Verdict::Refused(r) => {
+        Ok(()) => Turn::On,
+        Err(r) => {
             let cause = cause_of(events, taken, tasks);
             say_refused_event(rt, path, n.wrapping_add(taken as u64), r, cause);
             Turn::Ended(Outcome::Refused)

@@ -5,9 +5,8 @@
 mod lists;
 mod output;
 
-ghost use Rattle.std.specs.Prelude.{◌≡◌, ◌≤◌, true, length};
+ghost use Rattle.std.specs.Prelude.{◌≡◌, ◌≤◌, true, length, Ok, tt};
 ghost use Rattle.paper.specs.Numbers.{check_plan};
-ghost use Rattle.paper.specs.declared.Verdict.TheVariants.{Fine};
 ghost use Rattle.files.specs.PlanFiles.{enough};
 ghost use Rattle.disk.specs.Bytes.{Starts};
 
@@ -19,7 +18,7 @@ use files::{PLAN_BYTES, PLAN_WORDS, is_odd, read_plan};
 use kernel::build;
 use lists::count_list;
 use output::{print_table, save_chart};
-use paper::{COUNTS, MOST_WORDS, Refusal, Verdict};
+use paper::{COUNTS, MOST_WORDS, Refusal};
 use plans::{shape_of_plan, total_of};
 use saying::say_refused_plan;
 
@@ -108,7 +107,7 @@ fn report_fresh(rt: &HostRuntime, plan: &[u16], im: &mut [u16], tasks: usize) ->
 
 // Reports on the image of an accepted plan.
 fn report_plan(rt: &HostRuntime, plan: &[u16]) -> Outcome
-    requires { check_plan plan.now ≡ Fine }
+    requires { check_plan plan.now ≡ Ok tt }
 {
     let s = shape_of_plan(plan);
     let size = total_of(s);
@@ -146,8 +145,8 @@ fn report_loaded(rt: &HostRuntime, path: &[u8], buffer: &[u8], found: usize, odd
     let count = plan.words;
     let verdict = plan.verdict;
     match verdict {
-        Verdict::Fine => report_plan(rt, &words[..count]),
-        Verdict::Refused(r) => refuse_plan(rt, path, &words[..count], is_odd(odd, found), r),
+        Ok(()) => report_plan(rt, &words[..count]),
+        Err(r) => refuse_plan(rt, path, &words[..count], is_odd(odd, found), r),
     }
 }
 

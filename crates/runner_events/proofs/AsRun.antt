@@ -1,4 +1,5 @@
 -- What is printed for whole events is of a run over their words. Assumes nothing.
+use Rattle.std.specs.Prelude.{Err, Ok, Result}
 use mathlib.Core.Path.{◌≡◌, refl, ap}
 use mathlib.Core.List.{List, [], ◌∷◌}
 use Prim.Native.Nat.{ℕ, suc, ◌+◌, ◌%◌}
@@ -8,7 +9,8 @@ use Rattle.paper.specs.Events.{event_of, happening}
 use Rattle.paper.specs.Calls.{Ran, one_more, goes_on, run_from}
 use Rattle.paper.specs.Runner.{word, words_of, Printed, prints_on, printed_from}
 use Rattle.paper.specs.declared.Shape.{Shape}
-use Rattle.paper.specs.declared.Reply.{Reply}
+use Rattle.paper.specs.declared.Answer.{Answer}
+use Rattle.paper.specs.declared.Refusal.{Refusal}
 
 -- what is printed, without the text
 abbrev pub ran_of : Printed → Ran
@@ -28,7 +30,7 @@ printed_ran s (k ∷ k' ∷ d ∷ d' ∷ c ∷ c' ∷ later) im n w =
     let o = happening s im (event_of s (word k k') (word d d') (word c c')) in
     go o.reply o.image (printed_ran s later o.image (1 + n) (omega arith))
   where
-    go : (r : Reply) (m : List ℕ) → ran_of (printed_from s m (1 + n) later) ≡ run_from s m (words_of later)
+    go : (r : Result Answer Refusal) (m : List ℕ) → ran_of (printed_from s m (1 + n) later) ≡ run_from s m (words_of later)
         → ran_of (prints_on n r m (λ next. printed_from s next (1 + n) later)) ≡ goes_on r m (λ next. run_from s next (words_of later))
-    go (Reply.Accepted a) m h = ap one_more h
-    go (Reply.Refused r) m h = refl
+    go (Ok a) m h = ap one_more h
+    go (Err r) m h = refl

@@ -1,4 +1,5 @@
 -- What is printed for the events of some bytes, event by event and buffer by buffer. Assumes nothing.
+use Rattle.std.specs.Prelude.{Err, Ok, Result, ⊤}
 use mathlib.Core.Path.{◌≡◌, refl, sym, ap, ◌∙◌}
 use mathlib.Core.List.{List, [], ◌∷◌, ◌++◌, append-nil, append_assoc}
 use mathlib.Core.Bool.{Bool, true, false}
@@ -14,11 +15,10 @@ use Rattle.paper.specs.Events.{event_of, happening}
 use Rattle.paper.specs.Runner.{word, line, Printed, nothing_printed, last_line, after_line, prints_on, printed_from}
 use Rattle.paper.specs.declared.Shape.{Shape}
 use Rattle.paper.specs.declared.Refusal.{Refusal}
-use Rattle.paper.specs.declared.Reply.{Reply}
-use Rattle.paper.specs.declared.Verdict.{Verdict}
 use Rattle.writes.specs.Written.{written, written_none, written_on}
 use Rattle.laws.specs.Checked.{never_fine}
 use Rattle.runner_events.specs.Buffers.{event_bytes, event_at, Prints, followed, ForAnyRest}
+use Rattle.paper.specs.declared.Answer.{Answer}
 
 six_bytes : (bytes : List ℕ) (at : ℕ) → at + 6 ≤ length bytes
     → drop at bytes ≡ get_or bytes at 0 ∷ get_or bytes (at + 1) 0 ∷ get_or bytes (at + 2) 0 ∷ get_or bytes (at + 3) 0 ∷ get_or bytes (at + 4) 0 ∷
@@ -99,7 +99,7 @@ module _ (o out : List ℕ) (text taken : ℕ) (all : Printed) where
         leaves = j.leaves;
       }
 
-  pub joins_end : (im : List ℕ) → Joins o out text taken (nothing_printed im) all → Prints o out text taken Verdict.Fine im all
+  pub joins_end : (im : List ℕ) → Joins o out text taken (nothing_printed im) all → Prints o out text taken (Ok tt) im all
   joins_end im j =
       record {
         made = sym (written_none out text) ∙ j.made;
@@ -110,7 +110,7 @@ module _ (o out : List ℕ) (text taken : ℕ) (all : Printed) where
       }
 
   pub joins_last : (n : ℕ) (r : Refusal) (im : List ℕ) → Joins o out text taken (last_line n r im) all
-      → Prints o (written out text (line n (Reply.Refused r))) (text + length (line n (Reply.Refused r))) taken (Verdict.Refused r) im all
+      → Prints o (written out text (line n (Err r))) (text + length (line n (Err r))) taken (Err r) im all
   joins_last n r im j =
       record { made = j.made; counted = j.counted; number = omega (arith, j.number); stops = j.stops; leaves = j.leaves }
 
@@ -127,7 +127,7 @@ line_first l p q =
 
 -- Why a file may be read buffer by buffer: where all events of the first bytes are accepted, what is printed for all bytes is what is printed
 -- for the first, followed by what is printed for the others, on the image that the first leave and with the numbers that follow.
-pub buffers_follow : (s : Shape) (im : List ℕ) (n : ℕ) (a b : List ℕ) → (printed_from s im n a).stop ≡ Verdict.Fine
+pub buffers_follow : (s : Shape) (im : List ℕ) (n : ℕ) (a b : List ℕ) → (printed_from s im n a).stop ≡ Ok tt
     → printed_from s im n (a ++ b) ≡
     followed (printed_from s im n a) (printed_from s (printed_from s im n a).image (n + (printed_from s im n a).taken) b)
 unfolding printed_from
@@ -141,22 +141,22 @@ buffers_follow s im n (x ∷ y ∷ z ∷ u ∷ v ∷ w ∷ a) b e =
     go (happening s im (event_of s (word x y) (word z u) (word v w))).reply (happening s im (event_of s (word x y) (word z u) (word v w))).image
     (λ next f. buffers_follow s next (1 + n) a b f) e
   where
-    go : (r : Reply) (next : List ℕ)
-        → ((m : List ℕ) → (printed_from s m (1 + n) a).stop ≡ Verdict.Fine
+    go : (r : Result Answer Refusal) (next : List ℕ)
+        → ((m : List ℕ) → (printed_from s m (1 + n) a).stop ≡ Ok tt
         → printed_from s m (1 + n) (a ++ b) ≡ followed (printed_from s m (1 + n) a) (printed_from s (printed_from s m (1 + n) a).image ((1 + n) + (printed_from s m (1 + n) a).taken) b))
-        → (prints_on n r next (λ m. printed_from s m (1 + n) a)).stop ≡ Verdict.Fine
+        → (prints_on n r next (λ m. printed_from s m (1 + n) a)).stop ≡ Ok tt
         → prints_on n r next (λ m. printed_from s m (1 + n) (a ++ b)) ≡
         followed (prints_on n r next (λ m. printed_from s m (1 + n) a))
         (printed_from s (prints_on n r next (λ m. printed_from s m (1 + n) a)).image (n + (prints_on n r next (λ m. printed_from s m (1 + n) a)).taken) b)
-    go (Reply.Accepted x) next h f =
+    go (Ok x) next h f =
         let p = printed_from s next (1 + n) a in
         let k : (1 + n) + p.taken ≡ n + (1 + p.taken) = omega arith in
-        ap (after_line (line n (Reply.Accepted x))) (h next f ∙ ap (λ (j : ℕ). followed p (printed_from s p.image j b)) k) ∙
-        line_first (line n (Reply.Accepted x)) p (printed_from s p.image (n + (1 + p.taken)) b)
-    go (Reply.Refused r) next h f = absurd (never_fine r f)
+        ap (after_line (line n (Ok x))) (h next f ∙ ap (λ (j : ℕ). followed p (printed_from s p.image j b)) k) ∙
+        line_first (line n (Ok x)) p (printed_from s p.image (n + (1 + p.taken)) b)
+    go (Err r) next h f = absurd (never_fine r f)
 
 -- and why reading may stop at a refusal: where an event of the first bytes is refused, and these are whole events, nothing more is printed.
-pub refusal_ends : (s : Shape) (im : List ℕ) (n : ℕ) (a b : List ℕ) → length a % event_bytes ≡ 0 → (printed_from s im n a).stop ≢ Verdict.Fine
+pub refusal_ends : (s : Shape) (im : List ℕ) (n : ℕ) (a b : List ℕ) → length a % event_bytes ≡ 0 → (printed_from s im n a).stop ≢ Ok tt
     → printed_from s im n (a ++ b) ≡ printed_from s im n a
 unfolding printed_from
 refusal_ends s im n [] b e ne = absurd (ne refl)
@@ -169,14 +169,14 @@ refusal_ends s im n (x ∷ y ∷ z ∷ u ∷ v ∷ w ∷ a) b e ne =
     go (happening s im (event_of s (word x y) (word z u) (word v w))).reply (happening s im (event_of s (word x y) (word z u) (word v w))).image
     (λ next f. refusal_ends s next (1 + n) a b (omega arith) f) ne
   where
-    go : (r : Reply) (next : List ℕ)
-        → ((m : List ℕ) → (printed_from s m (1 + n) a).stop ≢ Verdict.Fine → printed_from s m (1 + n) (a ++ b) ≡ printed_from s m (1 + n) a)
-        → (prints_on n r next (λ m. printed_from s m (1 + n) a)).stop ≢ Verdict.Fine
+    go : (r : Result Answer Refusal) (next : List ℕ)
+        → ((m : List ℕ) → (printed_from s m (1 + n) a).stop ≢ Ok tt → printed_from s m (1 + n) (a ++ b) ≡ printed_from s m (1 + n) a)
+        → (prints_on n r next (λ m. printed_from s m (1 + n) a)).stop ≢ Ok tt
         → prints_on n r next (λ m. printed_from s m (1 + n) (a ++ b)) ≡ prints_on n r next (λ m. printed_from s m (1 + n) a)
-    go (Reply.Accepted x) next h f = ap (after_line (line n (Reply.Accepted x))) (h next f)
-    go (Reply.Refused r) next h f = refl
+    go (Ok x) next h f = ap (after_line (line n (Ok x))) (h next f)
+    go (Err r) next h f = refl
 
-pub any_rest : (s : Shape) (im : List ℕ) (n : ℕ) (bytes o out after : List ℕ) (text taken : ℕ) (stop : Verdict)
+pub any_rest : (s : Shape) (im : List ℕ) (n : ℕ) (bytes o out after : List ℕ) (text taken : ℕ) (stop : Result ⊤ Refusal)
     → Prints o out text taken stop after (printed_from s im n bytes) → ForAnyRest s im n bytes after taken stop
 any_rest s im n bytes o out after text taken stop p rest ended =
     record {
@@ -184,7 +184,7 @@ any_rest s im n bytes o out after text taken stop p rest ended =
       ends = λ ne. go (eqb (length bytes % event_bytes) 0) refl (λ e. ne (p.stops ∙ e));
     }
   where
-    go : (b : Bool) → eqb (length bytes % event_bytes) 0 ≡ b → ((printed_from s im n bytes).stop ≢ Verdict.Fine)
+    go : (b : Bool) → eqb (length bytes % event_bytes) 0 ≡ b → ((printed_from s im n bytes).stop ≢ Ok tt)
         → printed_from s im n (bytes ++ rest) ≡ printed_from s im n bytes
     go true l ne = refusal_ends s im n bytes rest (eqb-true (length bytes % event_bytes) 0 l) ne
     go false l ne = rw (ended (eqb-false (length bytes % event_bytes) 0 l), append-nil bytes)

@@ -1,4 +1,5 @@
 -- The events of a buffer taken one after another, with their lines. Assumes nothing.
+use Rattle.std.specs.Prelude.{Err, Ok, Result, ⊤}
 use mathlib.Core.Path.{◌≡◌, refl, sym, ap, ◌∙◌}
 use mathlib.Core.List.{List}
 use Prim.Native.Nat.{ℕ, ◌+◌, ◌<◌, ◌≤◌, ◌*◌}
@@ -10,8 +11,6 @@ use Rattle.paper.specs.Events.{event_of, happening}
 use Rattle.paper.specs.Runner.{word, line, last_line, after_line, prints_on, printed_from}
 use Rattle.paper.specs.declared.Shape.{Shape}
 use Rattle.paper.specs.declared.Refusal.{Refusal}
-use Rattle.paper.specs.declared.Reply.{Reply}
-use Rattle.paper.specs.declared.Verdict.{Verdict}
 use Rattle.writes.specs.Written.{written, written_length}
 use Rattle.paper.specs.Waking.{outcome}
 use Rattle.paper.specs.declared.Answer.{Answer}
@@ -49,7 +48,7 @@ module _ (s : Shape) (first : List ℕ) (n : ℕ) (bytes o : List ℕ) where
     number_room h r = omega (arith, g.place)
 
     -- no events are left
-    pub events_end : at ≡ length bytes → text_room bytes ≤ length o → Feeds s first n bytes o im out text taken Verdict.Fine
+    pub events_end : at ≡ length bytes → text_room bytes ≤ length o → Feeds s first n bytes o im out text taken (Ok tt)
     events_end h r =
         record {
           prints = joins_end o out text taken _ im (rw (printed_none s im (n + taken) bytes at (omega arith)) at g.joins);
@@ -59,7 +58,7 @@ module _ (s : Shape) (first : List ℕ) (n : ℕ) (bytes o : List ℕ) where
         }
 
     -- a short one is left
-    pub short_left : (out' : List ℕ) (text' taken' : ℕ) (stop : Verdict) → at < length bytes → length bytes < at + 6 → text_room bytes ≤ length o
+    pub short_left : (out' : List ℕ) (text' taken' : ℕ) (stop : Result ⊤ Refusal) → at < length bytes → length bytes < at + 6 → text_room bytes ≤ length o
         → FeedsShort text taken n out out' text' taken' stop → Feeds s first n bytes o im out' text' taken' stop
     short_left out' text' taken' stop h l r f =
         record {
@@ -73,16 +72,16 @@ module _ (s : Shape) (first : List ℕ) (n : ℕ) (bytes o : List ℕ) where
 
     module _ (m : ℕ) (em : m ≡ n + taken) (out' : List ℕ) (text' : ℕ) where
       -- one more is carried out
-      module _ (im' : List ℕ) (reply : Reply) (h : at + 6 ≤ length bytes) (is : outcome reply im' ≡ happening s im (event_at s bytes at)) (good : Lawful s im') (et : text' ≡ text + length (line m reply))
+      module _ (im' : List ℕ) (reply : Result Answer Refusal) (h : at + 6 ≤ length bytes) (is : outcome reply im' ≡ happening s im (event_at s bytes at)) (good : Lawful s im') (et : text' ≡ text + length (line m reply))
           (small : text' ≤ text + most_line) (eo : out' ≡ written out text (line m reply)) where
         left_is : Joins o out text taken (prints_on (n + taken) reply im' (λ next. printed_from s next (1 + (n + taken)) (drop (at + 6) bytes)))
             (printed_from s first n bytes)
         left_is = rw (ap (λ o. o.reply) is, ap (λ o. o.image) is, ← printed_step s im (n + taken) bytes at h) g.joins
 
-        pub event_accepted : (a : Answer) → reply ≡ Reply.Accepted a → Going s first n bytes o im' out' (at + 6) text' (taken + 1)
+        pub event_accepted : (a : Answer) → reply ≡ Ok a → Going s first n bytes o im' out' (at + 6) text' (taken + 1)
         event_accepted a ea =
             let k : n + (taken + 1) ≡ 1 + (n + taken) = omega arith in
-            let l = line (n + taken) (Reply.Accepted a) in
+            let l = line (n + taken) (Ok a) in
             let p = printed_from s im' (1 + (n + taken)) (drop (at + 6) bytes) in
             let j : Joins o out text taken (after_line l p) (printed_from s first n bytes) = rw ea at left_is in
             record {
@@ -94,7 +93,7 @@ module _ (s : Shape) (first : List ℕ) (n : ℕ) (bytes o : List ℕ) where
               good = good;
             }
 
-        pub event_refused : (r : Refusal) → reply ≡ Reply.Refused r → text_room bytes ≤ length o → Feeds s first n bytes o im' out' text' taken (Verdict.Refused r)
+        pub event_refused : (r : Refusal) → reply ≡ Err r → text_room bytes ≤ length o → Feeds s first n bytes o im' out' text' taken (Err r)
         event_refused r ea room =
             let j : Joins o out text taken (last_line (n + taken) r im') (printed_from s first n bytes) = rw ea at left_is in
             record {
@@ -105,7 +104,7 @@ module _ (s : Shape) (first : List ℕ) (n : ℕ) (bytes o : List ℕ) where
             }
 
 -- the promise allows one outcome alone
-pub feeds_once : (s : Shape) (first : List ℕ) (n : ℕ) (bytes o : List ℕ) (im im' out out' : List ℕ) (text text' taken taken' : ℕ) (stop stop' : Verdict)
+pub feeds_once : (s : Shape) (first : List ℕ) (n : ℕ) (bytes o : List ℕ) (im im' out out' : List ℕ) (text text' taken taken' : ℕ) (stop stop' : Result ⊤ Refusal)
     → Feeds s first n bytes o im out text taken stop → Feeds s first n bytes o im' out' text' taken' stop'
     → (im ≡ im') × (out ≡ out') × (text ≡ text') × (taken ≡ taken') × (stop ≡ stop')
 feeds_once s first n bytes o im im' out out' text text' taken taken' stop stop' f g =
@@ -135,7 +134,7 @@ module _ (buffer : List ℕ) (found n : ℕ) (out : List ℕ) (b : Buffered buff
   pub found_room : text_room (take found buffer) ≤ length out
   found_room = rw found_length (omega (arith, b.inside, b.room))
 
-  pub found_rest : (s : Shape) (first im after : List ℕ) (text taken : ℕ) (stop : Verdict) → Feeds s first n (take found buffer) out im after text taken stop
+  pub found_rest : (s : Shape) (first im after : List ℕ) (text taken : ℕ) (stop : Result ⊤ Refusal) → Feeds s first n (take found buffer) out im after text taken stop
       → ForAnyRest s first n (take found buffer) im taken stop
   found_rest s first im after text taken stop f =
       any_rest s first n (take found buffer) out after im text taken stop f.prints

@@ -1,12 +1,10 @@
 -- A buffer of events: what is asked of it, and what is promised of it and of the file that it is a part of.
-use Rattle.std.specs.Prelude.{◌≡◌, List, [], ◌++◌, ◌≢◌, ℕ, ◌+◌, ◌%◌, ◌<◌, ◌≤◌, ◌*◌, ◌/◌, length, get_or}
+use Rattle.std.specs.Prelude.{◌≡◌, List, [], ◌++◌, ◌≢◌, ℕ, ◌+◌, ◌%◌, ◌<◌, ◌≤◌, ◌*◌, ◌/◌, length, get_or, Err, Ok, Result, ⊤}
 use Rattle.paper.specs.Events.{event_of}
 use Rattle.paper.specs.Runner.{word, line, Printed, printed_from}
 use Rattle.paper.specs.declared.Shape.{Shape}
 use Rattle.paper.specs.declared.Event.{Event}
 use Rattle.paper.specs.declared.Refusal.{Refusal}
-use Rattle.paper.specs.declared.Reply.{Reply}
-use Rattle.paper.specs.declared.Verdict.{Verdict}
 use Rattle.writes.specs.Written.{written}
 use Rattle.laws.specs.Events.{Lawful}
 use Rattle.runner_lines.specs.Lines.{most_line}
@@ -30,7 +28,7 @@ abbrev pub text_room : List ℕ → ℕ
 text_room bytes = most_line * (length bytes / event_bytes + 1)
 
 -- all of it is written: the buffer, how long the text is, how many events were taken, where it stopped, and the image after
-pub record Prints (o out : List ℕ) (text taken : ℕ) (stop : Verdict) (im : List ℕ) (all : Printed) : Type 0 where
+pub record Prints (o out : List ℕ) (text taken : ℕ) (stop : Result ⊤ Refusal) (im : List ℕ) (all : Printed) : Type 0 where
   pub made : out ≡ written o 0 all.text
   pub counted : text ≡ length all.text
   pub number : taken ≡ all.taken
@@ -38,15 +36,15 @@ pub record Prints (o out : List ℕ) (text taken : ℕ) (stop : Verdict) (im : L
   pub leaves : im ≡ all.image
 
 -- what is promised of a short last event
-pub record FeedsShort (text taken n : ℕ) (o out : List ℕ) (text' taken' : ℕ) (stop : Verdict) : Type 0 where
-  pub counted : text' ≡ text + length (line (n + taken) (Reply.Refused Refusal.MalformedEvent))
+pub record FeedsShort (text taken n : ℕ) (o out : List ℕ) (text' taken' : ℕ) (stop : Result ⊤ Refusal) : Type 0 where
+  pub counted : text' ≡ text + length (line (n + taken) (Err Refusal.MalformedEvent))
   pub small : text' ≤ text + most_line
-  pub made : out ≡ written o text (line (n + taken) (Reply.Refused Refusal.MalformedEvent))
+  pub made : out ≡ written o text (line (n + taken) (Err Refusal.MalformedEvent))
   pub same : taken' ≡ taken
-  pub stopped : stop ≡ Verdict.Refused Refusal.MalformedEvent
+  pub stopped : stop ≡ Err Refusal.MalformedEvent
 
 -- what is promised of a buffer
-pub record Feeds (s : Shape) (first : List ℕ) (n : ℕ) (bytes o im out : List ℕ) (text taken : ℕ) (stop : Verdict) : Type 0 where
+pub record Feeds (s : Shape) (first : List ℕ) (n : ℕ) (bytes o im out : List ℕ) (text taken : ℕ) (stop : Result ⊤ Refusal) : Type 0 where
   pub prints : Prints o out text taken stop im (printed_from s first n bytes)
   pub good : Lawful s im
   pub fits : text ≤ length o
@@ -58,13 +56,13 @@ followed p q = record { text = p.text ++ q.text; taken = p.taken + q.taken; stop
 
 -- what the lines of a buffer are for the whole file: where all of its events are accepted, the lines of the rest follow, on the image that it
 -- leaves and with the numbers that follow; where one is refused, they are all
-pub record Continues (s : Shape) (im : List ℕ) (n : ℕ) (bytes rest after : List ℕ) (taken : ℕ) (stop : Verdict) : Type 0 where
-  pub goes_on : stop ≡ Verdict.Fine
+pub record Continues (s : Shape) (im : List ℕ) (n : ℕ) (bytes rest after : List ℕ) (taken : ℕ) (stop : Result ⊤ Refusal) : Type 0 where
+  pub goes_on : stop ≡ Ok tt
       → printed_from s im n (bytes ++ rest) ≡ followed (printed_from s im n bytes) (printed_from s after (n + taken) rest)
-  pub ends : stop ≢ Verdict.Fine → printed_from s im n (bytes ++ rest) ≡ printed_from s im n bytes
+  pub ends : stop ≢ Ok tt → printed_from s im n (bytes ++ rest) ≡ printed_from s im n bytes
 
 -- the bytes of a buffer are those of whole events, or nothing follows them
-abbrev pub ForAnyRest : Shape → List ℕ → ℕ → List ℕ → List ℕ → ℕ → Verdict → Type 0
+abbrev pub ForAnyRest : Shape → List ℕ → ℕ → List ℕ → List ℕ → ℕ → Result ⊤ Refusal → Type 0
 ForAnyRest s im n bytes after taken stop =
     (rest : List ℕ) → (length bytes % event_bytes ≢ 0 → rest ≡ []) → Continues s im n bytes rest after taken stop
 

@@ -11,7 +11,7 @@ ghost use Rattle.runner_events.specs.Buffers.{event_bytes, event_at, number_end,
 
 use files::word;
 use happening::step;
-use paper::{EVENT_WORDS, HIGH_BYTES, Refusal, Reply, Shape, Verdict, WORD_BYTES};
+use paper::{Answer, EVENT_WORDS, HIGH_BYTES, Refusal, Shape, WORD_BYTES};
 use runner_lines::put_line;
 
 // The bytes of an event: its kind, its device and its character, a word each.
@@ -22,11 +22,11 @@ pub const EVENT_BYTES: usize = WORD_BYTES * EVENT_WORDS;
 pub struct Fed {
     pub text: usize,
     pub taken: usize,
-    pub stop: Verdict,
+    pub stop: Result<(), Refusal>,
 }
 
 // Carries out the event whose bytes start at a place.
-fn step_at(s: Shape, im: &mut [u16], table: &[u16; HIGH_BYTES], bytes: &[u8], at: usize) -> Reply
+fn step_at(s: Shape, im: &mut [u16], table: &[u16; HIGH_BYTES], bytes: &[u8], at: usize) -> Result<Answer, Refusal>
     requires lawful { Lawful s im.old }
     requires order_table { OrderTable table.now }
     requires event_bytes_in_bounds { at + event_bytes ≤ length bytes.now }
@@ -45,11 +45,11 @@ fn feed_short(text: usize, taken: usize, n: u64, out: &mut [u8]) -> Fed
     requires most_line_in_bounds { text + most_line ≤ length out.old }
     ensures { FeedsShort text taken n out.old out.new result.text result.taken result.stop }
 {
-    let short = Reply::Refused(Refusal::MalformedEvent);
+    let short = Err(Refusal::MalformedEvent);
     Fed {
         text: put_line(out, text, n + taken as u64, short),
         taken: taken,
-        stop: Verdict::Refused(Refusal::MalformedEvent),
+        stop: Err(Refusal::MalformedEvent),
     }
 }
 
@@ -75,15 +75,15 @@ fn feed(
         let reply = step_at(s, im, table, bytes, at);
         text = put_line(out, text, n + taken as u64, reply);
         match reply {
-            Reply::Accepted(_) => {
+            Ok(_) => {
                 taken += 1;
                 at += EVENT_BYTES;
             }
-            Reply::Refused(r) => {
+            Err(r) => {
                 return Fed {
                     text: text,
                     taken: taken,
-                    stop: Verdict::Refused(r),
+                    stop: Err(r),
                 };
             }
         }
@@ -92,7 +92,7 @@ fn feed(
         return Fed {
             text: text,
             taken: taken,
-            stop: Verdict::Fine,
+            stop: Ok(()),
         };
     }
     feed_short(text, taken, n, out)

@@ -1,4 +1,5 @@
 -- Laws of the buffers of a run. Assumes nothing.
+use Rattle.std.specs.Prelude.{Result, ⊤}
 use mathlib.Core.Path.{◌≡◌, refl, ◌∙◌}
 use mathlib.Core.Bool.{Bool, true, false}
 use mathlib.Core.List.{List}
@@ -9,7 +10,6 @@ use lib.Dec.{ltb}
 use lib.ListN.{length, take, get_or, set, length-set}
 use lib.Seq.{length-take-le, get_or-set_same, get_or-set_other}
 use Rattle.paper.specs.declared.Shape.{Shape}
-use Rattle.paper.specs.declared.Verdict.{Verdict}
 use Rattle.disk.specs.Bytes.{Starts}
 use Rattle.disk.specs.declared.Start.{Start}
 use Rattle.disk.proofs.Bytes.{started_end, started_full}
@@ -19,6 +19,7 @@ use Rattle.runner_files.specs.Turns.{most_events, Buffers, Holds, Moved, Tooks, 
 use Rattle.runner_files.specs.declared.taking.Held.{Held}
 use Rattle.runner_files.specs.declared.taking.Took.{Took}
 use Rattle.runner_files.specs.declared.taking.Turn.{Turn}
+use Rattle.paper.specs.declared.Refusal.{Refusal}
 
 -- the buffers serve the bytes that are found
 module _ (buffer text : List ℕ) (n end : ℕ) (b : Buffers buffer text n) (h : end ≤ length buffer) where
@@ -31,7 +32,7 @@ module _ (buffer text : List ℕ) (n end : ℕ) (b : Buffers buffer text n) (h :
       }
 
   -- and no more events are taken than there are
-  module _ (s : Shape) (first im out : List ℕ) (t taken : ℕ) (stop : Verdict) (f : Feeds s first n (take end buffer) text im out t taken stop) where
+  module _ (s : Shape) (first im out : List ℕ) (t taken : ℕ) (stop : Result ⊤ Refusal) (f : Feeds s first n (take end buffer) text im out t taken stop) where
     pub taken_inside : event_bytes * taken ≤ end
     taken_inside = omega (arith, f.few, length-take-le end buffer h)
 

@@ -4,10 +4,9 @@
 
 mod taking;
 
-ghost use Rattle.std.specs.Prelude.{◌≡◌, length};
+ghost use Rattle.std.specs.Prelude.{◌≡◌, length, Ok, tt};
 ghost use Rattle.paper.specs.Image.{total};
 ghost use Rattle.paper.specs.Numbers.{check_plan};
-ghost use Rattle.paper.specs.declared.Verdict.TheVariants.{Fine};
 ghost use Rattle.laws.specs.Events.{Lawful};
 ghost use Rattle.fresh_parts.specs.Accepted.{Plan};
 ghost use Rattle.disk.specs.Bytes.{Starts};
@@ -20,7 +19,7 @@ use disk::{
 };
 use files::{PLAN_BYTES, PLAN_WORDS, is_odd, read_plan};
 use inspect::inspect;
-use paper::{MOST_WORDS, Refusal, Reply, Shape, Verdict};
+use paper::{MOST_WORDS, Refusal, Shape};
 use plans::{shape_of_plan, total_of};
 use runner_lines::{MOST_LINE, put_line};
 use saying::{say_refused_image, say_refused_plan};
@@ -38,7 +37,7 @@ fn say_missing(rt: &HostRuntime, path: &[u8]) {
 // Prints the line of a refused plan or image.
 fn print_refused(rt: &HostRuntime, r: Refusal) -> Outcome {
     let mut text = [0u8; MOST_LINE];
-    let end = put_line(&mut text, 0, REFUSED_START, Reply::Refused(r));
+    let end = put_line(&mut text, 0, REFUSED_START, Err(r));
     let printed = ended(rt, put_text(standard_output(rt), &text[..end]));
     if let Outcome::Done = printed {
         return Outcome::Refused;
@@ -115,7 +114,7 @@ fn run_fresh(
 
 // Runs on the image of an accepted plan.
 fn run_plan(rt: &HostRuntime, plan: &[u16], events: &[u8], saved: &[u8]) -> Outcome
-    requires { check_plan plan.now ≡ Fine }
+    requires { check_plan plan.now ≡ Ok tt }
 {
     let s = shape_of_plan(plan);
     let size = total_of(s);
@@ -154,8 +153,8 @@ fn run_loaded_plan(
     let count = plan.words;
     let verdict = plan.verdict;
     match verdict {
-        Verdict::Fine => run_plan(rt, &words[..count], events, saved),
-        Verdict::Refused(r) => refuse_plan(rt, path, &words[..count], is_odd(odd, found), r),
+        Ok(()) => run_plan(rt, &words[..count], events, saved),
+        Err(r) => refuse_plan(rt, path, &words[..count], is_odd(odd, found), r),
     }
 }
 
@@ -179,8 +178,8 @@ fn run_loaded_image(
     let found = inspect(im);
     let verdict = found.verdict;
     match verdict {
-        Verdict::Fine => run_image(rt, found.shape, im, events, saved),
-        Verdict::Refused(r) => refuse_image(rt, path, im, r),
+        Ok(()) => run_image(rt, found.shape, im, events, saved),
+        Err(r) => refuse_image(rt, path, im, r),
     }
 }
 

@@ -8,7 +8,7 @@ use causes::{EventCause, event_cause};
 use disk::{Outcome, ended, fail, put_text, standard_output};
 use files::word;
 use order_table::laid_out;
-use paper::{HIGH_BYTES, Refusal, Shape, Verdict};
+use paper::{HIGH_BYTES, Refusal, Shape};
 use runner_events::{EVENT_BYTES, feed_buffer, whole_events};
 use runner_lines::MOST_LINE;
 use saying::say_refused_event;
@@ -124,8 +124,8 @@ fn take_events(
         return Took::Ended(Outcome::Unwritten);
     }
     match stop {
-        Verdict::Fine => Took::Events(fed.taken),
-        Verdict::Refused(r) => {
+        Ok(()) => Took::Events(fed.taken),
+        Err(r) => {
             refuse_event(rt, path, n + fed.taken as u64, r, &buffer[from..end], s.n);
             Took::Ended(Outcome::Refused)
         }

@@ -1,4 +1,5 @@
 -- The parts of a line as they are written one after another. Assumes nothing.
+use Rattle.std.specs.Prelude.{Err, Ok, Result}
 use mathlib.Core.Path.{◌≡◌, sym}
 use mathlib.Core.List.{List, ◌++◌, append_assoc}
 use Prim.Native.Nat.{ℕ, ◌+◌, ◌<◌, ◌≤◌}
@@ -10,15 +11,14 @@ use Rattle.paper.specs.Numbers.{number, kind, answer_task}
 use Rattle.paper.specs.Runner.{decimal, space, newline, refused_word, line}
 use Rattle.paper.specs.declared.Answer.{Answer}
 use Rattle.paper.specs.declared.Refusal.{Refusal}
-use Rattle.paper.specs.declared.Reply.{Reply}
 use Rattle.writes.specs.Written.{written, then_on, one_more}
 use Rattle.runner_lines.specs.Lines.{answer_text, refusal_text}
 
-pub accepted_line : (n : ℕ) (a : Answer) → decimal n ++ answer_text a ≡ line n (Reply.Accepted a)
+pub accepted_line : (n : ℕ) (a : Answer) → decimal n ++ answer_text a ≡ line n (Ok a)
 unfolding line answer_text
 accepted_line n a = simp append_assoc
 
-pub refused_line : (n : ℕ) (r : Refusal) → decimal n ++ refusal_text r ≡ line n (Reply.Refused r)
+pub refused_line : (n : ℕ) (r : Refusal) → decimal n ++ refusal_text r ≡ line n (Err r)
 unfolding line refusal_text
 refused_line n r = simp append_assoc
 
@@ -54,11 +54,11 @@ module _ (o a b c : List ℕ) (at p q r k : ℕ) (ea : a ≡ written o at (space
       rw (← ek) (two_made o b c at q r _ newline m.1 m.0 ec er)
 
 -- a line as it is written
-module _ (o a b : List ℕ) (at p q n : ℕ) (reply : Reply) (ea : a ≡ written o at (decimal n)) (ep : p ≡ at + length (decimal n)) where
-  pub accepted_made : (x : Answer) → reply ≡ Reply.Accepted x → q ≡ p + length (answer_text x) → b ≡ written a p (answer_text x)
+module _ (o a b : List ℕ) (at p q n : ℕ) (reply : Result Answer Refusal) (ea : a ≡ written o at (decimal n)) (ep : p ≡ at + length (decimal n)) where
+  pub accepted_made : (x : Answer) → reply ≡ Ok x → q ≡ p + length (answer_text x) → b ≡ written a p (answer_text x)
       → (q ≡ at + length (line n reply)) × (b ≡ written o at (line n reply))
   accepted_made x e eq eb = rw (e, ← accepted_line n x) (two_made o a b at p q (decimal n) (answer_text x) ea ep eb eq)
 
-  pub refused_made : (x : Refusal) → reply ≡ Reply.Refused x → q ≡ p + length (refusal_text x) → b ≡ written a p (refusal_text x)
+  pub refused_made : (x : Refusal) → reply ≡ Err x → q ≡ p + length (refusal_text x) → b ≡ written a p (refusal_text x)
       → (q ≡ at + length (line n reply)) × (b ≡ written o at (line n reply))
   refused_made x e eq eb = rw (e, ← refused_line n x) (two_made o a b at p q (decimal n) (refusal_text x) ea ep eb eq)

@@ -7,7 +7,7 @@ ghost use Rattle.writes.specs.Written.{written};
 ghost use Rattle.runner_lines.specs.Lines.{most_line, most_end, answer_text, refusal_text};
 
 use numbers::{kind_of, number_of, task_of};
-use paper::{Answer, Refusal, Reply};
+use paper::{Answer, Refusal};
 
 // A number is written in base ten, from the byte of the digit 0 on.
 const TEN: u64 = 10;
@@ -95,7 +95,7 @@ fn put_refusal(out: &mut [u8], at: usize, r: Refusal) -> usize
 }
 
 // Writes a line: an event's number, then kind and task, or `refused` and the number.
-pub fn put_line(out: &mut [u8], at: usize, n: u64, reply: Reply) -> usize
+pub fn put_line(out: &mut [u8], at: usize, n: u64, reply: Result<Answer, Refusal>) -> usize
     requires { at + most_line ≤ length out.old }
     ensures value { result ≡ at + length (line n reply) }
     ensures upper_bound { result ≤ at + most_line }
@@ -103,7 +103,7 @@ pub fn put_line(out: &mut [u8], at: usize, n: u64, reply: Reply) -> usize
 {
     let next = put_decimal(out, at, n);
     match reply {
-        Reply::Accepted(a) => put_answer(out, next, a),
-        Reply::Refused(r) => put_refusal(out, next, r),
+        Ok(a) => put_answer(out, next, a),
+        Err(r) => put_refusal(out, next, r),
     }
 }

@@ -1,4 +1,5 @@
 -- What the calls of this crate ask and make, as laws over values. Assumes nothing.
+use Rattle.std.specs.Prelude.{None, Some}
 use mathlib.Core.Path.{◌≡◌, refl, sym, ap, ◌∙◌}
 use mathlib.Core.List.{List}
 use mathlib.Core.Bool.{Bool, true, false, ◌&&◌, and-eq-true_iff}
@@ -16,8 +17,6 @@ use Rattle.paper.specs.declared.Task.{Task}
 use Rattle.paper.specs.declared.Shape.{Shape}
 use Rattle.paper.specs.declared.Queue.{Queue}
 use Rattle.paper.specs.declared.Service.{Service}
-use Rattle.paper.specs.declared.Fault.{Fault}
-use Rattle.paper.specs.declared.Woken.{Woken}
 use Rattle.paper.specs.declared.Answer.{Answer}
 use Rattle.laws.specs.Cells.{cells}
 use Rattle.laws.specs.Sound.{Sound, appended_some}
@@ -87,19 +86,19 @@ module _ (s : Shape) (im m : List ℕ) (i : Task) (w : ℕ) (h : Sound s im) (hi
   then_some em = rw em (appended_some s im h (Queue.Output i) hi w)
 
 -- what a service comes to whose number is not wrong: the buffer first
-module _ (s : Shape) (im : List ℕ) (i : Task) (v : Service) (right : fault_of s im i v ≡ Fault.Nothing) (b : Bool) (eb : b ≡ blocked s im i v) where
+module _ (s : Shape) (im : List ℕ) (i : Task) (v : Service) (right : fault_of s im i v ≡ None) (b : Bool) (eb : b ≡ blocked s im i v) where
   pub comes_to_wait : (o : Answered) (p : ℕ) → b ≡ true → p ≡ awaited s im i v → o ≡ answered (Answer.ServiceWaits i) (left s (with_status s im i (waits v) p))
       → o ≡ service s im i v
   unfolding service waiting
   comes_to_wait o p t ep eo = rw (right, ← eb, t, ← ep) eo
 
   -- then the word moves, and nobody is woken
-  pub comes_to_pass : (o : Answered) → b ≡ false → wakes s im i v ≡ Woken.Nobody → o ≡ answered (Answer.ServiceDone i) (done s im i (moved s im i v)) → o ≡ service s im i v
+  pub comes_to_pass : (o : Answered) → b ≡ false → wakes s im i v ≡ None → o ≡ answered (Answer.ServiceDone i) (done s im i (moved s im i v)) → o ≡ service s im i v
   unfolding service finished with_woken served done
   comes_to_pass o t nobody eo = rw (right, ← eb, t, nobody) eo
 
   -- or a task is
-  pub comes_to_wake : (o : Answered) → b ≡ false → (j : Task) → wakes s im i v ≡ Woken.One j → o ≡ answered (Answer.ServiceDone i) (woken s (done s im i (moved s im i v)) j)
+  pub comes_to_wake : (o : Answered) → b ≡ false → (j : Task) → wakes s im i v ≡ Some j → o ≡ answered (Answer.ServiceDone i) (woken s (done s im i (moved s im i v)) j)
       → o ≡ service s im i v
   unfolding service finished with_woken served done
   comes_to_wake o t j one eo = rw (right, ← eb, t, one) eo
@@ -135,7 +134,7 @@ module _ (s : Shape) (im : List ℕ) (i : Task) (k : ℕ) (ek : k ≡ at s im (r
     unnamed o h eo = rw (between.names, ← ek, le-leb s.n k h) eo
 
     module _ (h : k < s.n) (b : Bool) (q : Queue) (eb : b ≡ blocks v s im q) (eq : q ≡ buffer s im i v) where
-      right : fault_of s im i v ≡ Fault.Nothing
+      right : fault_of s im i v ≡ None
       right = rw (between.names, ← ek, lt-leb s.n k h)
 
       buffered : b ≡ blocked s im i v
@@ -151,7 +150,7 @@ module _ (s : Shape) (im : List ℕ) (i : Task) (k : ℕ) (ek : k ≡ at s im (r
 
         pub moved_alone : (o : Answered) → a ≡ false → o ≡ answered (Answer.ServiceDone i) (done s im i (moves v s im i q)) → o ≡ service s im i v
         moved_alone o ta eo =
-            let nobody : wakes s im i v ≡ Woken.Nobody = test ∙ rw ta in
+            let nobody : wakes s im i v ≡ None = test ∙ rw ta in
             comes_to_pass s im i v right b buffered o t nobody (rw (← eq) eo)
 
         module _ (ta : a ≡ true) (r : Answer) (m : List ℕ) (em : answered r m ≡ answered (Answer.ServiceDone i) (done s im i (moves v s im i q))) where
@@ -184,7 +183,7 @@ module _ (s : Shape) (im : List ℕ) (i : Task) (w : ℕ) (ew : w ≡ given s im
   unfolding service
   too_large o h eo = rw (← ew, lt-ltb most_character w h) eo
 
-  pub small_enough : w ≤ most_character → error_if (ltb most_character (given s im i)) no_character ≡ Fault.Nothing
+  pub small_enough : w ≤ most_character → error_if (ltb most_character (given s im i)) no_character ≡ None
   small_enough h = rw (← ew, le-ltb most_character w h)
 
   pub put_out : (m l out : List ℕ) (r : Answer) (f : ℕ) → r ≡ Answer.ServiceDone i → f ≡ flags_of (cc_in s im i) (error s im i) 0

@@ -1,4 +1,5 @@
 -- A service from an image whose clock has fallen by 1: what it asks, and what it comes to. Assumes nothing.
+use Rattle.std.specs.Prelude.{Some}
 use mathlib.Core.Path.{◌≡◌, refl, ◌∙◌}
 use mathlib.Core.List.{List}
 use mathlib.Core.Bool.{false}
@@ -13,7 +14,6 @@ use Rattle.paper.specs.declared.Task.{Task}
 use Rattle.paper.specs.declared.Shape.{Shape}
 use Rattle.paper.specs.declared.Queue.{Queue}
 use Rattle.paper.specs.declared.Service.{Service}
-use Rattle.paper.specs.declared.Asked.{Asked}
 use Rattle.laws.specs.Frame.{Apart, frame_none, frame_put, kept_empty}
 use Rattle.laws.specs.Changes.{header_part}
 use Rattle.laws.specs.Room.{Roomy, kept_roomy}
@@ -30,7 +30,7 @@ module _ (s : Shape) (im m : List ℕ) (v : ℕ) (em : m ≡ put s im clock v) w
   still_roomy r = kept_roomy header_part clock_alone refl refl r
 
 -- the clock, k, has fallen by 1, which made im into m: the service of a number, from m, is what rule 4 says
-pub acts : (s : Shape) (im m : List ℕ) (i : Task) (v : Service) (k p n : ℕ) (o : Answered) → k ≡ at s im clock → m ≡ put s im clock (k - 1) → p ≡ n → asked n ≡ Asked.For v
+pub acts : (s : Shape) (im m : List ℕ) (i : Task) (v : Service) (k p n : ℕ) (o : Answered) → k ≡ at s im clock → m ≡ put s im clock (k - 1) → p ≡ n → asked n ≡ Some v
     → o ≡ service s m i v → o ≡ acting s im i (asked p)
 unfolding spent
 acts s im m i v k p n o ek em ep en eo = eo ∙ rw (ep, en, ← ek, em)

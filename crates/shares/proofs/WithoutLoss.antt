@@ -1,5 +1,6 @@
 -- What a share tells, of 97 counts of which none is past its end: nothing is lost on the way to the division, and nothing in it where
 -- all ticks are a power of two; a task without ticks has share 0; no share is below 0 or above 1. Assumes nothing.
+use Rattle.std.specs.Prelude.{Some}
 use mathlib.Core.Path.{◌≡◌, refl, sym, ap, ◌∙◌, subst}
 use mathlib.Core.Bool.{Bool, true, false}
 use mathlib.Core.List.{List}
@@ -18,7 +19,6 @@ use lib.Ieee.Order.{round_mono}
 use lib.Ieee.Scale.{round_same}
 use Rattle.paper.specs.Image.{most_tasks}
 use Rattle.paper.specs.Counts.{all_counts, most_count, task_ticks, all_ticks, share}
-use Rattle.paper.specs.declared.Share.{Share}
 use Rattle.counting.specs.Growing.{sum_bounded}
 use Rattle.shares.specs.Percent.{sums_bits, sums_end}
 use Rattle.shares.proofs.Sums.{task_among_all, rowless_ticks}
@@ -67,7 +67,7 @@ small_power k h = told (ltb k sums_bits) refl
 
 -- where all ticks are a power of two, the share is exactly the quotient
 pub share_exact : (l : List ℕ) (i k : ℕ) → Night l → all_ticks l ≡ 2 ^ k
-    → (x : Float) × (share l i ≡ Share.Of x) × HasValue x false (task_ticks l i) (2 ^ k)
+    → (x : Float) × (share l i ≡ Some x) × HasValue x false (task_ticks l i) (2 ^ k)
 share_exact l i k n p = (
   round binary64 false (task_ticks l i) (2 ^ k),
   share_rounded i (2 ^ k) l (pow_pos k) p,
@@ -89,16 +89,16 @@ everything_rounded : round binary64 false 1 1 ≡ everything
 unfolding round
 everything_rounded = refl
 
-pub share_zero : (l : List ℕ) (i : ℕ) → 0 < all_ticks l → task_ticks l i ≡ 0 → share l i ≡ Share.Of nothing
+pub share_zero : (l : List ℕ) (i : ℕ) → 0 < all_ticks l → task_ticks l i ≡ 0 → share l i ≡ Some nothing
 share_zero l i h p =
-    share_rounded i (all_ticks l) l h refl ∙ ap (λ (t : ℕ). Share.Of (round binary64 false t (all_ticks l))) p ∙
-    ap Share.Of (round_same binary64 false 0 (all_ticks l) 0 1 h (lit< tt) (omega arith) ∙ nothing_rounded)
+    share_rounded i (all_ticks l) l h refl ∙ ap (λ (t : ℕ). Some (round binary64 false t (all_ticks l))) p ∙
+    ap Some (round_same binary64 false 0 (all_ticks l) 0 1 h (lit< tt) (omega arith) ∙ nothing_rounded)
 
-pub share_rowless : (l : List ℕ) (i : ℕ) → 0 < all_ticks l → most_tasks ≤ i → share l i ≡ Share.Of nothing
+pub share_rowless : (l : List ℕ) (i : ℕ) → 0 < all_ticks l → most_tasks ≤ i → share l i ≡ Some nothing
 share_rowless l i h p = share_zero l i h (sym (rowless_ticks i l p))
 
 -- a share is at least 0 and at most 1
-pub share_within : (l : List ℕ) (i : ℕ) → 0 < all_ticks l → (x : Float) × (share l i ≡ Share.Of x) × T (le nothing x) × T (le x everything)
+pub share_within : (l : List ℕ) (i : ℕ) → 0 < all_ticks l → (x : Float) × (share l i ≡ Some x) × T (le nothing x) × T (le x everything)
 share_within l i h =
     let x = round binary64 false (task_ticks l i) (all_ticks l) in (
       x,

@@ -6,7 +6,7 @@ ghost use Rattle.paper.specs.Counts.{all_counts, sum, task_ticks as ticks_of_tas
 ghost use Rattle.paper.specs.Promises.{Shares};
 ghost use Rattle.shares.specs.Percent.{sums_end, percent};
 
-use paper::{COUNTS, HEADINGS, MOST_TASKS, Share};
+use paper::{COUNTS, HEADINGS, MOST_TASKS};
 
 // A whole has so many hundredths of a percent, and each of these two halves.
 const WHOLE: u64 = 10000;
@@ -53,22 +53,22 @@ pub fn all_ticks(counts: &[u32]) -> u64
 }
 
 // A task's share of all ticks, of a list that has every count: one division, rounded once.
-pub fn share_on(counts: &[u32], task: u16) -> Share
+pub fn share_on(counts: &[u32], task: u16) -> Option<f64>
     requires { length counts.now ≡ all_counts }
     ensures { Shares counts.now task result }
 {
     let all = all_ticks(counts);
     if all == 0 {
-        return Share::NoTicks;
+        return None;
     }
     let ticks = task_ticks(counts, task);
     let part = ticks as f64;
     let whole = all as f64;
-    Share::Of(part / whole)
+    Some(part / whole)
 }
 
 // A task's share of all ticks.
-pub fn share(counts: &[u32; COUNTS], task: u16) -> Share
+pub fn share(counts: &[u32; COUNTS], task: u16) -> Option<f64>
     ensures { Shares counts.now task result }
 {
     share_on(counts, task)

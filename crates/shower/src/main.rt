@@ -7,7 +7,7 @@ use disk::{
     short_arg, standard_output, tell,
 };
 use inspect::inspect;
-use paper::Verdict;
+
 use saying::say_refused_image;
 
 // How many arguments there are, the program's own name among them, and where the image's stands.
@@ -19,7 +19,7 @@ const IMAGE_AT: usize = 1;
 fn show_image(rt: &HostRuntime, path: &[u8], im: &[u16]) -> Outcome {
     let found = inspect(im);
     let verdict = found.verdict;
-    if let Verdict::Refused(r) = verdict {
+    if let Err(r) = verdict {
         say_refused_image(rt, path, im, r);
         return Outcome::Refused;
     }

@@ -1,6 +1,6 @@
 -- What a buffer held and then what was sent to it is what was got from it and then what it holds, in order. Assumes nothing.
 use Rattle.std.proofs.Math.Path.{◌≡◌, refl, ap}
-use Rattle.std.proofs.Common.{sym, ◌∙◌, true≢false, inr, arith}
+use Rattle.std.proofs.Common.{sym, ◌∙◌, true≢false, inr, arith, None, Ok, Result, Some}
 use mathlib.Core.List.{List, [], ◌∷◌, ◌++◌, append-nil, append_assoc}
 use Rattle.std.specs.Prelude.{Bool, true, false, not, ◌||◌, ◌≢◌, ◌⊎◌, ℕ, zero, suc, ◌<◌, ◌≤◌, eqb}
 use Rattle.std.proofs.Math.Bool.{and-eq-true_iff}
@@ -20,10 +20,7 @@ use Rattle.paper.specs.declared.Cell.{Cell}
 use Rattle.paper.specs.declared.Part.{Part}
 use Rattle.paper.specs.declared.Queue.{Queue}
 use Rattle.paper.specs.declared.Service.{Service}
-use Rattle.paper.specs.declared.Fault.{Fault}
-use Rattle.paper.specs.declared.Woken.{Woken}
 use Rattle.paper.specs.declared.Answer.{Answer}
-use Rattle.paper.specs.declared.Reply.{Reply}
 use Rattle.laws.specs.Cases.{when}
 use Rattle.laws.specs.Cells.{at_same, length_put}
 use Rattle.laws.specs.Queues.{Off, same_task, same_queue, word_valid, held_frame, appended_held, taken_held}
@@ -42,6 +39,7 @@ use Rattle.event_laws.specs.Begun.{clock_only, reg_same}
 use Rattle.event_laws.proofs.Stays.{begins_leads, stopped_is, order_frame, first_leads, tick_good, next_owner, words_good}
 use Rattle.user_laws.specs.Folded.{event_is}
 use Rattle.user_laws.specs.Words.{served_reply, told, done, word_if, sent, got, Balanced, all_sent, all_got}
+use Rattle.paper.specs.declared.Refusal.{Refusal}
 
 -- a test that cannot hold
 is_false : (b : Bool) → ¬ (b ≡ true) → b ≡ false
@@ -52,12 +50,12 @@ no_word : (b : Bool) (w : ℕ) → ¬ (b ≡ true) → word_if b w ≡ []
 no_word b w f = rw (is_false b f)
 
 -- a reply that tells of no word of queue q
-record Elsewhere (s : Shape) (im : List ℕ) (r : Reply) (q : Queue) : Type 0 where
+record Elsewhere (s : Shape) (im : List ℕ) (r : Result Answer Refusal) (q : Queue) : Type 0 where
   services : (i : Task) (v : Service) → done s im r i v ≡ true → buffer s im i v ≢ q
   inputs : (i : Task) → told r 8 i ≡ true → Queue.Input i ≢ q
   outputs : (i : Task) → told r 9 i ≡ true → Queue.Output i ≢ q
 
-module _ (s : Shape) (im : List ℕ) (r : Reply) where
+module _ (s : Shape) (im : List ℕ) (r : Result Answer Refusal) where
   none_sent : (c : ℕ) (q : Queue) → Elsewhere s im r q → sent s im c r q ≡ []
   unfolding sent
   none_sent c Queue.Ready x = refl
@@ -134,7 +132,7 @@ module _ {s : Shape} {q : Queue} (p : Buffered s q) where
         taken_held s m q p.has (sound h).laid.words ((sound h).queues q p.has) (has_word s m h q p.has clear) ∙ rw (e, spared k l)
 
   -- an event that tells of no word of it, and leaves its row as it is
-  module _ {im out : List ℕ} (c : ℕ) (r : Reply) (k : Frame s (Off s q) im out) (g : Good s out) where
+  module _ {im out : List ℕ} (c : ℕ) (r : Result Answer Refusal) (k : Frame s (Off s q) im out) (g : Good s out) where
     elsewhere : Elsewhere s im r q → Balanced s im c r out q
     elsewhere x = rw (none_sent s im r c q x, none_got s im r out q x) (append-nil (held s im q) ∙ sym (spared k (good_sound s out g)))
 
@@ -221,7 +219,7 @@ module _ {s : Shape} {im m : List ℕ} {i : Task} (l : Leads s im i) (b : Begins
   begun p = spared p (begins p) here
 
   -- its word moves off the row of another buffer
-  moved_off : {q : Queue} → Buffered s q → (v : Service) → fault_of s m i v ≡ Fault.Nothing → blocked s m i v ≡ false
+  moved_off : {q : Queue} → Buffered s q → (v : Service) → fault_of s m i v ≡ None → blocked s m i v ≡ false
       → ((j : ℕ) → Off s q (queue_word s (buffer s m i v) j)) → Frame s (Off s q) m (moved s m i v)
   unfolding delivered printing_if_idle
   moved_off p Service.Send right clear o = frame_appended frame_none (buffer s m i Service.Send) (buffer_has s m i hi Service.Send right) here o _
@@ -259,7 +257,7 @@ module _ {s : Shape} {im m : List ℕ} {i : Task} (l : Leads s im i) (b : Begins
         at_same s _ (reg i 3) _ (hi, omega arith) (sound (taken_sound s m q p.has here (has_word s m here q p.has clear))).laid.words)
 
     -- the buffer of the service
-    own : (v : Service) → pending s im i ≡ waits v → fault_of s m i v ≡ Fault.Nothing → blocked s m i v ≡ false → Frame s (Later i) (moved s m i v) out
+    own : (v : Service) → pending s im i ≡ waits v → fault_of s m i v ≡ None → blocked s m i v ≡ false → Frame s (Later i) (moved s m i v) out
         → Balanced s im c (served_reply i) out (buffer s m i v)
     unfolding sent got printing_if_idle
     own Service.Send asks right clear k =
@@ -291,7 +289,7 @@ module _ {s : Shape} {im m : List ℕ} {i : Task} (l : Leads s im i) (b : Begins
         (λ e k. rw e (put_in p m w here clear (later p k) after)) k)
 
     -- any buffer
-    done_words : {q : Queue} → Buffered s q → (v : Service) → pending s im i ≡ waits v → fault_of s m i v ≡ Fault.Nothing → blocked s m i v ≡ false
+    done_words : {q : Queue} → Buffered s q → (v : Service) → pending s im i ≡ waits v → fault_of s m i v ≡ None → blocked s m i v ≡ false
         → Frame s (Later i) (moved s m i v) out → Balanced s im c (served_reply i) out q
     done_words {q} p v asks right clear k =
         ⊎_elim (λ e. rw (← e) (own v asks right clear k))
@@ -308,7 +306,7 @@ module _ {s : Shape} {im m : List ℕ} {i : Task} (l : Leads s im i) (b : Begins
 
   -- so however a service ends
   service_words : {q : Queue} → Buffered s q → (v : Service) → pending s im i ≡ waits v
-      → ServiceCases s m i v (λ a. Good s a.image → Balanced s im c (Reply.Accepted a.answer) a.image q)
+      → ServiceCases s m i v (λ a. Good s a.image → Balanced s im c (Ok a.answer) a.image q)
   unfolding service_faulted waiting served
   service_words p v asks =
       record {
@@ -328,9 +326,9 @@ module _ (s : Shape) (im : List ℕ) (g : Good s im) {q : Queue} (p : Buffered s
   h : Sound s im
   h = good_sound s im g
 
-  tick_words : Balanced s im c (Reply.Accepted (tick s im).answer) (tick s im).image q
+  tick_words : Balanced s im c (Ok (tick s im).answer) (tick s im).image q
   tick_words =
-      tick_any (λ a. Good s a.image → Balanced s im c (Reply.Accepted a.answer) a.image q)
+      tick_any (λ a. Good s a.image → Balanced s im c (Ok a.answer) a.image q)
       record {
         idle = λ _ o. still p c _ frame_none o (λ j. (refl, refl, refl));
         stops = λ some _ o.
@@ -352,13 +350,13 @@ module _ (s : Shape) (im : List ℕ) (g : Good s im) {q : Queue} (p : Buffered s
     wakes l = frame_woken frame_none l (λ r. refl) refl i hi (λ r. refl)
 
     entered : {out : List ℕ} → full s im (Queue.Input i) ≡ false → Apart s turn_parts (appended s im (Queue.Input i) c) out → Good s out
-        → Balanced s im c (Reply.Accepted (Answer.Input i)) out q
+        → Balanced s im c (Ok (Answer.Input i)) out q
     unfolding sent got done
     entered clear k o =
         let b : Buffered s (Queue.Input i) = record { has = hi; apart = refl } in
         ⊎_elim (λ e. rw (← e, eq-eqb i.0 i.0 refl) (put_in b im c h clear (off_turn b k) (good_sound s _ o)))
         (λ f.
-        elsewhere p c (Reply.Accepted (Answer.Input i)) (frame_then (frame_appended frame_none (Queue.Input i) hi h f c) (off_turn p k)) o
+        elsewhere p c (Ok (Answer.Input i)) (frame_then (frame_appended frame_none (Queue.Input i) hi h f c) (off_turn p k)) o
         record {
           services = λ j v e. absurd (true≢false (sym e));
           inputs = λ j e z. off_not p (Queue.Input i) f (ap Queue.Input (same_task i j (eqb-true _ _ e)) ∙ z);
@@ -372,7 +370,7 @@ module _ (s : Shape) (im : List ℕ) (g : Good s im) {q : Queue} (p : Buffered s
         (λ clear _. entered clear frame_none)
         (λ clear _. entered clear (wakes (appended_sound s im (Queue.Input i) hi h c (has_space s im h (Queue.Input i) hi clear))))
 
-    went_on : {out : List ℕ} → Apart s turn_parts (port_next s im i) out → Good s out → Balanced s im c (Reply.Accepted (Answer.OutputDone i)) out q
+    went_on : {out : List ℕ} → Apart s turn_parts (port_next s im i) out → Good s out → Balanced s im c (Ok (Answer.OutputDone i)) out q
     unfolding sent got done port_next
     went_on {out} k o =
         let b : Buffered s (Queue.Output i) = record { has = hi; apart = refl } in
@@ -387,7 +385,7 @@ module _ (s : Shape) (im : List ℕ) (g : Good s im) {q : Queue} (p : Buffered s
         rw e (sym (spared b (frame_then rests (off_turn b k)) l)))
         (λ e k. rw e (printed im i hi h e (off_turn b k) l (kept turn_parts k (character i) (hi, omega arith) refl))) k))
         (λ f.
-        elsewhere p c (Reply.Accepted (Answer.OutputDone i)) (frame_then (frame_next frame_none h i hi f (λ r. off p (cell Part.Ports i.0 r) refl)) (off_turn p k)) o
+        elsewhere p c (Ok (Answer.OutputDone i)) (frame_then (frame_next frame_none h i hi f (λ r. off p (cell Part.Ports i.0 r) refl)) (off_turn p k)) o
         record {
           services = λ j v e. absurd (true≢false (sym e));
           inputs = λ j e. absurd (true≢false (sym e));
@@ -398,7 +396,7 @@ module _ (s : Shape) (im : List ℕ) (g : Good s im) {q : Queue} (p : Buffered s
     output_done_words : Good s (output_done s im i).image → Balanced s im c (output_done s im i).reply (output_done s im i).image q
     output_done_words =
         done_any s im i (λ o. Good s o.image → Balanced s im c o.reply o.image q) (λ _ o. still p c _ frame_none o (λ j. (refl, refl, refl)))
-        (λ _ _. went_on frame_none) (λ _ _. went_on (wakes (next_owner s im g i hi (Woken.One i) (λ _. refl)).lies))
+        (λ _ _. went_on frame_none) (λ _ _. went_on (wakes (next_owner s im g i hi (Some i) (λ _. refl)).lies))
 
 -- whatever event comes, every buffer is balanced
 pub event_words : (s : Shape) (im : List ℕ) → Good s im → (q : Queue) → Has s q → q ≢ Queue.Ready → (k d c : ℕ)
@@ -410,7 +408,7 @@ event_words s im g q hq ne k d c =
     (λ _ hd _. input_words s im g p c (task d) hd) (λ _ hd. output_done_words s im g p c (task d) hd) (λ _ o. still p c _ frame_none o (λ j. (refl, refl, refl))) (words_good s im g k d c)
 
 -- so of a call of event
-module _ (s : Shape) (im : List ℕ) (g : Good s im) (x y z : ℕ) (r : Reply) (after : List ℕ) (h : Happens im x y z r after) where
+module _ (s : Shape) (im : List ℕ) (g : Good s im) (x y z : ℕ) (r : Result Answer Refusal) (after : List ℕ) (h : Happens im x y z r after) where
   pub call_good : Good s after
   call_good = rw (h.left, event_is s im g x y z) (words_good s im g x y z)
 
@@ -419,7 +417,7 @@ module _ (s : Shape) (im : List ℕ) (g : Good s im) (x y z : ℕ) (r : Reply) (
 
 -- and of calls one after another, refused ones among them: what a buffer held at the start and then all words sent to it
 -- is all words got from it and then what it holds at the end
-module _ (s : Shape) (image : ℕ → List ℕ) (word : ℕ → ℕ → ℕ) (reply : ℕ → Reply) (count : ℕ) (start : Good s (image 0))
+module _ (s : Shape) (image : ℕ → List ℕ) (word : ℕ → ℕ → ℕ) (reply : ℕ → Result Answer Refusal) (count : ℕ) (start : Good s (image 0))
     (calls : (n : ℕ) → n < count → Happens (image n) (word n 0) (word n 1) (word n 2) (reply n) (image (suc n))) where
   pub calls_good : (n : ℕ) → n ≤ count → Good s (image n)
   calls_good zero h = start

@@ -1,4 +1,5 @@
 -- The words that are sent and got in two runs that the paper works out: a character from a device to the port, and a zero that a task sends to itself. Proved by computation.
+use Rattle.std.specs.Prelude.{Result}
 use mathlib.Core.Path.{◌≡◌, refl}
 use mathlib.Core.List.{List, [], ◌∷◌, ◌++◌}
 use Prim.Native.Nat.{ℕ, ◌+◌, ◌*◌}
@@ -13,8 +14,9 @@ use Rattle.paper.specs.Events.{event_of, ordered, stopped, turned, spent, turn_o
 use Rattle.paper.specs.Plans.{plan_shape, fresh}
 use Rattle.paper.specs.Calls.{run_from}
 use Rattle.paper.specs.declared.Queue.{Queue}
-use Rattle.paper.specs.declared.Reply.{Reply}
 use Rattle.user_laws.specs.Words.{done, sent, got, leaver, all_sent, all_got}
+use Rattle.paper.specs.declared.Answer.{Answer}
+use Rattle.paper.specs.declared.Refusal.{Refusal}
 
 -- calls on the events of a list, from a plan's fresh image on
 module _ (plan events : List ℕ) where
@@ -24,7 +26,7 @@ module _ (plan events : List ℕ) where
   abbrev image : ℕ → List ℕ
   image n = (run_from (plan_shape plan) (fresh plan) (take (3 * n) events)).image
 
-  abbrev reply : ℕ → Reply
+  abbrev reply : ℕ → Result Answer Refusal
   reply n = (happening (plan_shape plan) (image n) (event_of (plan_shape plan) (word n 0) (word n 1) (word n 2))).reply
 
   abbrev sent_to : Queue → ℕ → List ℕ

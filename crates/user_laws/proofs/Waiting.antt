@@ -1,5 +1,5 @@
 -- A task that waits stays as it is until a word comes for it. Assumes nothing.
-use Rattle.std.specs.Prelude.{◌≡◌, Bool, true, cond, ◌||◌, ◌≢◌, ℕ, zero, suc, ◌<◌, ◌≤◌, eqb, length}
+use Rattle.std.specs.Prelude.{◌≡◌, Bool, true, cond, ◌||◌, ◌≢◌, ℕ, zero, suc, ◌<◌, ◌≤◌, eqb, length, None, Ok, Option, Result, Some}
 use Rattle.std.proofs.Math.Path.{refl}
 use Rattle.std.proofs.Common.{sym, ap, ◌∙◌, true≢false, arith}
 use mathlib.Core.List.{List, [], ◌∷◌, ◌++◌}
@@ -16,11 +16,7 @@ use Rattle.paper.specs.declared.Task.{Task}
 use Rattle.paper.specs.declared.Shape.{Shape}
 use Rattle.paper.specs.declared.Queue.{Queue}
 use Rattle.paper.specs.declared.Service.{Service}
-use Rattle.paper.specs.declared.Asked.{Asked}
-use Rattle.paper.specs.declared.Fault.{Fault}
-use Rattle.paper.specs.declared.Woken.{Woken}
 use Rattle.paper.specs.declared.Event.{Event}
-use Rattle.paper.specs.declared.Reply.{Reply}
 use Rattle.paper.specs.Promises.{Happens}
 use Rattle.laws.specs.Events.{words_any, event_formed}
 use Rattle.laws.specs.Room.{waits_not}
@@ -33,19 +29,21 @@ use Rattle.user_laws.specs.Folded.{event_is}
 use Rattle.user_laws.specs.Words.{served_reply, done, sent, got, all_sent, all_got, for_it}
 use Rattle.user_laws.proofs.Balance.{send_told, receive_told, calls_good}
 use Rattle.user_laws.specs.Asked.{asked_done}
+use Rattle.paper.specs.declared.Answer.{Answer}
+use Rattle.paper.specs.declared.Refusal.{Refusal}
 
 -- a test that wakes somebody, and what it tells
 module _ (j : Task) where
-  nobody : ¬ (Woken.Nobody ≡ Woken.One j)
+  nobody : ¬ (None ≡ Some j)
   nobody e = let z : ◌≡◌ {A = ℕ} 0 1 = cc in omega arith
 
-  cond_one : (b : Bool) (w : Woken) → cond b Woken.Nobody w ≡ Woken.One j → (b ≡ false) × (w ≡ Woken.One j)
+  cond_one : (b : Bool) (w : Option Task) → cond b None w ≡ Some j → (b ≡ false) × (w ≡ Some j)
   cond_one true w e = absurd (nobody e)
   cond_one false w e = (refl, e)
 
-  unless_one : (f : Fault) (b : Bool) (w : Woken) → woken_unless f b w ≡ Woken.One j → (f ≡ Fault.Nothing) × (b ≡ false) × (w ≡ Woken.One j)
-  unless_one (Fault.Error e) b w z = absurd (nobody z)
-  unless_one Fault.Nothing b w z = let (clear, one) = cond_one b w z in (refl, clear, one)
+  unless_one : (f : Option ℕ) (b : Bool) (w : Option Task) → woken_unless f b w ≡ Some j → (f ≡ None) × (b ≡ false) × (w ≡ Some j)
+  unless_one (Some e) b w z = absurd (nobody z)
+  unless_one None b w z = let (clear, one) = cond_one b w z in (refl, clear, one)
 
 none_of : (a b c : Bool) → (a || b || c) ≡ false → (a ≡ false) × (b ≡ false) × (c ≡ false)
 none_of false false c e = (refl, refl, e)
@@ -58,20 +56,20 @@ record WakesBy (s : Shape) (im : List ℕ) (j : Task) : Type 0 where
   some : empty s im Queue.Ready ≡ false
   runs : at s im clock ≢ 0
   asks : pending s im (running s im) ≡ waits service
-  right : fault_of s im (running s im) service ≡ Fault.Nothing
+  right : fault_of s im (running s im) service ≡ None
   clear : blocked s im (running s im) service ≡ false
-  one : wakes s im (running s im) service ≡ Woken.One j
+  one : wakes s im (running s im) service ≡ Some j
 
-wakes_by : (s : Shape) (im : List ℕ) (j : Task) → whom s im Event.Tick ≡ Woken.One j → WakesBy s im j
+wakes_by : (s : Shape) (im : List ℕ) (j : Task) → whom s im Event.Tick ≡ Some j → WakesBy s im j
 wakes_by s im j e =
     let i = running s im in
     let (before, rule) = cond_one j _ _ e in
     let (some, calm, runs) = none_of _ _ _ before in
     go (asked (pending s im i)) refl rule some (eqb-false _ 0 runs)
   where
-    go : (x : Asked) → asked (pending s im (running s im)) ≡ x → asked_wakes s im (running s im) x ≡ Woken.One j → empty s im Queue.Ready ≡ false → at s im clock ≢ 0 → WakesBy s im j
-    go Asked.Nothing a z some runs = absurd (nobody j z)
-    go (Asked.For v) a z some runs =
+    go : (x : Option Service) → asked (pending s im (running s im)) ≡ x → asked_wakes s im (running s im) x ≡ Some j → empty s im Queue.Ready ≡ false → at s im clock ≢ 0 → WakesBy s im j
+    go None a z some runs = absurd (nobody j z)
+    go (Some v) a z some runs =
         let (right, clear, one) = unless_one j _ _ _ z in
         record { service = v; some = some; runs = runs; asks = asked_for _ v a; right = right; clear = clear; one = one }
 
@@ -88,7 +86,7 @@ some_word w m l e z = let n : suc (length m) ≡ 0 = ap length (sym e ∙ z) in 
 -- a task that waits with service v, and the buffer that it waits on
 module _ (s : Shape) (im : List ℕ) (g : Good s im) (j : Task) (hj : j.0 < s.n) (v : Service) (waiting : at s im (status j) ≡ waits v) where
   -- a word of an event comes for it
-  abbrev Comes : ℕ → Reply → List ℕ → Type 0
+  abbrev Comes : ℕ → Result Answer Refusal → List ℕ → Type 0
   Comes c r after = for_it v (sent s im c r (awaits s im j v)) (got s im r after (awaits s im j v)) ≢ []
 
   -- a service that wakes it moves a word for it
@@ -98,7 +96,7 @@ module _ (s : Shape) (im : List ℕ) (g : Good s im) (j : Task) (hj : j.0 < s.n)
         let w = waits_told s im j u i e in
         (waits_one u v (sym w.0 ∙ waiting), ap task w.1)
 
-    service_comes : (u : Service) → pending s im i ≡ waits u → wakes s im i u ≡ Woken.One j → Comes c (served_reply i) after
+    service_comes : (u : Service) → pending s im i ≡ waits u → wakes s im i u ≡ Some j → Comes c (served_reply i) after
     service_comes Service.Send asks one =
         let w = one_is _ _ j one in
         let (same, from) = waits_as Service.Receive (rw w.1 w.0) in
@@ -110,20 +108,20 @@ module _ (s : Shape) (im : List ℕ) (g : Good s im) (j : Task) (hj : j.0 < s.n)
     service_comes Service.Input asks one = absurd (nobody j one)
     service_comes Service.Output asks one = absurd (nobody j one)
 
-  tick_comes : (c : ℕ) → whom s im Event.Tick ≡ Woken.One j → Comes c (Reply.Accepted (tick s im).answer) (tick s im).image
+  tick_comes : (c : ℕ) → whom s im Event.Tick ≡ Some j → Comes c (Ok (tick s im).answer) (tick s im).image
   tick_comes c e =
       let w = wakes_by s im j e in
       rw (asked_done s im g w.some w.runs w.service w.asks w.right w.clear) (service_comes c _ (running s im) w.service w.asks w.one)
 
   -- an event of its own device does so too
-  owner_waits : (i : Task) (u : Service) → one_if (eqb (at s im (status i)) (waits u)) i ≡ Woken.One j → (u ≡ v) × (j ≡ i) × (at s im (status i) ≡ waits u)
+  owner_waits : (i : Task) (u : Service) → one_if (eqb (at s im (status i)) (waits u)) i ≡ Some j → (u ≡ v) × (j ≡ i) × (at s im (status i) ≡ waits u)
   owner_waits i u e =
       let w = one_is _ i j e in
       let st = eqb-true _ _ w.0 in
       let same : at s im (status i) ≡ waits v = rw w.1 at waiting in
       (waits_one u v (sym st ∙ same), w.1, st)
 
-  input_comes : (i : Task) (c : ℕ) → whom s im (Event.Input i c) ≡ Woken.One j → Comes c (input s im i c).reply (input s im i c).image
+  input_comes : (i : Task) (c : ℕ) → whom s im (Event.Input i c) ≡ Some j → Comes c (input s im i c).reply (input s im i c).image
   unfolding sent
   input_comes i c e =
       let (same, it, st) = owner_waits i Service.Input e in
@@ -138,7 +136,7 @@ module _ (s : Shape) (im : List ℕ) (g : Good s im) (j : Task) (hj : j.0 < s.n)
   unfolding empty
   holds_some q none = ne_eqb _ 0 none
 
-  done_comes : (i : Task) (c : ℕ) → whom s im (Event.OutputDone i) ≡ Woken.One j → Comes c (output_done s im i).reply (output_done s im i).image
+  done_comes : (i : Task) (c : ℕ) → whom s im (Event.OutputDone i) ≡ Some j → Comes c (output_done s im i).reply (output_done s im i).image
   unfolding got done
   done_comes i c e =
       let (same, it, st) = owner_waits i Service.Output e in
@@ -157,11 +155,11 @@ module _ (s : Shape) (im : List ℕ) (g : Good s im) (j : Task) (hj : j.0 < s.n)
   unfolding happening
   event_stays k d c none =
       (wakes_only s im g (event_of s k d c) (event_formed s k d c)).stays j hj (λ z. waits_not v (sym z ∙ waiting)) (λ one.
-      none (words_any s k d c (λ e. whom s im e ≡ Woken.One j → Comes c (happening s im e).reply (happening s im e).image) (λ _. tick_comes c) (λ _ _ _. input_comes (task d) c)
+      none (words_any s k d c (λ e. whom s im e ≡ Some j → Comes c (happening s im e).reply (happening s im e).image) (λ _. tick_comes c) (λ _ _ _. input_comes (task d) c)
       (λ _ _. done_comes (task d) c) (λ _ z. absurd (nobody j z)) one))
 
   -- of a call of event too
-  pub call_stays : (x y z : ℕ) (r : Reply) (after : List ℕ) → Happens im x y z r after → ¬ Comes z r after → Unmoved s im after j
+  pub call_stays : (x y z : ℕ) (r : Result Answer Refusal) (after : List ℕ) → Happens im x y z r after → ¬ Comes z r after → Unmoved s im after j
   call_stays x y z r after h =
       rw (h.answered, h.left, event_is s im g x y z) (event_stays x y z)
 
@@ -184,7 +182,7 @@ neither [] b e = (refl, e)
 neither (x ∷ a) b e = absurd (some_word x (a ++ b) _ refl e)
 
 -- of calls of event one after another: the task stays as it was at the start until a word comes for it
-module _ (s : Shape) (image : ℕ → List ℕ) (word : ℕ → ℕ → ℕ) (reply : ℕ → Reply) (count : ℕ) (start : Good s (image 0))
+module _ (s : Shape) (image : ℕ → List ℕ) (word : ℕ → ℕ → ℕ) (reply : ℕ → Result Answer Refusal) (count : ℕ) (start : Good s (image 0))
     (calls : (n : ℕ) → n < count → Happens (image n) (word n 0) (word n 1) (word n 2) (reply n) (image (suc n)))
     (j : Task) (hj : j.0 < s.n) (v : Service) (waiting : at s (image 0) (status j) ≡ waits v) where
   -- the words that came for it in the first n calls

@@ -1,5 +1,5 @@
 -- What becomes of a service that the first task asks for and that is not wrong: it waits where its buffer stops it, and else it is done. Assumes nothing.
-use Rattle.std.specs.Prelude.{◌≡◌, List, ◌∷◌, true, false, ◌≢◌, ℕ, ◌<◌}
+use Rattle.std.specs.Prelude.{◌≡◌, List, ◌∷◌, true, false, ◌≢◌, ℕ, ◌<◌, None, Some}
 use Rattle.std.proofs.Math.Path.{refl, sym, ap}
 use Rattle.std.proofs.Common.{◌∙◌, true≢false, arith}
 use Rattle.std.proofs.Math.Logic.{dite}
@@ -15,7 +15,6 @@ use Rattle.paper.specs.declared.Shape.{Shape}
 use Rattle.paper.specs.declared.Cell.{Cell}
 use Rattle.paper.specs.declared.Queue.{Queue}
 use Rattle.paper.specs.declared.Service.{Service}
-use Rattle.paper.specs.declared.Fault.{Fault}
 use Rattle.paper.specs.declared.Answer.{Answer}
 use Rattle.laws.specs.Frame.{Apart, frame_more, kept, kept_status, kept_peer}
 use Rattle.laws.specs.Changes.{dispatch_parts, turn_parts, status_is, peer_is, status_sound, frame_status, frame_left}
@@ -61,7 +60,7 @@ module _ {s : Shape} {im m : List ℕ} {i : Task} (l : Leads s im i) (b : Begins
 
 -- a tick of a good image whose first task has a service pending that is not wrong, the clock not 0
 module _ (s : Shape) (im : List ℕ) (g : Good s im) (some : empty s im Queue.Ready ≡ false) (runs : at s im clock ≢ 0) (v : Service)
-    (asks : pending s im (running s im) ≡ waits v) (right : fault_of s im (running s im) v ≡ Fault.Nothing) where
+    (asks : pending s im (running s im) ≡ waits v) (right : fault_of s im (running s im) v ≡ None) where
   l : Leads s im (running s im)
   l = first_leads s im g some
 
@@ -69,7 +68,7 @@ module _ (s : Shape) (im : List ℕ) (g : Good s im) (some : empty s im Queue.Re
   calm =
       dite (ℕ_discrete (error s im (running s im)) 0) (λ e. e) (λ ne. absurd (waits_not v (sym ((g.flags (running s im) (first_task s im g some)).never_both ne) ∙ asks)))
 
-  not_wrong : {m : List ℕ} → Begins s im m → (e : ℕ) → fault_of s m (running s im) v ≢ Fault.Error e
+  not_wrong : {m : List ℕ} → Begins s im m → (e : ℕ) → fault_of s m (running s im) v ≢ Some e
   not_wrong b e wrong = let n = fault_same l b v ∙ right in let z : ◌≡◌ {A = ℕ} 0 1 = cc in omega arith
 
   -- it waits where its buffer stops it

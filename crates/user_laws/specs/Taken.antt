@@ -1,5 +1,5 @@
 -- What a run takes: the first events of its list, and by themselves they leave the image that it left. Assumes nothing.
-use Rattle.std.specs.Prelude.{◌≡◌, refl, List, [], ◌∷◌, ◌++◌, ◌≢◌, ℕ, zero, suc, ◌-◌, ◌*◌, ◌%◌, ◌≤◌, length}
+use Rattle.std.specs.Prelude.{◌≡◌, refl, List, [], ◌∷◌, ◌++◌, ◌≢◌, ℕ, zero, suc, ◌-◌, ◌*◌, ◌%◌, ◌≤◌, length, Err, Ok}
 use Rattle.std.proofs.Common.{ap, ◌∙◌, one-add, arith}
 use Rattle.std.proofs.Math.Logic.{dite}
 use Rattle.std.proofs.Math.Decide.{ℕ_discrete}
@@ -10,7 +10,6 @@ use Rattle.paper.specs.Numbers.{verdict_number, check}
 use Rattle.paper.specs.Calls.{Ran, stopped_at, run_from, run}
 use Rattle.paper.specs.declared.Shape.{Shape}
 use Rattle.paper.specs.declared.Refusal.{Refusal}
-use Rattle.paper.specs.declared.Verdict.{Verdict}
 use Rattle.laws.specs.Checked.{never_fine, zero_is}
 use Rattle.event_laws.specs.Walk.{happening_unchanged}
 use Rattle.user_laws.specs.Folded.{run_any}
@@ -25,7 +24,7 @@ first_events (suc n) (k ∷ d ∷ c ∷ later) = k ∷ d ∷ c ∷ first_events 
 
 -- a run with all of its events taken
 abbrev pub all_taken : Ran → Ran
-all_taken r = record { taken = r.taken; stop = Verdict.Fine; image = r.image }
+all_taken r = record { taken = r.taken; stop = Ok tt; image = r.image }
 
 -- the first n events and the rest are the list
 pub events_after : (n : ℕ) (events : List ℕ) → (rest : List ℕ) × (first_events n events ++ rest ≡ events)
@@ -61,10 +60,10 @@ module _ (s : Shape) where
       (λ im x y z later a e ih. rw (one-add, e, ih, one-add)) (λ im x y z later r e. rw (happening_unchanged s im (event_of s x y z) r e))
 
   -- where all events are accepted, those of a prefix are, and are taken
-  pub prefix_taken : (part rest im : List ℕ) (n : ℕ) → (run_from s im (part ++ rest)).stop ≡ Verdict.Fine → length part ≡ 3 * n
-      → ((run_from s im part).stop ≡ Verdict.Fine) × ((run_from s im part).taken ≡ n)
+  pub prefix_taken : (part rest im : List ℕ) (n : ℕ) → (run_from s im (part ++ rest)).stop ≡ Ok tt → length part ≡ 3 * n
+      → ((run_from s im part).stop ≡ Ok tt) × ((run_from s im part).taken ≡ n)
   prefix_taken part rest im n f w =
-      run_any s (λ im part ran. (n : ℕ) → (run_from s im (part ++ rest)).stop ≡ Verdict.Fine → length part ≡ 3 * n → (ran.stop ≡ Verdict.Fine) × (ran.taken ≡ n))
+      run_any s (λ im part ran. (n : ℕ) → (run_from s im (part ++ rest)).stop ≡ Ok tt → length part ≡ 3 * n → (ran.stop ≡ Ok tt) × (ran.taken ≡ n))
       (λ im n f w. (refl, omega arith)) (λ im k n f w. absurd (let l : 1 ≡ 3 * n = w in omega arith)) (λ im k d n f w. absurd (let l : 2 ≡ 3 * n = w in omega arith))
       (λ im x y z later a e ih n f w.
       let l : suc (suc (suc (length later))) ≡ 3 * n = w in
@@ -73,19 +72,19 @@ module _ (s : Shape) where
       (λ im x y z later r e n f w. absurd (never_fine r (rw e at f))) part im n f w
 
   -- and the events that were taken are the whole list
-  pub taken_all : (events im : List ℕ) → (run_from s im events).stop ≡ Verdict.Fine → first_events (run_from s im events).taken events ≡ events
+  pub taken_all : (events im : List ℕ) → (run_from s im events).stop ≡ Ok tt → first_events (run_from s im events).taken events ≡ events
   taken_all =
-      run_any s (λ im events ran. ran.stop ≡ Verdict.Fine → first_events ran.taken events ≡ events) (λ im f. refl)
+      run_any s (λ im events ran. ran.stop ≡ Ok tt → first_events ran.taken events ≡ events) (λ im f. refl)
       (λ im k f. absurd (never_fine _ f)) (λ im k d f. absurd (never_fine _ f)) (λ im x y z later a e ih f. rw (one-add, ih f)) (λ im x y z later r e f. absurd (never_fine r f))
 
 -- a run on an image that passes the check goes over its list, where that is of whole events
-pub run_whole : (im : List ℕ) → check im ≡ Verdict.Fine → (events : List ℕ) → length events % 3 ≡ 0 → run im events ≡ run_from (shape_of im) im events
+pub run_whole : (im : List ℕ) → check im ≡ Ok tt → (events : List ℕ) → length events % 3 ≡ 0 → run im events ≡ run_from (shape_of im) im events
 unfolding run
 run_whole im fine events w = rw (fine, eq-eqb (length events % 3) 0 w)
 
-module _ (im : List ℕ) (fine : check im ≡ Verdict.Fine) (events : List ℕ) where
+module _ (im : List ℕ) (fine : check im ≡ Ok tt) (events : List ℕ) where
   -- and is refused where it is not
-  pub run_broken : length events % 3 ≢ 0 → run im events ≡ stopped_at (Verdict.Refused Refusal.MalformedEvent) im
+  pub run_broken : length events % 3 ≢ 0 → run im events ≡ stopped_at (Err Refusal.MalformedEvent) im
   unfolding run
   run_broken w = rw (fine, ne_eqb (length events % 3) 0 w)
 
@@ -102,6 +101,6 @@ module _ (im : List ℕ) (fine : check im ≡ Verdict.Fine) (events : List ℕ) 
   -- with number 0 they are the whole list
   pub run_all : verdict_number (run im events).stop ≡ 0 → first_events (run im events).taken events ≡ events
   run_all e =
-      let f : (run im events).stop ≡ Verdict.Fine = (zero_is (run im events).stop).0 e in
+      let f : (run im events).stop ≡ Ok tt = (zero_is (run im events).stop).0 e in
       dite (ℕ_discrete (length events % 3) 0) (λ w. rw (run_whole im fine events w) (taken_all (shape_of im) events im (rw (run_whole im fine events w) at f)))
       (λ w. absurd (never_fine Refusal.MalformedEvent (rw (run_broken w) at f)))

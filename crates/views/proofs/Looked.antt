@@ -1,4 +1,5 @@
 -- What each call promises, from the verdict on the image and what is seen of it. Assumes nothing.
+use Rattle.std.specs.Prelude.{Err, Ok, Result, ⊤}
 use mathlib.Core.Path.{◌≡◌}
 use mathlib.Core.List.{List}
 use Prim.Native.Nat.{ℕ}
@@ -6,7 +7,6 @@ use Rattle.paper.specs.Image.{shape_of}
 use Rattle.paper.specs.Numbers.{check}
 use Rattle.paper.specs.declared.Shape.{Shape}
 use Rattle.paper.specs.declared.Refusal.{Refusal}
-use Rattle.paper.specs.declared.Verdict.{Verdict}
 use Rattle.laws.specs.Checked.{good_sound}
 use Rattle.laws.specs.Events.{good, inspected_lawful}
 use Rattle.laws.specs.Sound.{Sound}
@@ -16,9 +16,9 @@ use Rattle.views.specs.declared.TaskView.{TaskView}
 use Rattle.views.specs.declared.PortView.{PortView}
 use Rattle.views.specs.declared.WordView.{WordView}
 
-module _ (im : List ℕ) (v : Verdict) (ev : v ≡ check im) where
+module _ (im : List ℕ) (v : Result ⊤ Refusal) (ev : v ≡ check im) where
   -- an image that is not refused: s is the shape that its header gives
-  module _ (s : Shape) (es : s ≡ shape_of im) (f : v ≡ Verdict.Fine) where
+  module _ (s : Shape) (es : s ≡ shape_of im) (f : v ≡ Ok tt) where
     pub looked_sound : Sound s im
     looked_sound = good_sound s im (good (inspected_lawful s im v ev es f))
 
@@ -43,7 +43,7 @@ module _ (im : List ℕ) (v : Verdict) (ev : v ≡ check im) where
     word_looked q i j k x e = record { answered = rw (← ev, f, ← es) e }
 
   -- a refused one
-  module _ (r : Refusal) (f : v ≡ Verdict.Refused r) where
+  module _ (r : Refusal) (f : v ≡ Err r) where
     pub task_refused : (t : ℕ) → LooksAtTask im t (TaskView.Refused r)
     unfolding task_view
     task_refused t = record { answered = rw (← ev, f) }

@@ -1,4 +1,5 @@
 -- What is seen of an image is in the ranges of its rules: nothing is seen but of a good image. Assumes nothing.
+use Rattle.std.specs.Prelude.{Err, Ok, Result, ⊤}
 use mathlib.Core.Path.{◌≡◌, refl}
 use mathlib.Core.Bool.{Bool, true, false, cond}
 use mathlib.Core.Logic.{dite}
@@ -19,7 +20,6 @@ use Rattle.paper.specs.declared.Task.{Task}
 use Rattle.paper.specs.declared.Shape.{Shape}
 use Rattle.paper.specs.declared.Queue.{Queue}
 use Rattle.paper.specs.declared.Service.{Service}
-use Rattle.paper.specs.declared.Verdict.{Verdict}
 use Rattle.laws.specs.Checked.{checked_good}
 use Rattle.views.specs.Looks.{task_state, port_state, named_queue, task_seen, port_seen, length_seen, task_if, port_if, word_if, task_view, port_view, length_view}
 use Rattle.views.specs.declared.TaskState.{TaskState}
@@ -29,6 +29,7 @@ use Rattle.views.specs.declared.PortView.{PortView}
 use Rattle.views.specs.declared.WordView.{WordView}
 use Rattle.views.specs.declared.Named.{Named}
 use Rattle.views.proofs.Queues.{named_has}
+use Rattle.paper.specs.declared.Refusal.{Refusal}
 
 -- the ranges of a task's fields, and of a port's
 pub record TaskRanges (x : TaskState) : Type 0 where
@@ -74,21 +75,21 @@ module _ (s : Shape) (im : List ℕ) (g : Good s im) where
       go Named.NotThere e f = absurd (let z : ◌≡◌ {A = ℕ} 0 1 = cc in omega arith)
 
 -- what is seen is so, and of an image that passes the check
-seen_task : (v : Verdict) (b : Bool) (y x : TaskState) → task_if v (cond b (TaskView.Is y) TaskView.NotThere) ≡ TaskView.Is x
-    → (v ≡ Verdict.Fine) × ((b ≡ true) × (y ≡ x))
-seen_task Verdict.Fine true y x e = (refl, (refl, cc))
-seen_task Verdict.Fine false y x e = absurd (let z : ◌≡◌ {A = ℕ} 0 1 = cc in omega arith)
-seen_task (Verdict.Refused r) b y x e = absurd (let z : ◌≡◌ {A = ℕ} 0 1 = cc in omega arith)
+seen_task : (v : Result ⊤ Refusal) (b : Bool) (y x : TaskState) → task_if v (cond b (TaskView.Is y) TaskView.NotThere) ≡ TaskView.Is x
+    → (v ≡ Ok tt) × ((b ≡ true) × (y ≡ x))
+seen_task (Ok tt) true y x e = (refl, (refl, cc))
+seen_task (Ok tt) false y x e = absurd (let z : ◌≡◌ {A = ℕ} 0 1 = cc in omega arith)
+seen_task (Err r) b y x e = absurd (let z : ◌≡◌ {A = ℕ} 0 1 = cc in omega arith)
 
-seen_port : (v : Verdict) (b : Bool) (y x : PortState) → port_if v (cond b (PortView.Is y) PortView.NotThere) ≡ PortView.Is x
-    → (v ≡ Verdict.Fine) × ((b ≡ true) × (y ≡ x))
-seen_port Verdict.Fine true y x e = (refl, (refl, cc))
-seen_port Verdict.Fine false y x e = absurd (let z : ◌≡◌ {A = ℕ} 0 1 = cc in omega arith)
-seen_port (Verdict.Refused r) b y x e = absurd (let z : ◌≡◌ {A = ℕ} 0 1 = cc in omega arith)
+seen_port : (v : Result ⊤ Refusal) (b : Bool) (y x : PortState) → port_if v (cond b (PortView.Is y) PortView.NotThere) ≡ PortView.Is x
+    → (v ≡ Ok tt) × ((b ≡ true) × (y ≡ x))
+seen_port (Ok tt) true y x e = (refl, (refl, cc))
+seen_port (Ok tt) false y x e = absurd (let z : ◌≡◌ {A = ℕ} 0 1 = cc in omega arith)
+seen_port (Err r) b y x e = absurd (let z : ◌≡◌ {A = ℕ} 0 1 = cc in omega arith)
 
-seen_word : (v : Verdict) (y : WordView) (n : ℕ) → word_if v y ≡ WordView.Is n → (v ≡ Verdict.Fine) × (y ≡ WordView.Is n)
-seen_word Verdict.Fine y n e = (refl, e)
-seen_word (Verdict.Refused r) y n e = absurd (let z : ◌≡◌ {A = ℕ} 0 1 = cc in omega arith)
+seen_word : (v : Result ⊤ Refusal) (y : WordView) (n : ℕ) → word_if v y ≡ WordView.Is n → (v ≡ Ok tt) × (y ≡ WordView.Is n)
+seen_word (Ok tt) y n e = (refl, e)
+seen_word (Err r) y n e = absurd (let z : ◌≡◌ {A = ℕ} 0 1 = cc in omega arith)
 
 module _ (im : List ℕ) where
   -- a task

@@ -1,5 +1,5 @@
 -- What can be seen of an image: a task, a port, a register, a queue. Of an image that the check refuses nothing is seen.
-use Rattle.std.specs.Prelude.{Bool, cond, ◌&&◌, List, [], ◌∷◌, ℕ, zero, suc, eqb, ltb}
+use Rattle.std.specs.Prelude.{Bool, cond, ◌&&◌, List, [], ◌∷◌, ℕ, zero, suc, eqb, ltb, Err, Ok, Result, ⊤}
 use Rattle.paper.specs.Image.{task as task_of, shape_of, at, reg, status, peer, busy, character}
 use Rattle.paper.specs.Queues.{count, held}
 use Rattle.paper.specs.Flags.{cc, error, pending}
@@ -7,13 +7,13 @@ use Rattle.paper.specs.Numbers.{check}
 use Rattle.paper.specs.declared.Task.{Task}
 use Rattle.paper.specs.declared.Shape.{Shape}
 use Rattle.paper.specs.declared.Queue.{Queue}
-use Rattle.paper.specs.declared.Verdict.{Verdict}
 use Rattle.views.specs.declared.TaskState.{TaskState}
 use Rattle.views.specs.declared.TaskView.{TaskView}
 use Rattle.views.specs.declared.PortState.{PortState}
 use Rattle.views.specs.declared.PortView.{PortView}
 use Rattle.views.specs.declared.WordView.{WordView}
 use Rattle.views.specs.declared.Named.{Named}
+use Rattle.paper.specs.declared.Refusal.{Refusal}
 
 -- a task has eight registers
 abbrev pub registers : ℕ
@@ -92,17 +92,17 @@ word_seen s im (Named.Queue q) k = word_in (held s im q) k
 word_seen s im Named.NotThere k = WordView.NotThere
 
 -- the image is checked first
-abbrev pub task_if : Verdict → TaskView → TaskView
-task_if Verdict.Fine seen = seen
-task_if (Verdict.Refused r) seen = TaskView.Refused r
+abbrev pub task_if : Result ⊤ Refusal → TaskView → TaskView
+task_if (Ok tt) seen = seen
+task_if (Err r) seen = TaskView.Refused r
 
-abbrev pub port_if : Verdict → PortView → PortView
-port_if Verdict.Fine seen = seen
-port_if (Verdict.Refused r) seen = PortView.Refused r
+abbrev pub port_if : Result ⊤ Refusal → PortView → PortView
+port_if (Ok tt) seen = seen
+port_if (Err r) seen = PortView.Refused r
 
-abbrev pub word_if : Verdict → WordView → WordView
-word_if Verdict.Fine seen = seen
-word_if (Verdict.Refused r) seen = WordView.Refused r
+abbrev pub word_if : Result ⊤ Refusal → WordView → WordView
+word_if (Ok tt) seen = seen
+word_if (Err r) seen = WordView.Refused r
 
 -- what each call answers
 unfoldable pub task_view : List ℕ → ℕ → TaskView

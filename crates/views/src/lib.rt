@@ -9,10 +9,7 @@ ghost use Rattle.views.specs.Promises.{LooksAtTask, LooksAtPort, LooksAtRegister
 
 use connectives::both;
 use inspect::inspect;
-use paper::{
-    CAPACITY, ERROR, FLAGS, HEAD, LEAD_WORDS, PENDING, Queue, REGISTERS, Refusal, Shape, Task,
-    Verdict,
-};
+use paper::{CAPACITY, ERROR, FLAGS, HEAD, LEAD_WORDS, PENDING, Queue, REGISTERS, Refusal, Shape, Task};
 use places::wide;
 use queue_rules::queue_word as word_of_queue;
 use results::error_of;
@@ -205,8 +202,8 @@ pub fn task(im: &[u16], t: u16) -> TaskView
     let found = inspect(im);
     let verdict = found.verdict;
     match verdict {
-        Verdict::Fine => see_task(found.shape, im, t),
-        Verdict::Refused(r) => TaskView::Refused(r),
+        Ok(()) => see_task(found.shape, im, t),
+        Err(r) => TaskView::Refused(r),
     }
 }
 
@@ -217,8 +214,8 @@ pub fn port(im: &[u16], d: u16) -> PortView
     let found = inspect(im);
     let verdict = found.verdict;
     match verdict {
-        Verdict::Fine => see_port(found.shape, im, d),
-        Verdict::Refused(r) => PortView::Refused(r),
+        Ok(()) => see_port(found.shape, im, d),
+        Err(r) => PortView::Refused(r),
     }
 }
 
@@ -229,8 +226,8 @@ pub fn register(im: &[u16], t: u16, r: u16) -> WordView
     let found = inspect(im);
     let verdict = found.verdict;
     match verdict {
-        Verdict::Fine => see_register(found.shape, im, t, r),
-        Verdict::Refused(f) => WordView::Refused(f),
+        Ok(()) => see_register(found.shape, im, t, r),
+        Err(f) => WordView::Refused(f),
     }
 }
 
@@ -241,8 +238,8 @@ pub fn queue_length(im: &[u16], q: u16, i: u16, j: u16) -> WordView
     let found = inspect(im);
     let verdict = found.verdict;
     match verdict {
-        Verdict::Fine => see_length(found.shape, im, q, i, j),
-        Verdict::Refused(r) => WordView::Refused(r),
+        Ok(()) => see_length(found.shape, im, q, i, j),
+        Err(r) => WordView::Refused(r),
     }
 }
 
@@ -253,7 +250,7 @@ pub fn queue_word(im: &[u16], q: u16, i: u16, j: u16, at: u16) -> WordView
     let found = inspect(im);
     let verdict = found.verdict;
     match verdict {
-        Verdict::Fine => see_word(found.shape, im, q, i, j, at),
-        Verdict::Refused(r) => WordView::Refused(r),
+        Ok(()) => see_word(found.shape, im, q, i, j, at),
+        Err(r) => WordView::Refused(r),
     }
 }
