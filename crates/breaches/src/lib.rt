@@ -9,7 +9,6 @@ ghost use Rattle.breaches.specs.Order.{rules, rule as nth_rule, number_of_rule, 
 ghost use Rattle.breaches.specs.Broken.{breaker, breach, TellsBroken};
 
 use inspect::inspect;
-use numbers::number_of;
 use paper::{Queue, Refusal, Shape, Task};
 pub use single_rules::Rule;
 use single_rules::{Kind, holds, kind_of, queue_at};
@@ -168,7 +167,7 @@ pub fn broken_rule(im: &[u16]) -> Broken
     match verdict {
         Ok(()) => Broken::Nothing,
         Err(r) => {
-            if number_of(r) == RULE_BROKEN {
+            if u16::from(r) == RULE_BROKEN {
                 return first_broken(found.shape, im);
             }
             Broken::Refused(r)

@@ -5,7 +5,6 @@ ghost use Rattle.kernel_c.specs.Promises.{TellsBrokenC};
 
 use crate::looks::NOT_THERE;
 use breaches::{Broken, RULE_BROKEN, Subject, broken_rule, rule_number};
-use numbers::number_of;
 use paper::{NOT_REFUSED, Queue};
 use views::{INPUT_BUFFER, MESSAGE_BUFFER, OUTPUT_BUFFER, READY_QUEUE};
 
@@ -76,7 +75,7 @@ fn tell_broken(found: Broken) -> BrokenNumbers
     match found {
         Broken::Rule(rule, x) => tell_subject(rule_number(rule), x),
         Broken::Nothing => tell_number(NOT_REFUSED),
-        Broken::Refused(r) => tell_number(number_of(r)),
+        Broken::Refused(r) => tell_number(u16::from(r)),
     }
 }
 

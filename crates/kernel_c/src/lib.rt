@@ -15,7 +15,7 @@ ghost use Rattle.kernel_c.specs.Answers.{told_kind, told_task};
 ghost use Rattle.kernel_c.specs.Promises.{ChecksC, MeasuresC, BuildsC, HappensC, RunsC};
 
 use kernel::{build, check, event, run, size};
-use numbers::{kind_of, number_of, number_of_verdict, task_of};
+use numbers::{kind_of, number_of_verdict, task_of};
 use paper::{Answer, NOT_REFUSED, Refusal};
 
 // The kind and the task of a refused event: no answer has them, while 0 is a good kind and a good task.
@@ -58,7 +58,7 @@ fn measure(size: Result<usize, Refusal>) -> Measured
         },
         Err(r) => Measured {
             words: 0,
-            number: number_of(r),
+            number: u16::from(r),
         },
     }
 }
@@ -76,7 +76,7 @@ pub fn tell(reply: Result<Answer, Refusal>) -> ReplyNumbers
             task: task_of(a),
         },
         Err(r) => ReplyNumbers {
-            number: number_of(r),
+            number: u16::from(r),
             kind: NO_ANSWER,
             task: NO_ANSWER,
         },

@@ -3,7 +3,6 @@ ghost use Rattle.std.specs.Prelude.{◌≡◌};
 ghost use Rattle.kernel_c.specs.Views.{unseen_task, task_numbers, unseen_port, port_numbers, unseen_word, word_numbers};
 ghost use Rattle.kernel_c.specs.Promises.{LooksAtTaskC, LooksAtPortC, LooksAtRegisterC, LooksAtLengthC, LooksAtWordC};
 
-use numbers::number_of;
 use paper::NOT_REFUSED;
 use views::{PortView, TaskView, WordView, port, queue_length, queue_word, register, task};
 
@@ -88,7 +87,7 @@ fn tell_task(view: TaskView) -> TaskNumbers
             pending: x.pending,
         },
         TaskView::NotThere => no_task(NOT_THERE),
-        TaskView::Refused(r) => no_task(number_of(r)),
+        TaskView::Refused(r) => no_task(u16::from(r)),
     }
 }
 
@@ -103,7 +102,7 @@ fn tell_port(view: PortView) -> PortNumbers
             character: x.character,
         },
         PortView::NotThere => no_port(NOT_THERE),
-        PortView::Refused(r) => no_port(number_of(r)),
+        PortView::Refused(r) => no_port(u16::from(r)),
     }
 }
 
@@ -117,7 +116,7 @@ fn tell_word(view: WordView) -> WordNumbers
             word: w,
         },
         WordView::NotThere => no_word(NOT_THERE),
-        WordView::Refused(r) => no_word(number_of(r)),
+        WordView::Refused(r) => no_word(u16::from(r)),
     }
 }
 

@@ -3,7 +3,7 @@ ghost use Rattle.kernel_c.specs.Promises.{ReportsC, SharesC};
 
 use crate::RunNumbers;
 use kernel::report_on;
-use numbers::{number_of, number_of_verdict};
+use numbers::number_of_verdict;
 use paper::{COUNTS, Refusal};
 use shares::share_on;
 
@@ -20,7 +20,7 @@ pub extern "C" fn kernel_report(image: &mut [u16], events: &[u16], counts: &mut 
     if counts.len() != COUNTS {
         return RunNumbers {
             taken: 0,
-            number: number_of(Refusal::WrongTarget),
+            number: u16::from(Refusal::WrongTarget),
         };
     }
     let ended = report_on(image, events, counts);

@@ -1,30 +1,10 @@
-// The paper's numbers.
+// The paper's numbers of verdicts and answers.
 #![tactic(auto)]
 
 ghost use Rattle.std.specs.Prelude.{◌≡◌};
-ghost use Rattle.paper.specs.Numbers.{number, verdict_number, kind, answer_task};
+ghost use Rattle.paper.specs.Numbers.{verdict_number, kind, answer_task};
 
 use paper::{Answer, NOT_REFUSED, Refusal};
-
-// The paper's number of a refusal.
-pub fn number_of(r: Refusal) -> u16
-    ensures { result ≡ number r }
-{
-    match r {
-        Refusal::TooShort => 1,
-        Refusal::NotMarked => 2,
-        Refusal::OutOfRange => 3,
-        Refusal::NotPacked => 4,
-        Refusal::WrongSegments => 5,
-        Refusal::RuleBroken => 6,
-        Refusal::MalformedEvent => 7,
-        Refusal::InputFull => 8,
-        Refusal::PortIdle => 9,
-        Refusal::BadPlan => 11,
-        Refusal::WrongTarget => 12,
-        Refusal::CountFull => 17,
-    }
-}
 
 // The paper's number of a verdict: 0 where nothing is refused.
 pub fn number_of_verdict(v: Result<(), Refusal>) -> u16
@@ -32,7 +12,7 @@ pub fn number_of_verdict(v: Result<(), Refusal>) -> u16
 {
     match v {
         Ok(()) => NOT_REFUSED,
-        Err(r) => number_of(r),
+        Err(r) => u16::from(r),
     }
 }
 

@@ -1,8 +1,11 @@
 // The types that the definitions and the promises name, and beside each the numbers of the paper that code uses.
 #![tactic(auto)]
 
+ghost use Rattle.std.specs.Prelude.{◌≡◌};
+ghost use Rattle.paper.specs.Numbers.{number};
+
 // A task's number, an address in a task's segment and a place in the image are counted apart; 0 is a good value of each.
-#[derive(Clone, Copy)]
+#[derive(Clone, Copy, PartialEq, Eq)]
 pub struct Task(pub u16);
 
 #[derive(Clone, Copy)]
@@ -293,7 +296,7 @@ pub const INPUT: u16 = 1;
 pub const OUTPUT_DONE: u16 = 2;
 
 // What an accepted event answers.
-#[derive(Clone, Copy)]
+#[derive(Clone, Copy, PartialEq, Eq)]
 pub enum Answer {
     Idle,
     ErrorStop(Task),
@@ -308,7 +311,7 @@ pub enum Answer {
 }
 
 // Why an image, an event or a plan is refused.
-#[derive(Clone, Copy)]
+#[derive(Clone, Copy, PartialEq, Eq)]
 pub enum Refusal {
     TooShort,
     NotMarked,
@@ -322,6 +325,28 @@ pub enum Refusal {
     BadPlan,
     WrongTarget,
     CountFull,
+}
+
+// The paper's number of a refusal.
+impl From<Refusal> for u16 {
+    ghost from_gives = { λ r n. n ≡ number r };
+
+    fn from(r: Refusal) -> u16 {
+        match r {
+            Refusal::TooShort => 1,
+            Refusal::NotMarked => 2,
+            Refusal::OutOfRange => 3,
+            Refusal::NotPacked => 4,
+            Refusal::WrongSegments => 5,
+            Refusal::RuleBroken => 6,
+            Refusal::MalformedEvent => 7,
+            Refusal::InputFull => 8,
+            Refusal::PortIdle => 9,
+            Refusal::BadPlan => 11,
+            Refusal::WrongTarget => 12,
+            Refusal::CountFull => 17,
+        }
+    }
 }
 
 // The number that comes back where nothing is refused.

@@ -11,7 +11,6 @@ use disk::{
     save, say, short_arg, standard_error, tell,
 };
 use joining::{Asked, Task, read_task, read_word};
-use numbers::number_of;
 use paper::{LEADING_WORDS, MOST_TASKS, PAIR_WORDS, Refusal};
 use plans::size;
 use saying::{put_plan_cause, put_refused};
@@ -129,7 +128,7 @@ fn put_tasks(rt: &HostRuntime, n: usize, plan: &mut [u16]) -> Joined
 // Says that a plan is refused, with the number and the cause.
 fn refuse(rt: &HostRuntime, path: &[u8], plan: &[u16], r: Refusal) -> Outcome {
     let named = put_text(standard_error(rt), path);
-    let numbered = put_refused(named, number_of(r));
+    let numbered = put_refused(named, u16::from(r));
     let told = put_plan_cause(numbered, plan_cause(plan));
     put_text(told, b"\n");
     Outcome::Refused

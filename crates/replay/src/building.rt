@@ -2,7 +2,6 @@
 ghost use Rattle.std.specs.Prelude.{◌≡◌, true};
 ghost use Rattle.paper.specs.Calls.{size_number as numbered, size_value};
 
-use numbers::number_of;
 use paper::{NOT_REFUSED, Refusal};
 use std::io::Read;
 use vectors::records::{Found, Head, read_words, wide};
@@ -89,7 +88,7 @@ fn size_number(size: Result<usize, Refusal>) -> u16
 {
     match size {
         Ok(_) => NOT_REFUSED,
-        Err(r) => number_of(r),
+        Err(r) => u16::from(r),
     }
 }
 

@@ -6,7 +6,7 @@ ghost use Rattle.paper.specs.Runner.{decimal, space, line};
 ghost use Rattle.writes.specs.Written.{written};
 ghost use Rattle.runner_lines.specs.Lines.{most_line, most_end, answer_text, refusal_text};
 
-use numbers::{kind_of, number_of, task_of};
+use numbers::{kind_of, task_of};
 use paper::{Answer, Refusal};
 
 // A number is written in base ten, from the byte of the digit 0 on.
@@ -90,7 +90,7 @@ fn put_refusal(out: &mut [u8], at: usize, r: Refusal) -> usize
     ensures out_after { out.new ≡ written out.old at (refusal_text r) }
 {
     let number = put_text(out, at, b" refused");
-    let end = put_field(out, number, number_of(r));
+    let end = put_field(out, number, u16::from(r));
     put_byte(out, end, NEWLINE)
 }
 
