@@ -1,7 +1,7 @@
 // A plan's file: its words, and the verdict on it.
 #![tactic(auto)]
 
-ghost use Rattle.std.specs.Prelude.{◌≡◌, true, ◌+◌, ◌*◌, ◌<◌, ◌≤◌, length, take, Ok, tt};
+ghost use Rattle.std.specs.Prelude.{◌≡◌, true, ◌+◌, ◌*◌, ◌<◌, ◌≤◌, length, take, Ok};
 ghost use Rattle.paper.specs.Runner.{word as word_by, words_of};
 ghost use Rattle.paper.specs.Numbers.{check_plan};
 ghost use Rattle.writes.specs.Written.{written};

@@ -1,7 +1,7 @@
 // The public kernel: checking an image, the size of a plan, building, one event, a run, and a run that counts. No call requires anything.
 #![tactic(auto)]
 
-ghost use Rattle.std.specs.Prelude.{◌≡◌, not, ◌%◌, eqb, length, Ok, tt};
+ghost use Rattle.std.specs.Prelude.{◌≡◌, not, ◌%◌, eqb, length, Ok};
 ghost use Rattle.paper.specs.Numbers.{and_then, refused_if};
 ghost use Rattle.paper.specs.Promises.{Happens, Runs, Reports};
 ghost use Rattle.paper.specs.declared.Refusal.TheVariants.{MalformedEvent};

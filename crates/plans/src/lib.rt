@@ -1,7 +1,7 @@
 // A plan: its verdict, its shape and its size.
 #![tactic(auto)]
 
-ghost use Rattle.std.specs.Prelude.{◌≡◌, ◌≤◌, Ok, tt};
+ghost use Rattle.std.specs.Prelude.{◌≡◌, ◌≤◌, Ok};
 ghost use Rattle.paper.specs.Plans.{plan_tasks, segment_length, program_length, segment_words, plan_shape as shape_planned};
 ghost use Rattle.paper.specs.Image.{most_tasks, start, total};
 ghost use Rattle.paper.specs.Numbers.{plan_broken, check_plan as verdict_on_plan};

@@ -5,7 +5,7 @@
 mod lists;
 mod output;
 
-ghost use Rattle.std.specs.Prelude.{◌≡◌, ◌≤◌, true, length, Ok, tt};
+ghost use Rattle.std.specs.Prelude.{◌≡◌, ◌≤◌, true, length, Ok};
 ghost use Rattle.paper.specs.Numbers.{check_plan};
 ghost use Rattle.files.specs.PlanFiles.{enough};
 ghost use Rattle.disk.specs.Bytes.{Starts};

@@ -4,7 +4,7 @@
 
 mod taking;
 
-ghost use Rattle.std.specs.Prelude.{◌≡◌, length, Ok, tt};
+ghost use Rattle.std.specs.Prelude.{◌≡◌, length, Ok};
 ghost use Rattle.paper.specs.Image.{total};
 ghost use Rattle.paper.specs.Numbers.{check_plan};
 ghost use Rattle.laws.specs.Events.{Lawful};
