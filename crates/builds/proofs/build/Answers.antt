@@ -12,8 +12,8 @@ shape_sized-requires c = record { plan_value = search sized_fine; whole_value = 
 pub put_image-requires : goal.put_image-requires
 put_image-requires c = record { plan = search sized_plan; packed = search rules; out_len = search target_long }
 
-pub returns-in-Refused : goal.returns-in-Refused
-returns-in-Refused c = search refused_plan
+pub returns-in-Err : goal.returns-in-Err
+returns-in-Err c = search refused_plan
 
 pub returns-else-target-whole : goal.returns-else-target-whole
 returns-else-target-whole c = search built_plan

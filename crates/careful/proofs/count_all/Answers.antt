@@ -11,11 +11,11 @@ loop-taken-init c = (search rules, counted_none _ _ _ _, omega arith, search rul
 pub count_event-reply-requires : goal.count_event-reply-requires
 count_event-reply-requires c = record { lawful = search rules; order_table = search rules; copy_len = omega arith }
 
-pub shape_of-im-in-Refused : goal.shape_of-im-in-Refused
-shape_of-im-in-Refused c = search lawful_long
+pub shape_of-im-in-Err : goal.shape_of-im-in-Err
+shape_of-im-in-Err c = search lawful_long
 
-pub returns-in-Refused : goal.returns-in-Refused
-returns-in-Refused c = record { counts_all = search (counted_refused, event_there); lawful_2 = search rules }
+pub returns-in-Err : goal.returns-in-Err
+returns-in-Err c = record { counts_all = search (counted_refused, event_there); lawful_2 = search rules }
 
 pub loop-taken-preserved : goal.loop-taken-preserved
 loop-taken-preserved c = (search rules, search (counted_more, event_there), omega arith, omega arith, omega arith)

@@ -13,5 +13,5 @@ count-requires c = sym c.passes_end.ensures ∙ c.if-passes_end.false
 pub returns-else-passes_end : goal.returns-else-passes_end
 returns-else-passes_end c = record { counts_one = search one_counted; lawful_2 = search rules }
 
-pub returns-in-Refused : goal.returns-in-Refused
-returns-in-Refused c = record { counts_one = search one_refused; lawful_2 = search rules }
+pub returns-in-Err : goal.returns-in-Err
+returns-in-Err c = record { counts_one = search one_refused; lawful_2 = search rules }

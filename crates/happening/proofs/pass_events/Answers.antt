@@ -24,15 +24,15 @@ ticks-requires c = record { lawful = search rules; order_table = search rules; n
 pub report_at-last-requires : goal.report_at-last-requires
 report_at-last-requires c = let r = stood (goal.at.report_at-last-requires c).Joined-taken-end in record { lawful = r.kept; k_in_bounds = search event_there; k_value = search (stopped, r) }
 
-pub shape_of-im-in-Refused : goal.shape_of-im-in-Refused
-shape_of-im-in-Refused c = search lawful_long
+pub shape_of-im-in-Err : goal.shape_of-im-in-Err
+shape_of-im-in-Err c = search lawful_long
 
-pub shape_of-counts-in-Refused : goal.shape_of-counts-in-Refused
-shape_of-counts-in-Refused c = (stood (goal.at.shape_of-counts-in-Refused c).Joined-taken-end).books.long
+pub shape_of-counts-in-Err : goal.shape_of-counts-in-Err
+shape_of-counts-in-Err c = (stood (goal.at.shape_of-counts-in-Err c).Joined-taken-end).books.long
 
-pub returns-in-Refused : goal.returns-in-Refused
-returns-in-Refused c =
-    let r = stood (goal.at.returns-in-Refused c).Joined-taken-end in
+pub returns-in-Err : goal.returns-in-Err
+returns-in-Err c =
+    let r = stood (goal.at.returns-in-Err c).Joined-taken-end in
     record { tallies = search (books_refused, event_there, r.books); ends = search (taken_refused, event_there, r.taken); lawful_2 = search rules }
 
 pub loop-taken-smaller-then-taken-count : goal.loop-taken-smaller-then-taken-count

@@ -8,8 +8,8 @@ use Rattle.happening.proofs.step.Goals as goal
 pub take_events-took-requires : goal.take_events-took-requires
 take_events-took-requires c = record { lawful = search rules; order_table = search rules; events_len = search rules; ledger = search none_ledger; room = search none_room }
 
-pub returns-in-Fine : goal.returns-in-Fine
-returns-in-Fine c = record { im_after = search one_answered; lawful_2 = search rules }
+pub returns-in-Ok : goal.returns-in-Ok
+returns-in-Ok c = record { im_after = search one_answered; lawful_2 = search rules }
 
-pub returns-in-Refused : goal.returns-in-Refused
-returns-in-Refused c = record { im_after = search one_refused; lawful_2 = search rules }
+pub returns-in-Err : goal.returns-in-Err
+returns-in-Err c = record { im_after = search one_refused; lawful_2 = search rules }

@@ -6,8 +6,8 @@ use Rattle.kernel.proofs.event.Goals as goal
 pub step-requires : goal.step-requires
 step-requires c = search inspected_lawful
 
-pub returns-in-Fine : goal.returns-in-Fine
-returns-in-Fine c = search event_fine
+pub returns-in-Ok : goal.returns-in-Ok
+returns-in-Ok c = search event_fine
 
-pub returns-in-Refused : goal.returns-in-Refused
-returns-in-Refused c = search event_refused
+pub returns-in-Err : goal.returns-in-Err
+returns-in-Err c = search event_refused

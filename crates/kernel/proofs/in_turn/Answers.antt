@@ -2,8 +2,8 @@
 use Rattle.kernel.proofs.Promised.{turn_fine, turn_refused}
 use Rattle.kernel.proofs.in_turn.Goals as goal
 
-pub returns-in-Fine : goal.returns-in-Fine
-returns-in-Fine c = search turn_fine
+pub returns-in-Ok : goal.returns-in-Ok
+returns-in-Ok c = search turn_fine
 
-pub returns-in-Refused : goal.returns-in-Refused
-returns-in-Refused c = search turn_refused
+pub returns-in-Err : goal.returns-in-Err
+returns-in-Err c = search turn_refused

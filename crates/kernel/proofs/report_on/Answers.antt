@@ -6,8 +6,8 @@ use Rattle.kernel.proofs.report_on.Goals as goal
 pub count_events-requires : goal.count_events-requires
 count_events-requires c = record { lawful = search run_lawful; order_table = search rules; events_len = search run_whole }
 
-pub returns-in-Fine : goal.returns-in-Fine
-returns-in-Fine c = search report_fine
+pub returns-in-Ok : goal.returns-in-Ok
+returns-in-Ok c = search report_fine
 
-pub returns-in-Refused : goal.returns-in-Refused
-returns-in-Refused c = search report_refused
+pub returns-in-Err : goal.returns-in-Err
+returns-in-Err c = search report_refused

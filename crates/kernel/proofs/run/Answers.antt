@@ -8,8 +8,8 @@ use Rattle.kernel.proofs.run.Goals as goal
 pub take_events-took-requires : goal.take_events-took-requires
 take_events-took-requires c = record { lawful = search run_lawful; order_table = search rules; events_len = search run_whole; ledger = search none_ledger; room = search none_room }
 
-pub returns-in-Fine : goal.returns-in-Fine
-returns-in-Fine c = search run_fine
+pub returns-in-Ok : goal.returns-in-Ok
+returns-in-Ok c = search run_fine
 
-pub returns-in-Refused : goal.returns-in-Refused
-returns-in-Refused c = search run_refused
+pub returns-in-Err : goal.returns-in-Err
+returns-in-Err c = search run_refused

@@ -20,10 +20,10 @@ pub put_line-text-requires : goal.put_line-text-requires
 put_line-text-requires c = line_room _ _ _ _ _ _ _ _ _ _ c.loop-at.invariant.0 (omega arith) c.requires.bytes_in_bounds
 
 pub loop-at-preserved : goal.loop-at-preserved
-loop-at-preserved c = (event_accepted _ _ _ _ _ _ _ _ _ _ c.loop-at.invariant.0 _ refl _ _ _ _ (omega arith) c.step_at-reply.ensures.im_after c.step_at-reply.ensures.lawful_2 c.put_line-text.ensures.value c.put_line-text.ensures.upper_bound c.put_line-text.ensures.out_after _ c.in-Accepted.is, c.step_at-reply.auto.im ∙ c.loop-at.invariant.1)
+loop-at-preserved c = (event_accepted _ _ _ _ _ _ _ _ _ _ c.loop-at.invariant.0 _ refl _ _ _ _ (omega arith) c.step_at-reply.ensures.im_after c.step_at-reply.ensures.lawful_2 c.put_line-text.ensures.value c.put_line-text.ensures.upper_bound c.put_line-text.ensures.out_after _ c.in-Ok.is, c.step_at-reply.auto.im ∙ c.loop-at.invariant.1)
 
-pub returns-in-Refused : goal.returns-in-Refused
-returns-in-Refused c = event_refused _ _ _ _ _ _ _ _ _ _ c.loop-at.invariant.0 _ refl _ _ _ _ (omega arith) c.step_at-reply.ensures.im_after c.step_at-reply.ensures.lawful_2 c.put_line-text.ensures.value c.put_line-text.ensures.upper_bound c.put_line-text.ensures.out_after _ c.in-Refused.is c.requires.bytes_in_bounds
+pub returns-in-Err : goal.returns-in-Err
+returns-in-Err c = event_refused _ _ _ _ _ _ _ _ _ _ c.loop-at.invariant.0 _ refl _ _ _ _ (omega arith) c.step_at-reply.ensures.im_after c.step_at-reply.ensures.lawful_2 c.put_line-text.ensures.value c.put_line-text.ensures.upper_bound c.put_line-text.ensures.out_after _ c.in-Err.is c.requires.bytes_in_bounds
 
 pub returns-then-at-bytes : goal.returns-then-at-bytes
 returns-then-at-bytes c = events_end _ _ _ _ _ _ _ _ _ _ c.loop-at.invariant.0 c.if-at-bytes.true c.requires.bytes_in_bounds

@@ -16,10 +16,10 @@ pub slice_bounds-run_plan-end : goal.slice_bounds-run_plan-end
 slice_bounds-run_plan-end c = sym (length-take-le _ _ c.read_plan-plan.ensures.inside)
 
 pub run_plan-requires : goal.run_plan-requires
-run_plan-requires c = c.read_plan-plan.ensures.passes c.in-Fine.is
+run_plan-requires c = c.read_plan-plan.ensures.passes c.in-Ok.is
 
-pub slice_bounds-words-end-in-Refused : goal.slice_bounds-words-end-in-Refused
-slice_bounds-words-end-in-Refused c = c.read_plan-plan.ensures.inside
+pub slice_bounds-words-end-in-Err : goal.slice_bounds-words-end-in-Err
+slice_bounds-words-end-in-Err c = c.read_plan-plan.ensures.inside
 
 pub slice_bounds-refuse_plan-end : goal.slice_bounds-refuse_plan-end
 slice_bounds-refuse_plan-end c = sym (length-take-le _ _ c.read_plan-plan.ensures.inside)

@@ -14,12 +14,12 @@ put_answer-requires c = omega (arith, event_short _ c.ranges.n.fits, kept_length
 pub put_refusal-requires : goal.put_refusal-requires
 put_refusal-requires c = omega (arith, event_short _ c.ranges.n.fits, kept_length _ _ _ _ c.put_decimal-next.ensures.out_after)
 
-pub returns-in-Accepted : goal.returns-in-Accepted
-returns-in-Accepted c =
-    let m = accepted_made _ _ _ _ _ _ _ _ c.put_decimal-next.ensures.out_after c.put_decimal-next.ensures.value _ c.in-Accepted.is c.put_answer.ensures.value c.put_answer.ensures.out_after in
+pub returns-in-Ok : goal.returns-in-Ok
+returns-in-Ok c =
+    let m = accepted_made _ _ _ _ _ _ _ _ c.put_decimal-next.ensures.out_after c.put_decimal-next.ensures.value _ c.in-Ok.is c.put_answer.ensures.value c.put_answer.ensures.out_after in
     record { value = m.0; upper_bound = omega (arith, event_short _ c.ranges.n.fits); out_after = m.1 }
 
-pub returns-in-Refused : goal.returns-in-Refused
-returns-in-Refused c =
-    let m = refused_made _ _ _ _ _ _ _ _ c.put_decimal-next.ensures.out_after c.put_decimal-next.ensures.value _ c.in-Refused.is c.put_refusal.ensures.value c.put_refusal.ensures.out_after in
+pub returns-in-Err : goal.returns-in-Err
+returns-in-Err c =
+    let m = refused_made _ _ _ _ _ _ _ _ c.put_decimal-next.ensures.out_after c.put_decimal-next.ensures.value _ c.in-Err.is c.put_refusal.ensures.value c.put_refusal.ensures.out_after in
     record { value = m.0; upper_bound = omega (arith, event_short _ c.ranges.n.fits); out_after = m.1 }

@@ -5,8 +5,8 @@ use Rattle.views.proofs.port.Goals as goal
 pub see_port-requires : goal.see_port-requires
 see_port-requires c = search looked_sound
 
-pub returns-in-Fine : goal.returns-in-Fine
-returns-in-Fine c = search port_looked
+pub returns-in-Ok : goal.returns-in-Ok
+returns-in-Ok c = search port_looked
 
-pub returns-in-Refused : goal.returns-in-Refused
-returns-in-Refused c = search port_refused
+pub returns-in-Err : goal.returns-in-Err
+returns-in-Err c = search port_refused

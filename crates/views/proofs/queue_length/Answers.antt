@@ -5,8 +5,8 @@ use Rattle.views.proofs.queue_length.Goals as goal
 pub see_length-requires : goal.see_length-requires
 see_length-requires c = search looked_sound
 
-pub returns-in-Fine : goal.returns-in-Fine
-returns-in-Fine c = search length_looked
+pub returns-in-Ok : goal.returns-in-Ok
+returns-in-Ok c = search length_looked
 
-pub returns-in-Refused : goal.returns-in-Refused
-returns-in-Refused c = search length_refused
+pub returns-in-Err : goal.returns-in-Err
+returns-in-Err c = search length_refused

@@ -5,8 +5,8 @@ use Rattle.views.proofs.queue_word.Goals as goal
 pub see_word-requires : goal.see_word-requires
 see_word-requires c = search looked_sound
 
-pub returns-in-Fine : goal.returns-in-Fine
-returns-in-Fine c = search word_looked
+pub returns-in-Ok : goal.returns-in-Ok
+returns-in-Ok c = search word_looked
 
-pub returns-in-Refused : goal.returns-in-Refused
-returns-in-Refused c = search word_refused
+pub returns-in-Err : goal.returns-in-Err
+returns-in-Err c = search word_refused

@@ -5,8 +5,8 @@ use Rattle.views.proofs.register.Goals as goal
 pub see_register-requires : goal.see_register-requires
 see_register-requires c = search looked_sound
 
-pub returns-in-Fine : goal.returns-in-Fine
-returns-in-Fine c = search register_looked
+pub returns-in-Ok : goal.returns-in-Ok
+returns-in-Ok c = search register_looked
 
-pub returns-in-Refused : goal.returns-in-Refused
-returns-in-Refused c = search register_refused
+pub returns-in-Err : goal.returns-in-Err
+returns-in-Err c = search register_refused

@@ -5,8 +5,8 @@ use Rattle.views.proofs.task.Goals as goal
 pub see_task-requires : goal.see_task-requires
 see_task-requires c = search looked_sound
 
-pub returns-in-Fine : goal.returns-in-Fine
-returns-in-Fine c = search task_looked
+pub returns-in-Ok : goal.returns-in-Ok
+returns-in-Ok c = search task_looked
 
-pub returns-in-Refused : goal.returns-in-Refused
-returns-in-Refused c = search task_refused
+pub returns-in-Err : goal.returns-in-Err
+returns-in-Err c = search task_refused

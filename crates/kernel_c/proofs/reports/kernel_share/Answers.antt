@@ -5,8 +5,8 @@ use Rattle.kernel_c.proofs.reports.kernel_share.Goals as goal
 pub returns-then-counts-ne-COUNTS : goal.returns-then-counts-ne-COUNTS
 returns-then-counts-ne-COUNTS c = shares_refused _ _ _ c.if-counts-ne-COUNTS.true
 
-pub returns-in-Of : goal.returns-in-Of
-returns-in-Of c = search shares_told
+pub returns-in-Some : goal.returns-in-Some
+returns-in-Some c = search shares_told
 
-pub returns-in-NoTicks : goal.returns-in-NoTicks
-returns-in-NoTicks c = search shares_none
+pub returns-in-None : goal.returns-in-None
+returns-in-None c = search shares_none

@@ -45,8 +45,8 @@ slice_bounds-refuse_event-end c =
     let f = c.feed_buffer-fed.ensures.feeds in
     omega (arith, p.end_in_bounds, taken_inside _ _ _ _ p.buffers p.end_in_bounds _ _ _ _ _ _ _ f)
 
-pub returns-in-Fine : goal.returns-in-Fine
-returns-in-Fine c =
+pub returns-in-Ok : goal.returns-in-Ok
+returns-in-Ok c =
     let p = c.requires in
     let f = c.feed_buffer-fed.ensures.feeds in
     record { tooks = taken_few _ _ _ _ p.buffers p.end_in_bounds _ _ _ _ _ _ _ f; lawful_2 = f.good }
