@@ -1,11 +1,10 @@
 // A task's own machine in one lent part, which begins at the task's row: the registers, the flags, and further on the segment. What an order does there, once its words are in hand.
 #![tactic(auto)]
 
-ghost use Rattle.std.specs.Prelude.{◌≡◌, cond, ◌+◌, ◌-◌, ◌/◌, ◌%◌, ◌<◌, ◌≤◌, eqb, set as set_word, length};
+ghost use Rattle.std.specs.Prelude.{◌≡◌, Ok, Err, cond, ◌+◌, ◌-◌, ◌/◌, ◌%◌, ◌<◌, ◌≤◌, eqb, set as set_word, length};
 ghost use Rattle.paper.specs.Image.{address as address_at};
 ghost use Rattle.paper.specs.Orders.{op_of, order_of, two_registers, mod_word, stack, compared as compared_by, reading, storing, sets, unless_zero, calls as calls_by, found, effect, decided};
 ghost use Rattle.paper.specs.declared.Change.{Change};
-ghost use Rattle.paper.specs.declared.Effect.{Effect};
 ghost use Rattle.order_table.specs.Entries.{entry_of, kind_of, decoded};
 ghost use Rattle.effects.specs.Parts.{address_of, reach_of, stood_at, machine_of};
 ghost use Rattle.effects.specs.Worked.{InHand, Fell, Done, Worked};
@@ -99,7 +98,7 @@ pub fn stand(p: &mut [u16], g: Segment, x: Aim)
 // An order faults: only the error changes.
 pub fn fault(p: &mut [u16], g: Segment, at: Aim, e: u16) -> Went
     requires in_hand { InHand g p.old at }
-    requires at_value { decided (machine_of g p.old at) ≡ Effect.Faults e }
+    requires at_value { decided (machine_of g p.old at) ≡ Err e }
     requires e_nonzero { (0 < e) × (e < 8) }
     ensures { Fell g p.old at result p.new }
 {
@@ -141,7 +140,7 @@ fn fetches(p: &mut [u16], g: Segment, at: Aim, a: usize, y: u16) -> Went
 fn stores(p: &mut [u16], g: Segment, at: Aim, v: u16, y: u16) -> Went
     requires in_hand { InHand g p.old at }
     requires at_lt_to { at.0 < g.to }
-    requires at_value { decided (machine_of g p.old at) ≡ storing (machine_of g p.old at) y (Effect.Does (address_of g at + 1) (Change.Store (address_at y) v)) }
+    requires at_value { decided (machine_of g p.old at) ≡ storing (machine_of g p.old at) y (Ok (address_of g at + 1, Change.Store (address_at y) v)) }
     ensures { Done g p.old at result p.new }
 {
     let Reach::At(x) = reached(g, aimed(g, Address(y))) else {
