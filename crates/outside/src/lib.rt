@@ -7,7 +7,7 @@ ghost use Rattle.outside.specs.Reasons.{Fits, left, Steps, StepsTo, OperandFits}
 
 use grammar::{DEEPEST, Kept, Operands};
 use kept::kept;
-use tokens::{CLOSE, EQUALS, LABEL, MINUS, Marked, OPEN, PLUS, TIMES, Token, mark_of, next_token};
+use tokens::{CLOSE, EQUALS, LABEL, MINUS, OPEN, PLUS, TIMES, Token, mark_of, next_token};
 
 // Why a line is refused. A word is told by its first byte in the line and the place after it.
 #[derive(Clone, Copy)]
@@ -227,7 +227,7 @@ pub fn script_reason(line: &[u8]) -> Reason
     let Token::Word(from, to) = next_token(line, 0) else {
         return body_reason(line, 0);
     };
-    let Marked::At(after) = mark_of(next_token(line, to), LABEL) else {
+    let Some(after) = mark_of(next_token(line, to), LABEL) else {
         return body_reason(line, 0);
     };
     let Kept::Free = kept(&line[from..to]) else {
@@ -248,7 +248,7 @@ pub fn names_reason(line: &[u8]) -> Reason
         return Reason::KeptWord(from, to);
     };
     let second = next_token(line, to);
-    let Marked::At(after) = mark_of(second, EQUALS) else {
+    let Some(after) = mark_of(second, EQUALS) else {
         return unfit(second);
     };
     sum_reason(line, after)

@@ -2,6 +2,7 @@
 use mathlib.Core.Path.{◌≡◌, refl, sym, ap, ◌∙◌}
 use mathlib.Core.Bool.{Bool, true, false, ◌&&◌, and-eq-true_iff, true≢false, false≢true}
 use mathlib.Core.List.{List, [], ◌∷◌}
+use Rattle.std.specs.Prelude.{Some, None}
 use Prim.Native.Nat.{ℕ, ◌<◌, ◌≤◌}
 use native.Mathlib.Omega.{arith}
 use borrow.Author.Tests.{ltb-true}
@@ -18,7 +19,6 @@ use Rattle.grammar.specs.declared.Kept.{Kept}
 use Rattle.grammar.specs.declared.Operands.{Operands}
 use Rattle.tokens.specs.Shown.{shown, Inside, part, marks, is_end}
 use Rattle.tokens.specs.declared.Token.{Token}
-use Rattle.tokens.specs.declared.Marked.{Marked}
 use Rattle.sums.proofs.Laws.{marked_at, not_marked}
 use Rattle.phrases.specs.declared.Label.{Label}
 use Rattle.phrases.specs.declared.Operand.{Operand}
@@ -136,11 +136,11 @@ pub names_kept : (es : List Entry) (w : List ℕ) (ts : List Tokens.Token) → i
 unfolding names_line
 names_kept es w ts h = kept_word es (kept_as w) w ts h
 
-pub names_no_mark : (es : List Entry) (l : List ℕ) (t : Token) (w : List ℕ) → marks equals_mark t ≡ Marked.No → names_line es (Tokens.Token.word w ∷ shown l t) ≡ Lines.NamesLine.outside
+pub names_no_mark : (es : List Entry) (l : List ℕ) (t : Token) (w : List ℕ) → marks equals_mark t ≡ None → names_line es (Tokens.Token.word w ∷ shown l t) ≡ Lines.NamesLine.outside
 unfolding names_line
 names_no_mark es l t w h = no_equals es (kept_as w) w (shown l t) (not_marked equals_mark l t h)
 
-pub names_sum : (es : List Entry) (l : List ℕ) (t : Token) (w : List ℕ) (after : ℕ) (next : Token) → is_name w ≡ true → marks equals_mark t ≡ Marked.At after
+pub names_sum : (es : List Entry) (l : List ℕ) (t : Token) (w : List ℕ) (after : ℕ) (next : Token) → is_name w ≡ true → marks equals_mark t ≡ Some after
     → tokens (drop after l) ≡ shown l next → names_line es (Tokens.Token.word w ∷ shown l t) ≡ gives_sum w (sum_of es (shown l next))
 unfolding names_line
 names_sum es l t w after next h m g =
@@ -177,15 +177,15 @@ module _ (l : List ℕ) (t : Token) (from to : ℕ) (second : Token) (e : tokens
   word_alone : label_of (Tokens.Token.word (part l from to) ∷ shown l second) ≡ Lines.Label.none → Starts l Label.Nothing (Token.Word from to)
   word_alone k = starts_alone l (Token.Word from to) (rw f at e) (rw f at h) (rw g k)
 
-  pub starts_no_mark : marks label_mark second ≡ Marked.No → Starts l Label.Nothing (Token.Word from to)
+  pub starts_no_mark : marks label_mark second ≡ None → Starts l Label.Nothing (Token.Word from to)
   unfolding label_of
   starts_no_mark k = word_alone (rw (not_marked label_mark l second k, label_of))
 
-  pub starts_kept : (after : ℕ) → marks label_mark second ≡ Marked.At after → is_name (part l from to) ≡ false → Starts l Label.Nothing (Token.Word from to)
+  pub starts_kept : (after : ℕ) → marks label_mark second ≡ Some after → is_name (part l from to) ≡ false → Starts l Label.Nothing (Token.Word from to)
   unfolding label_of
   starts_kept after k n = word_alone (rw ((marked_at label_mark after l second k).0, label_of) (kept_label (kept_as (part l from to)) (part l from to) n))
 
-  pub starts_labelled : (after : ℕ) (body : Token) → marks label_mark second ≡ Marked.At after → is_name (part l from to) ≡ true
+  pub starts_labelled : (after : ℕ) (body : Token) → marks label_mark second ≡ Some after → is_name (part l from to) ≡ true
       → tokens (drop after l) ≡ shown l body → Inside l body → Starts l (Label.At from to) body
   unfolding label_of
   starts_labelled after body k n b i =

@@ -14,7 +14,7 @@ use grammar::{Given, Kept, Operands, Worked};
 use kept::kept;
 use sums::{Total, sum_of};
 use tables::MOST_NAMES;
-use tokens::{EQUALS, LABEL, Marked, Token, ends, mark_of, next_token};
+use tokens::{EQUALS, LABEL, Token, ends, mark_of, next_token};
 
 // What a line of the names comes to: outside the grammar, blank, or a name with its first byte and the place after it, and
 // what its sum comes to.
@@ -89,7 +89,7 @@ pub fn names_line<'a>(
     if !is_free(&line[from..to]) {
         return NamesLine::Outside;
     }
-    let Marked::At(after) = mark_of(next_token(line, to), EQUALS) else {
+    let Some(after) = mark_of(next_token(line, to), EQUALS) else {
         return NamesLine::Outside;
     };
     let Total::Comes(v) = sum_of(
@@ -121,7 +121,7 @@ pub fn start_of(line: &[u8]) -> Start
             body: first,
         };
     };
-    let Marked::At(after) = mark_of(next_token(line, to), LABEL) else {
+    let Some(after) = mark_of(next_token(line, to), LABEL) else {
         return Start {
             label: Label::Nothing,
             body: first,

@@ -2,6 +2,7 @@
 use mathlib.Core.Path.{◌≡◌, refl, ap}
 use mathlib.Core.Bool.{Bool, true, false}
 use mathlib.Core.List.{List, [], ◌∷◌}
+use Rattle.std.specs.Prelude.{Option, Some, None}
 use Prim.Native.Nat.{ℕ, zero, suc, ◌+◌, ◌*◌, ◌<◌, ◌≤◌}
 use native.Mathlib.Omega.{arith}
 use borrow.Author.Tests.{ne_eqb}
@@ -16,23 +17,22 @@ use Rattle.grammar.specs.declared.Sign.{Sign}
 use Rattle.grammar.specs.declared.Worked.{Worked}
 use Rattle.tokens.specs.Shown.{shown, marks}
 use Rattle.tokens.specs.declared.Token.{Token}
-use Rattle.tokens.specs.declared.Marked.{Marked}
 use Rattle.sums.specs.declared.Reading.{Reading}
 use Rattle.sums.specs.Told.{ToldInside}
 
 -- a mark that stands next, and what is left after it; or that none does
-at_if : (t : Bool) (to k : ℕ) → (elim t as (λ _. Marked) [ true ↦ Marked.At to | false ↦ Marked.No ]) ≡ Marked.At k → (t ≡ true) × (to ≡ k)
+at_if : (t : Bool) (to k : ℕ) → (elim t as (λ _. Option ℕ) [ true ↦ Some to | false ↦ None ]) ≡ Some k → (t ≡ true) × (to ≡ k)
 at_if true to k e = (refl, cc)
 at_if false to k e = absurd (let z : ◌≡◌ {A = ℕ} 0 1 = cc in omega arith)
 
-no_if : (t : Bool) (to : ℕ) → (elim t as (λ _. Marked) [ true ↦ Marked.At to | false ↦ Marked.No ]) ≡ Marked.No → t ≡ false
+no_if : (t : Bool) (to : ℕ) → (elim t as (λ _. Option ℕ) [ true ↦ Some to | false ↦ None ]) ≡ None → t ≡ false
 no_if true to e = absurd (let z : ◌≡◌ {A = ℕ} 0 1 = cc in omega arith)
 no_if false to e = refl
 
-not_at : {A : Type 0} (to : ℕ) → Marked.No ≡ Marked.At to → A
+not_at : {A : Type 0} (to : ℕ) → None ≡ Some to → A
 not_at to e = absurd (let z : ◌≡◌ {A = ℕ} 0 1 = cc in omega arith)
 
-pub marked_at : (b to : ℕ) (l : List ℕ) (t : Token) → marks b t ≡ Marked.At to
+pub marked_at : (b to : ℕ) (l : List ℕ) (t : Token) → marks b t ≡ Some to
     → (begins b (shown l t) ≡ true) × ((rest (shown l t) ≡ tokens (drop to l)) × (length (shown l t) ≡ suc (length (tokens (drop to l)))))
 marked_at b to l Token.End e = not_at to e
 marked_at b to l (Token.Number x y) e = not_at to e
@@ -42,7 +42,7 @@ marked_at b to l (Token.Mark c k) e =
     (f.0, (ap (λ (i : ℕ). tokens (drop i l)) f.1, ap (λ (i : ℕ). suc (length (tokens (drop i l)))) f.1))
 marked_at b to l (Token.Stray x) e = not_at to e
 
-pub not_marked : (b : ℕ) (l : List ℕ) (t : Token) → marks b t ≡ Marked.No → begins b (shown l t) ≡ false
+pub not_marked : (b : ℕ) (l : List ℕ) (t : Token) → marks b t ≡ None → begins b (shown l t) ≡ false
 not_marked b l Token.End e = refl
 not_marked b l (Token.Number x y) e = refl
 not_marked b l (Token.Word x y) e = refl

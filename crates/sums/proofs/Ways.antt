@@ -2,6 +2,7 @@
 use mathlib.Core.Path.{◌≡◌, refl, sym, ap, ◌∙◌}
 use mathlib.Core.Bool.{Bool, true, false}
 use mathlib.Core.List.{List, []}
+use Rattle.std.specs.Prelude.{Option, Some, None}
 use Prim.Native.Nat.{ℕ, suc, ◌+◌, ◌-◌, ◌*◌, ◌<◌, ◌≤◌}
 use native.Mathlib.Omega.{arith}
 use lib.ListN.{length, drop}
@@ -15,7 +16,6 @@ use Rattle.grammar.specs.declared.Sign.{Sign}
 use Rattle.grammar.specs.declared.Worked.{Worked}
 use Rattle.tokens.specs.Shown.{shown, part, Inside, marks, is_end}
 use Rattle.tokens.specs.declared.Token.{Token}
-use Rattle.tokens.specs.declared.Marked.{Marked}
 use Rattle.sums.specs.declared.Reading.{Reading}
 use Rattle.sums.specs.declared.Total.{Total}
 use Rattle.sums.specs.Told.{told, total, ToldInside}
@@ -37,14 +37,14 @@ abbrev pub Reads : ℕ → (ℕ → Sums.Reading) → List ℕ → Token → Rea
 Reads least f l next r = Enough least f (told l r) × ToldInside l next r
 
 -- the row after a mark that stands next
-after : (b to : ℕ) (l : List ℕ) (t u : Token) (m : Marked) → m ≡ marks b t → m ≡ Marked.At to → tokens (drop to l) ≡ shown l u
+after : (b to : ℕ) (l : List ℕ) (t u : Token) (m : Option ℕ) → m ≡ marks b t → m ≡ Some to → tokens (drop to l) ≡ shown l u
     → (begins b (shown l t) ≡ true) × ((rest (shown l t) ≡ shown l u) × (length (shown l t) ≡ suc (length (shown l u))))
 after b to l t u m f o g =
     let h = marked_at b to l t (sym f ∙ o) in
     (h.0, (h.1.0 ∙ g, rw g at h.1.1))
 
-pub fewer : (b to : ℕ) (l : List ℕ) (next t u : Token) (v : Worked) (r : Reading) (m : Marked) → r ≡ Reading.Read v t → ToldInside l next r
-    → m ≡ marks b t → m ≡ Marked.At to → tokens (drop to l) ≡ shown l u → suc (length (shown l u)) < length (shown l next)
+pub fewer : (b to : ℕ) (l : List ℕ) (next t u : Token) (v : Worked) (r : Reading) (m : Option ℕ) → r ≡ Reading.Read v t → ToldInside l next r
+    → m ≡ marks b t → m ≡ Some to → tokens (drop to l) ≡ shown l u → suc (length (shown l u)) < length (shown l next)
 fewer b to l next t u v r m e h f o g =
     let i : ToldInside l next (Reading.Read v t) = rw e at h in
     omega (arith, i.1, (after b to l t u m f o g).1.1)
@@ -58,11 +58,11 @@ module _ (es : List Entry) (d : ℕ) (l : List ℕ) (next : Token) where
     pub product_fails : r ≡ Reading.Outside → Reads (3 * length (shown l next) + 2) (λ n. product n es d v (shown l next)) l next Reading.Outside
     product_fails e = (product_outside es d v (shown l next) (rw e at h.0), tt)
 
-    module _ (p w : Worked) (t : Token) (m : Marked) (e : r ≡ Reading.Read p t) (k : w ≡ both times v p) (f : m ≡ marks times_mark t) where
-      pub product_stops : m ≡ Marked.No → Reads (3 * length (shown l next) + 2) (λ n. product n es d v (shown l next)) l next (Reading.Read w t)
+    module _ (p w : Worked) (t : Token) (m : Option ℕ) (e : r ≡ Reading.Read p t) (k : w ≡ both times v p) (f : m ≡ marks times_mark t) where
+      pub product_stops : m ≡ None → Reads (3 * length (shown l next) + 2) (λ n. product n es d v (shown l next)) l next (Reading.Read w t)
       product_stops o = (rw k (product_ends es d v (shown l next) p (shown l t) (rw e at h.0) (not_marked times_mark l t (sym f ∙ o))), rw e at h.1)
 
-      pub product_goes_on : (to : ℕ) (u : Token) (q : Reading) → m ≡ Marked.At to → tokens (drop to l) ≡ shown l u
+      pub product_goes_on : (to : ℕ) (u : Token) (q : Reading) → m ≡ Some to → tokens (drop to l) ≡ shown l u
           → Reads (3 * length (shown l u) + 2) (λ n. product n es d w (shown l u)) l u q
           → Reads (3 * length (shown l next) + 2) (λ n. product n es d v (shown l next)) l next q
       product_goes_on to u q o g i =
@@ -77,8 +77,8 @@ module _ (es : List Entry) (d : ℕ) (l : List ℕ) (next : Token) where
     pub sum_fails : r ≡ Reading.Outside → Reads (3 * length (shown l next) + 3) (λ n. sum n es d s v (shown l next)) l next Reading.Outside
     sum_fails e = (sum_outside es d s v (shown l next) (rw e at h.0), tt)
 
-    module _ (p w : Worked) (t : Token) (m : Marked) (e : r ≡ Reading.Read p t) (k : w ≡ joins s v p) (f : m ≡ marks plus_mark t) where
-      pub sum_goes_up : (to : ℕ) (u : Token) (q : Reading) → m ≡ Marked.At to → tokens (drop to l) ≡ shown l u
+    module _ (p w : Worked) (t : Token) (m : Option ℕ) (e : r ≡ Reading.Read p t) (k : w ≡ joins s v p) (f : m ≡ marks plus_mark t) where
+      pub sum_goes_up : (to : ℕ) (u : Token) (q : Reading) → m ≡ Some to → tokens (drop to l) ≡ shown l u
           → Reads (3 * length (shown l u) + 3) (λ n. sum n es d Sign.Plus w (shown l u)) l u q
           → Reads (3 * length (shown l next) + 3) (λ n. sum n es d s v (shown l next)) l next q
       sum_goes_up to u q o g i =
@@ -88,8 +88,8 @@ module _ (es : List Entry) (d : ℕ) (l : List ℕ) (next : Token) where
             still_inside l u next q i.1 (omega arith),
           )
 
-      module _ (j : Marked) (no : m ≡ Marked.No) (b : j ≡ marks minus_mark t) where
-        pub sum_goes_down : (to : ℕ) (u : Token) (q : Reading) → j ≡ Marked.At to → tokens (drop to l) ≡ shown l u
+      module _ (j : Option ℕ) (no : m ≡ None) (b : j ≡ marks minus_mark t) where
+        pub sum_goes_down : (to : ℕ) (u : Token) (q : Reading) → j ≡ Some to → tokens (drop to l) ≡ shown l u
             → Reads (3 * length (shown l u) + 3) (λ n. sum n es d Sign.Minus w (shown l u)) l u q
             → Reads (3 * length (shown l next) + 3) (λ n. sum n es d s v (shown l next)) l next q
         sum_goes_down to u q o g i =
@@ -99,7 +99,7 @@ module _ (es : List Entry) (d : ℕ) (l : List ℕ) (next : Token) where
               still_inside l u next q i.1 (omega arith),
             )
 
-        pub sum_stops : j ≡ Marked.No → Reads (3 * length (shown l next) + 3) (λ n. sum n es d s v (shown l next)) l next (Reading.Read w t)
+        pub sum_stops : j ≡ None → Reads (3 * length (shown l next) + 3) (λ n. sum n es d s v (shown l next)) l next (Reading.Read w t)
         sum_stops o = (
           rw k (sum_ends es d s v (shown l next) p (shown l t) (rw e at h.0) (not_marked plus_mark l t (sym f ∙ no)) (not_marked minus_mark l t (sym b ∙ o))),
           rw e at h.1,
@@ -121,8 +121,8 @@ ProductOn es d l v a w b = On 2 (λ n. product n es d v (shown l a)) (λ n. prod
 abbrev pub SumOn : List Entry → ℕ → List ℕ → Sign → Worked → Token → Sign → Worked → Token → Type 0
 SumOn es d l s v a t w b = On 3 (λ n. sum n es d s v (shown l a)) (λ n. sum n es d t w (shown l b)) l a b
 
-module _ (es : List Entry) (d : ℕ) (l : List ℕ) (b to : ℕ) (first t u : Token) (p : Worked) (r : Reading) (m : Marked) (e : r ≡ Reading.Read p t)
-    (f : m ≡ marks b t) (o : m ≡ Marked.At to) (g : tokens (drop to l) ≡ shown l u) (i : Inside l u) where
+module _ (es : List Entry) (d : ℕ) (l : List ℕ) (b to : ℕ) (first t u : Token) (p : Worked) (r : Reading) (m : Option ℕ) (e : r ≡ Reading.Read p t)
+    (f : m ≡ marks b t) (o : m ≡ Some to) (g : tokens (drop to l) ≡ shown l u) (i : Inside l u) where
   -- one term more
   pub product_on : (a : Token) (v₀ v w : Worked) → b ≡ times_mark → ProductOn es d l v₀ a v first
       → Reads (3 * length (shown l first) + 1) (λ n. term n es d (shown l first)) l first r → w ≡ both times v p → ProductOn es d l v₀ a w u
@@ -138,21 +138,21 @@ module _ (es : List Entry) (d : ℕ) (l : List ℕ) (b to : ℕ) (first t u : To
         let c = fewer b to l first t u p r m e h.1 f o g in
         (i, (omega (arith, on.1.0), λ q x. on.1.1 q (sum_goes_up es d l first s v r h p w t m e k (rw z at f) to u q o g x)))
 
-    pub sum_on_down : (j : Marked) → j ≡ marks plus_mark t → j ≡ Marked.No → b ≡ minus_mark → SumOn es d l s₀ v₀ a Sign.Minus w u
+    pub sum_on_down : (j : Option ℕ) → j ≡ marks plus_mark t → j ≡ None → b ≡ minus_mark → SumOn es d l s₀ v₀ a Sign.Minus w u
     sum_on_down j y none z =
         let c = fewer b to l first t u p r m e h.1 f o g in
         (i, (omega (arith, on.1.0), λ q x. on.1.1 q (sum_goes_down es d l first s v r h p w t j e k y m none (rw z at f) to u q o g x)))
 
 -- the last term, and the last product
 module _ (es : List Entry) (d : ℕ) (l : List ℕ) (a first : Token) where
-  pub product_done : (v₀ v w p : Worked) (t : Token) (r : Reading) (m : Marked) → ProductOn es d l v₀ a v first
+  pub product_done : (v₀ v w p : Worked) (t : Token) (r : Reading) (m : Option ℕ) → ProductOn es d l v₀ a v first
       → Reads (3 * length (shown l first) + 1) (λ n. term n es d (shown l first)) l first r → r ≡ Reading.Read p t → w ≡ both times v p
-      → m ≡ marks times_mark t → m ≡ Marked.No → Reads (3 * length (shown l a) + 2) (λ n. product n es d v₀ (shown l a)) l a (Reading.Read w t)
+      → m ≡ marks times_mark t → m ≡ None → Reads (3 * length (shown l a) + 2) (λ n. product n es d v₀ (shown l a)) l a (Reading.Read w t)
   product_done v₀ v w p t r m on h e k f o = on.1.1 (Reading.Read w t) (product_stops es d l first v r h p w t m e k f o)
 
-  pub sum_done : (s₀ s : Sign) (v₀ v w p : Worked) (t : Token) (r : Reading) (m j : Marked) → SumOn es d l s₀ v₀ a s v first
+  pub sum_done : (s₀ s : Sign) (v₀ v w p : Worked) (t : Token) (r : Reading) (m j : Option ℕ) → SumOn es d l s₀ v₀ a s v first
       → Reads (3 * length (shown l first) + 2) (λ n. product n es d (Worked.Is 1) (shown l first)) l first r → r ≡ Reading.Read p t → w ≡ joins s v p
-      → m ≡ marks plus_mark t → m ≡ Marked.No → j ≡ marks minus_mark t → j ≡ Marked.No
+      → m ≡ marks plus_mark t → m ≡ None → j ≡ marks minus_mark t → j ≡ None
       → Reads (3 * length (shown l a) + 3) (λ n. sum n es d s₀ v₀ (shown l a)) l a (Reading.Read w t)
   sum_done s₀ s v₀ v w p t r m j on h e k f o b z = on.1.1 (Reading.Read w t) (sum_stops es d l first s v r h p w t m e k f j o b z)
 
@@ -193,12 +193,12 @@ module _ (es : List Entry) (d : ℕ) (l : List ℕ) (next : Token) where
         pub bracket_fails : r ≡ Reading.Outside → Term es d l next Reading.Outside
         bracket_fails f = rw (e, g) (bracket_outside es d (d - 1) (shown l u) b o (omega arith) (rw f at h.0), tt)
 
-        module _ (v : Worked) (t : Token) (m : Marked) (f : r ≡ Reading.Read v t) (c : m ≡ marks close_mark t) where
-          pub bracket_unclosed : m ≡ Marked.No → Term es d l next Reading.Outside
+        module _ (v : Worked) (t : Token) (m : Option ℕ) (f : r ≡ Reading.Read v t) (c : m ≡ marks close_mark t) where
+          pub bracket_unclosed : m ≡ None → Term es d l next Reading.Outside
           bracket_unclosed k =
               rw (e, g) (bracket_open es d (d - 1) (shown l u) b o (omega arith) v (shown l t) (rw f at h.0) (not_marked close_mark l t (sym c ∙ k)), tt)
 
-          pub bracket_read : (to' : ℕ) (x : Token) → m ≡ Marked.At to' → tokens (drop to' l) ≡ shown l x → Inside l x → Term es d l next (Reading.Read v x)
+          pub bracket_read : (to' : ℕ) (x : Token) → m ≡ Some to' → tokens (drop to' l) ≡ shown l x → Inside l x → Term es d l next (Reading.Read v x)
           bracket_read to' x k y i =
               let a = after close_mark to' l t x m c k y in
               let s = fewer close_mark to' l u t x v r m f h.1 c k y in

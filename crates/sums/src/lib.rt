@@ -12,7 +12,7 @@ ghost use Rattle.sums.specs.Told.{told, total, ToldInside};
 use grammar::{DEEPEST, Found, Kept, Sign, Worked};
 use kept::kept;
 use tables::{MOST_NAMES, look};
-use tokens::{CLOSE, MINUS, Marked, OPEN, PLUS, TIMES, Token, ends, mark_of, next_token};
+use tokens::{CLOSE, MINUS, OPEN, PLUS, TIMES, Token, ends, mark_of, next_token};
 use values::{in_range, joined, number, times};
 
 // What reading comes to: tokens outside the grammar, or a value and the token after it.
@@ -86,12 +86,12 @@ fn sum<'a>(
             return Reading::Outside;
         };
         value = joined(sign, value, p);
-        if let Marked::At(to) = mark_of(then, PLUS) {
+        if let Some(to) = mark_of(then, PLUS) {
             sign = Sign::Plus;
             first = next_token(line, to);
             continue;
         }
-        let Marked::At(to) = mark_of(then, MINUS) else {
+        let Some(to) = mark_of(then, MINUS) else {
             return Reading::Read(value, then);
         };
         sign = Sign::Minus;
@@ -130,7 +130,7 @@ fn product<'a>(
             return Reading::Outside;
         };
         value = times(value, t);
-        let Marked::At(to) = mark_of(then, TIMES) else {
+        let Some(to) = mark_of(then, TIMES) else {
             return Reading::Read(value, then);
         };
         first = next_token(line, to);
@@ -197,7 +197,7 @@ fn term<'a>(
             ) else {
                 return Reading::Outside;
             };
-            let Marked::At(after) = mark_of(then, CLOSE) else {
+            let Some(after) = mark_of(then, CLOSE) else {
                 return Reading::Outside;
             };
             Reading::Read(v, next_token(line, after))

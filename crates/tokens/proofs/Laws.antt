@@ -1,58 +1,37 @@
 -- How the tokens of a line follow from its bytes, one at a time and place by place. Assumes nothing.
 use mathlib.Core.Path.{◌≡◌, refl, sym, ap, ◌∙◌}
 use mathlib.Core.Logic.{◌⊎◌, inl, inr, ⊎_elim}
-use mathlib.Core.Bool.{Bool, true, false, ◌&&◌, ◌||◌, true≢false}
+use mathlib.Core.Bool.{Bool, true, false, ◌||◌, true≢false}
 use mathlib.Core.List.{List, [], ◌∷◌, ◌++◌, append-nil, append_assoc}
 use Prim.Native.Nat.{ℕ, zero, suc, ◌+◌, ◌-◌, ◌<◌, ◌≤◌}
-use native.Mathlib.Nat.{eq-or-lt_of_le}
+use native.Mathlib.Nat.{add-zero, eq-or-lt_of_le}
 use native.Mathlib.Numerals.{add-one}
 use native.Mathlib.Omega.{arith}
-use borrow.Author.Tests.{le-leb, lt-leb, eqb-true, eq-eqb, ne_eqb}
-use lib.Dec.{leb, eqb}
+use borrow.Author.Tests.{eqb-true, ne_eqb}
+use lib.Dec.{eqb}
+use Rattle.std.proofs.str.Laws.{order}
 use lib.ListN.{length, get_or, drop, length-drop, drop_of_length-le}
 use lib.Seq.{drop-cons, take-suc, get_or-drop, get_or-take, length-take-le}
 use Rattle.grammar.specs.Tokens.{Token, Open, comment, letter, digit, blank, is_mark, goes_on, longer, ended, alone, begun, tokens_on, tokens}
 use Rattle.grammar.specs.Tokens.Open.{none, in_number, in_word}
 use Rattle.tokens.specs.declared.Token.{Token as Next}
-use Rattle.tokens.specs.declared.Marked.{Marked}
-use Rattle.tokens.specs.Shown.{part, shown, Digits, Inside, marks, Skips, Lasts}
+use Rattle.tokens.specs.Shown.{part, shown, Digits, Inside, EndsAt}
 
--- a range of bytes: under its first byte, and from it on
-pub under : (lo hi b : ℕ) → b < lo → false ≡ (leb lo b && leb b hi)
-under lo hi b h = rw (lt-leb lo b h, ◌&&◌)
+-- blanks that are passed over: the tokens stay, and a byte that is no blank follows, or the end
+pub record Skips (l : List ℕ) (at r : ℕ) : Type 0 where
+  pub stay : tokens (drop r l) ≡ tokens (drop at l)
+  pub stops : r < length l → blank (get_or l r 0) ≡ false
 
-pub not_under : (lo hi b : ℕ) → lo ≤ b → leb b hi ≡ (leb lo b && leb b hi)
-not_under lo hi b h = rw (le-leb lo b h, ◌&&◌)
-
--- the marks are the bytes 40 to 43, and three more
-abbrev pub Rare : ℕ → Type 0
-Rare b = (b ≡ 45) ⊎ ((b ≡ 58) ⊎ (b ≡ 61))
-
-pub rare_mark : (b : ℕ) → Rare b → true ≡ is_mark b
-rare_mark b k = ⊎_elim (λ e. rw e) (λ o. ⊎_elim (λ e. rw e) (λ e. rw e) o) k
+-- a number or a word that goes on from a place to another, where it ends
+pub record Lasts (still : List ℕ → Open) (l : List ℕ) (at r : ℕ) : Type 0 where
+  pub from : at ≤ r
+  pub to : r ≤ length l
+  pub on : (w : List ℕ) → tokens_on (still w) (drop at l) ≡ ended (still (w ++ part l at r)) ++ tokens (drop r l)
+  pub each : (i : ℕ) → i < r - at → goes_on (still []) (get_or l (at + i) 0) ≡ true
 
 -- under one more than a number: that number, or under it
 last_or_under : (b n : ℕ) → b < n + 1 → (b ≡ n) ⊎ (b < n)
 last_or_under b n h = eq-or-lt_of_le (omega arith)
-
-pub common_mark : (b : ℕ) → 40 ≤ b → b < 44 → true ≡ is_mark b
-common_mark b g h =
-    ⊎_elim (λ e. rw e)
-    (λ i. ⊎_elim (λ e. rw e)
-    (λ j. ⊎_elim (λ e. rw e) (λ k. let e : b ≡ 40 = omega arith in rw e) (last_or_under b 41 j)) (last_or_under b 42 i))
-    (last_or_under b 43 h)
-
-pub no_mark : (b : ℕ) → (Rare b → ⊥) → (40 ≤ b → b < 44 → ⊥) → false ≡ is_mark b
-no_mark b k r =
-    simp (
-      ne_eqb b 40 (λ e. r (omega arith) (omega arith)),
-      ne_eqb b 41 (λ e. r (omega arith) (omega arith)),
-      ne_eqb b 42 (λ e. r (omega arith) (omega arith)),
-      ne_eqb b 43 (λ e. r (omega arith) (omega arith)),
-      ne_eqb b 45 (λ e. k (inl e)),
-      ne_eqb b 58 (λ e. k (inr (inl e))),
-      ne_eqb b 61 (λ e. k (inr (inr e))),
-    )
 
 -- bytes at which a test differs are not the same
 other : (f : ℕ → Bool) (a b : ℕ) → f a ≡ false → f b ≡ true → eqb b a ≡ false
@@ -154,6 +133,36 @@ pub blank_passed : (l : List ℕ) (at k : ℕ) → tokens (drop k l) ≡ tokens 
     → tokens (drop (k + 1) l) ≡ tokens (drop at l)
 blank_passed l at k e h b = sym (from_blank (get_or l k 0) (drop (k + 1) l) b) ∙ ap tokens (sym (at_byte l k h)) ∙ e
 
+-- a test that says as much
+pub taken_as : (P Q : ℕ → Bool → Type 0) → ((b : ℕ) (t : Bool) → P b t → Q b t) → (l : List ℕ) (at r : ℕ) → EndsAt P l at r → EndsAt Q l at r
+taken_as P Q f l at r e =
+    record { to = e.to; each = λ i a h. f _ _ (e.each i a h); stops = λ h. ((e.stops h).0, f _ _ (e.stops h).1) }
+
+-- it lies from the first place on, which lies in the line
+pub ends_from : (P : ℕ → Bool → Type 0) (l : List ℕ) (at r : ℕ) → EndsAt P l at r → at ≤ length l → at ≤ r
+ends_from P l at r e h = ⊎_elim (λ g. (e.stops g).0) (λ g. omega arith) (order r (length l))
+
+-- blanks up to the first other byte
+module _ (l : List ℕ) (at r : ℕ) (e : EndsAt (λ b t. t ≡ blank b) l at r) where
+  passed : (n : ℕ) → at + n ≤ r → tokens (drop (at + n) l) ≡ tokens (drop at l)
+  passed zero h = rw add-zero
+  passed (suc n) h =
+      let f : at + suc n ≡ at + n + 1 = omega arith in
+      rw f (blank_passed l at (at + n) (passed n (omega arith)) (omega (arith, e.to)) (sym (e.each (at + n) (omega arith) (omega arith))))
+
+  -- a place past the end is where nothing is left
+  all_passed : (at < length l) ⊎ (length l ≤ at) → tokens (drop r l) ≡ tokens (drop at l)
+  all_passed (inl h) =
+      let from = ends_from _ l at r e (omega arith) in
+      let f : at + (r - at) ≡ r = omega arith in
+      rw f at (passed (r - at) (omega arith))
+  all_passed (inr h) =
+      let end : length l ≤ r = ⊎_elim (λ g. absurd (omega (arith, (e.stops g).0))) (λ g. g) (order r (length l)) in
+      ap tokens (drop_of_length-le l end ∙ sym (drop_of_length-le l h))
+
+  pub skips : Skips l at r
+  skips = record { stay = all_passed (order at (length l)); stops = λ h. sym (e.stops h).1 }
+
 -- a number or a word that went on from a place to another, and may still go on
 pub record Running (still : List ℕ → Open) (l : List ℕ) (at k : ℕ) : Type 0 where
   pub from : at ≤ k
@@ -207,6 +216,21 @@ module _ (still : List ℕ → Open) (l : List ℕ) (at : ℕ) where
     pub run_ends : length l ≤ k → Lasts still l at k
     run_ends h = run_over (λ w. rw (drop_of_length-le l h) (no_more (still w)))
 
+-- a run up to the first byte that it does not go on with
+module _ (still : List ℕ → Open) (s : OpenBy still) (l : List ℕ) (at r : ℕ) (h : at ≤ length l) (e : EndsAt (λ b t. t ≡ goes_on (still []) b) l at r) where
+  runs : (n : ℕ) → at + n ≤ r → Running still l at (at + n)
+  runs zero g = rw add-zero (run_begins still l at h)
+  runs (suc n) g =
+      let f : at + suc n ≡ at + n + 1 = omega arith in
+      rw f (run_goes still l at s (at + n) (runs n (omega arith)) (omega (arith, e.to)) (sym (e.each (at + n) (omega arith) (omega arith))))
+
+  pub lasts : Lasts still l at r
+  lasts =
+      let from = ends_from _ l at r e h in
+      let f : at + (r - at) ≡ r = omega arith in
+      let run = rw f at (runs (r - at) (omega arith)) in
+      ⊎_elim (λ g. run_stops still l at s r run g (sym (e.stops g).1)) (λ g. run_ends still l at s r run g) (order r (length l))
+
 -- each byte of a number is a digit
 module _ (l : List ℕ) (from to : ℕ) (d : digit (get_or l from 0) ≡ true) (r : Lasts in_number l (from + 1) to) where
   digit_at : (i : ℕ) → i < to - from → digit (get_or l (from + i) 0) ≡ true
@@ -229,37 +253,33 @@ module _ (l : List ℕ) (at from : ℕ) (s : Skips l at from) where
   pub nothing_next : length l ≤ from → Stands l at Next.End
   nothing_next h = (sym s.stay ∙ ap tokens (drop_of_length-le l h) ∙ none_left, tt)
 
-  module _ (h : from < length l) where
-    byte_next : tokens (drop at l) ≡ tokens (get_or l from 0 ∷ drop (from + 1) l)
-    byte_next = sym s.stay ∙ ap tokens (at_byte l from h)
+  -- a byte that stands there
+  module _ (b : ℕ) (h : from < length l) (e : get_or l from 0 ≡ b) where
+    byte_next : tokens (drop at l) ≡ tokens (b ∷ drop (from + 1) l)
+    byte_next = sym s.stay ∙ ap tokens (at_byte l from h ∙ rw e)
+
+    no_blank : blank b ≡ false
+    no_blank = rw e at (s.stops h)
 
     run_next : (still : List ℕ → Open) (to : ℕ) (r : Lasts still l (from + 1) to)
-        → tokens (get_or l from 0 ∷ drop (from + 1) l) ≡ tokens_on (still (get_or l from 0 ∷ [])) (drop (from + 1) l)
+        → tokens (b ∷ drop (from + 1) l) ≡ tokens_on (still (b ∷ [])) (drop (from + 1) l)
         → tokens (drop at l) ≡ ended (still (part l from to)) ++ tokens (drop to l)
-    run_next still to r e = byte_next ∙ e ∙ r.on (get_or l from 0 ∷ []) ∙ rw (part_first l from to (omega (arith, r.from)) h)
+    run_next still to r g = byte_next ∙ g ∙ r.on (b ∷ []) ∙ rw (part_first l from to (omega (arith, r.from)) h, e)
 
-    pub word_next : (to : ℕ) → letter (get_or l from 0) ≡ true → Lasts in_word l (from + 1) to → Stands l at (Next.Word from to)
+    pub word_next : (to : ℕ) → letter b ≡ true → Lasts in_word l (from + 1) to → Stands l at (Next.Word from to)
     word_next to c r = (run_next in_word to r (from_letter _ _ c), (omega (arith, r.from), r.to))
 
-    module _ (c : letter (get_or l from 0) ≡ false) where
-      pub number_next : (to : ℕ) → digit (get_or l from 0) ≡ true → Lasts in_number l (from + 1) to → Stands l at (Next.Number from to)
+    module _ (c : letter b ≡ false) where
+      pub number_next : (to : ℕ) → digit b ≡ true → Lasts in_number l (from + 1) to → Stands l at (Next.Number from to)
       number_next to d r =
-          (run_next in_number to r (from_digit _ _ c d), (omega (arith, r.from), (r.to, digits l from to d r)))
+          (run_next in_number to r (from_digit _ _ c d), (omega (arith, r.from), (r.to, digits l from to (rw e d) r)))
 
-      module _ (d : digit (get_or l from 0) ≡ false) where
-        pub mark_next : is_mark (get_or l from 0) ≡ true → Stands l at (Next.Mark (get_or l from 0) (from + 1))
-        mark_next m = (byte_next ∙ from_mark _ _ c d (s.stops h) m, tt)
+      module _ (d : digit b ≡ false) where
+        pub mark_next : is_mark b ≡ true → Stands l at (Next.Mark b (from + 1))
+        mark_next m = (byte_next ∙ from_mark _ _ c d no_blank m, tt)
 
-        pub stray_next : is_mark (get_or l from 0) ≡ false → (get_or l from 0 ≡ comment → ⊥) → Stands l at (Next.Stray (from + 1))
-        stray_next m n = (byte_next ∙ from_stray _ _ c d (s.stops h) m (ne_eqb _ _ n), tt)
+        pub stray_next : is_mark b ≡ false → (b ≡ comment → ⊥) → Stands l at (Next.Stray (from + 1))
+        stray_next m n = (byte_next ∙ from_stray _ _ c d no_blank m (ne_eqb _ _ n), tt)
 
-    pub comment_next : get_or l from 0 ≡ comment → Stands l at Next.End
-    comment_next e = (byte_next ∙ commented _ _ e, tt)
-
--- a token that is a mark is the mark asked for, or another
-module _ (t : Next) (c b to : ℕ) (e : t ≡ Next.Mark c to) where
-  pub the_mark : c ≡ b → Marked.At to ≡ marks b t
-  the_mark q = rw (e, eq-eqb c b q, marks)
-
-  pub another_mark : (c ≡ b → ⊥) → Marked.No ≡ marks b t
-  another_mark q = rw (e, ne_eqb c b q, marks)
+    pub comment_next : b ≡ comment → Stands l at Next.End
+    comment_next q = (byte_next ∙ commented _ _ q, tt)

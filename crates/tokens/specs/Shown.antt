@@ -1,8 +1,7 @@
 -- What the code finds next in a line, as the definitions have it.
-use Rattle.std.specs.Prelude.{◌≡◌, Bool, true, false, List, [], ◌∷◌, ◌++◌, ℕ, ◌+◌, ◌-◌, ◌<◌, ◌≤◌, eqb, length, get_or, take, drop}
-use Rattle.grammar.specs.Tokens.{Token, Open, digit, blank, goes_on, ended, tokens_on, tokens}
+use Rattle.std.specs.Prelude.{◌≡◌, Bool, true, false, List, [], ◌∷◌, Option, Some, None, ℕ, ◌-◌, ◌<◌, ◌≤◌, eqb, length, get_or, take, drop}
+use Rattle.grammar.specs.Tokens.{Token, digit, tokens}
 use Rattle.tokens.specs.declared.Token.{Token as Next}
-use Rattle.tokens.specs.declared.Marked.{Marked}
 
 -- the part of a line from one place to another
 abbrev pub part : List ℕ → ℕ → ℕ → List ℕ
@@ -28,12 +27,12 @@ Inside l (Next.Mark b to) = Unit {0}
 Inside l (Next.Stray to) = Unit {0}
 
 -- whether a token is a mark, and the place after it
-abbrev pub marks : ℕ → Next → Marked
-marks b Next.End = Marked.No
-marks b (Next.Number from to) = Marked.No
-marks b (Next.Word from to) = Marked.No
-marks b (Next.Mark c to) = elim (eqb c b) [ true ↦ Marked.At to | false ↦ Marked.No ]
-marks b (Next.Stray to) = Marked.No
+abbrev pub marks : ℕ → Next → Option ℕ
+marks b Next.End = None
+marks b (Next.Number from to) = None
+marks b (Next.Word from to) = None
+marks b (Next.Mark c to) = elim (eqb c b) [ true ↦ Some to | false ↦ None ]
+marks b (Next.Stray to) = None
 
 -- whether no token is left
 abbrev pub is_end : Next → Bool
@@ -43,14 +42,8 @@ is_end (Next.Word from to) = false
 is_end (Next.Mark b to) = false
 is_end (Next.Stray to) = false
 
--- blanks that are passed over: the tokens stay, and a byte that is no blank follows, or the end
-pub record Skips (l : List ℕ) (at r : ℕ) : Type 0 where
-  pub stay : tokens (drop r l) ≡ tokens (drop at l)
-  pub stops : r < length l → blank (get_or l r 0) ≡ false
-
--- a number or a word that goes on from a place to another, where it ends
-pub record Lasts (still : List ℕ → Open) (l : List ℕ) (at r : ℕ) : Type 0 where
-  pub from : at ≤ r
+-- the first place from one on where a byte is not taken, or the end
+pub record EndsAt (taken : ℕ → Bool → Type 0) (l : List ℕ) (at r : ℕ) : Type 0 where
   pub to : r ≤ length l
-  pub on : (w : List ℕ) → tokens_on (still w) (drop at l) ≡ ended (still (w ++ part l at r)) ++ tokens (drop r l)
-  pub each : (i : ℕ) → i < r - at → goes_on (still []) (get_or l (at + i) 0) ≡ true
+  pub each : (i : ℕ) → at ≤ i → i < r → taken (get_or l i 0) true
+  pub stops : r < length l → (at ≤ r) × taken (get_or l r 0) false

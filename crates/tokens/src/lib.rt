@@ -2,11 +2,8 @@
 #![tactic(auto)]
 
 ghost use Rattle.std.specs.Prelude.{◌≡◌, ◌≤◌, length, drop};
-ghost use Rattle.grammar.specs.Tokens.{letter, digit, blank, is_mark, word_byte, tokens};
-ghost use Rattle.grammar.specs.Tokens.Open.{in_number, in_word};
-ghost use Rattle.tokens.specs.Shown.{shown, Inside, marks, is_end, Skips, Lasts};
-
-use grammar::{FIRST_DIGIT, FIRST_LETTER, LAST_LETTER};
+ghost use Rattle.grammar.specs.Tokens.{blank, is_mark, word_byte, tokens};
+ghost use Rattle.tokens.specs.Shown.{shown, Inside, marks, is_end, EndsAt};
 
 // What stands next in a line: nothing more, a number or a word with its first byte and the place after it, a mark, or a byte
 // that never stands there, each with the place after it.
@@ -19,138 +16,55 @@ pub enum Token {
     Stray(usize),
 }
 
-// Whether a mark stands next, and the place after it.
-#[derive(Clone, Copy)]
-pub enum Marked {
-    No,
-    At(usize),
-}
-
-const SPACE: u8 = 32;
-
-const TAB: u8 = 9;
-
-const RETURN: u8 = 13;
-
-const COMMENT: u8 = 59;
-
-const LAST_DIGIT: u8 = 57;
-
-const UNDERLINE: u8 = 95;
+const COMMENT: u8 = b';';
 
 // The marks.
-pub const PLUS: u8 = 43;
+pub const PLUS: u8 = b'+';
 
-pub const MINUS: u8 = 45;
+pub const MINUS: u8 = b'-';
 
-pub const TIMES: u8 = 42;
+pub const TIMES: u8 = b'*';
 
-pub const OPEN: u8 = 40;
+pub const OPEN: u8 = b'(';
 
-pub const CLOSE: u8 = 41;
+pub const CLOSE: u8 = b')';
 
-pub const LABEL: u8 = 58;
+pub const LABEL: u8 = b':';
 
-pub const EQUALS: u8 = 61;
-
-// Whether a byte is a letter.
-fn is_letter(b: u8) -> bool
-    ensures { result ≡ letter b }
-{
-    if b < FIRST_LETTER {
-        return false;
-    }
-    b <= LAST_LETTER
-}
-
-// Whether a byte is a digit.
-fn is_digit(b: u8) -> bool
-    ensures { result ≡ digit b }
-{
-    if b < FIRST_DIGIT {
-        return false;
-    }
-    b <= LAST_DIGIT
-}
+pub const EQUALS: u8 = b'=';
 
 // Whether a byte is a blank.
 fn is_blank(b: u8) -> bool
     ensures { result ≡ blank b }
 {
-    if b == SPACE {
-        return true;
-    }
-    if b == TAB {
-        return true;
-    }
-    b == RETURN
+    matches!(b, b' ' | b'\t' | b'\r')
 }
 
 // Whether a word goes on with a byte.
 fn is_word_byte(b: u8) -> bool
     ensures { result ≡ word_byte b }
 {
-    if is_letter(b) {
-        return true;
-    }
-    if is_digit(b) {
-        return true;
-    }
-    b == UNDERLINE
+    b.is_ascii_lowercase() || b.is_ascii_digit() || b == b'_'
 }
 
 // Whether a byte is a mark.
 fn is_a_mark(b: u8) -> bool
     ensures { result ≡ is_mark b }
 {
-    match b {
-        PLUS | MINUS | TIMES | OPEN | CLOSE | LABEL | EQUALS => true,
-        _ => false,
-    }
+    matches!(b, PLUS | MINUS | TIMES | OPEN | CLOSE | LABEL | EQUALS)
 }
 
-// The place of the first byte from a place on that is no blank.
-fn skip(line: &[u8], at: usize) -> usize
-    ensures { Skips line.now at result }
+// The first place from one on where a byte is not taken, or the end.
+fn end_of<F: Fn(u8) -> bool>(line: &[u8], at: usize, taken: F) -> usize
+    requires { F.IsAlwaysCallable taken }
+    ensures { EndsAt (λ b r. F.post taken b r) line.now at result }
 {
-    let mut k = at;
-    while k < line.len() {
-        if !is_blank(line[k]) {
+    for k in at..line.len() {
+        if !taken(line[k]) {
             return k;
         }
-        k += 1;
     }
-    k
-}
-
-// The place after the word that goes on at a place.
-fn word_end(line: &[u8], at: usize) -> usize
-    requires { at ≤ length line.now }
-    ensures { Lasts in_word line.now at result }
-{
-    let mut k = at;
-    while k < line.len() {
-        if !is_word_byte(line[k]) {
-            return k;
-        }
-        k += 1;
-    }
-    k
-}
-
-// The place after the number that goes on at a place.
-fn number_end(line: &[u8], at: usize) -> usize
-    requires { at ≤ length line.now }
-    ensures { Lasts in_number line.now at result }
-{
-    let mut k = at;
-    while k < line.len() {
-        if !is_digit(line[k]) {
-            return k;
-        }
-        k += 1;
-    }
-    k
+    line.len()
 }
 
 // The token that stands next.
@@ -158,16 +72,15 @@ pub fn next_token(line: &[u8], at: usize) -> Token
     ensures line_value { tokens (drop at line.now) ≡ shown line.now result }
     ensures inside { Inside line.now result }
 {
-    let from = skip(line, at);
-    if line.len() <= from {
+    let from = end_of(line, at, is_blank);
+    let Some(&b) = line.get(from) else {
         return Token::End;
+    };
+    if b.is_ascii_lowercase() {
+        return Token::Word(from, end_of(line, from + 1, is_word_byte));
     }
-    let b = line[from];
-    if is_letter(b) {
-        return Token::Word(from, word_end(line, from + 1));
-    }
-    if is_digit(b) {
-        return Token::Number(from, number_end(line, from + 1));
+    if b.is_ascii_digit() {
+        return Token::Number(from, end_of(line, from + 1, |d| d.is_ascii_digit()));
     }
     if is_a_mark(b) {
         return Token::Mark(b, from + 1);
@@ -178,21 +91,13 @@ pub fn next_token(line: &[u8], at: usize) -> Token
     Token::Stray(from + 1)
 }
 
-// Whether a token is the mark b, and the place after it.
-pub fn mark_of(t: Token, b: u8) -> Marked
+// The place after a token that is the mark b.
+pub fn mark_of(t: Token, b: u8) -> Option<usize>
     ensures { result ≡ marks b t }
 {
     match t {
-        Token::End => Marked::No,
-        Token::Number(_, _) => Marked::No,
-        Token::Word(_, _) => Marked::No,
-        Token::Mark(c, to) => {
-            if c == b {
-                return Marked::At(to);
-            }
-            Marked::No
-        }
-        Token::Stray(_) => Marked::No,
+        Token::Mark(c, to) if c == b => Some(to),
+        _ => None,
     }
 }
 
@@ -200,11 +105,5 @@ pub fn mark_of(t: Token, b: u8) -> Marked
 pub fn ends(t: Token) -> bool
     ensures { result ≡ is_end t }
 {
-    match t {
-        Token::End => true,
-        Token::Number(_, _) => false,
-        Token::Word(_, _) => false,
-        Token::Mark(_, _) => false,
-        Token::Stray(_) => false,
-    }
+    matches!(t, Token::End)
 }

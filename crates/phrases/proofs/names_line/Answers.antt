@@ -25,7 +25,7 @@ pub returns-in_default-mark_of : goal.returns-in_default-mark_of
 returns-in_default-mark_of c = record { line_value = rw (c.next_token-first.ensures.line_value, c.in-Word.is, c.next_token.ensures.line_value) (names_no_mark _ c.args.line.now c.next_token.result _ (sym c.mark_of.ensures ∙ c.in_default-mark_of.is)); names_inside = tt }
 
 pub returns-in_default-sum_of : goal.returns-in_default-sum_of
-returns-in_default-sum_of c = record { line_value = rw (c.next_token-first.ensures.line_value, c.in-Word.is, c.next_token.ensures.line_value) (names_sum _ c.args.line.now c.next_token.result _ _ c.next_token-2.result (sym c.is_free.ensures ∙ c.if-not-is_free.false) (sym c.mark_of.ensures ∙ c.in-At.is) c.next_token-2.ensures.line_value ∙ rw (c.sum_of.ensures, c.in_default-sum_of.is)); names_inside = tt }
+returns-in_default-sum_of c = record { line_value = rw (c.next_token-first.ensures.line_value, c.in-Word.is, c.next_token.ensures.line_value) (names_sum _ c.args.line.now c.next_token.result _ _ c.next_token-2.result (sym c.is_free.ensures ∙ c.if-not-is_free.false) (sym c.mark_of.ensures ∙ c.in-Some.is) c.next_token-2.ensures.line_value ∙ rw (c.sum_of.ensures, c.in_default-sum_of.is)); names_inside = tt }
 
 pub returns : goal.returns
-returns c = record { line_value = rw (c.next_token-first.ensures.line_value, c.in-Word.is, c.next_token.ensures.line_value) (names_sum _ c.args.line.now c.next_token.result _ _ c.next_token-2.result (sym c.is_free.ensures ∙ c.if-not-is_free.false) (sym c.mark_of.ensures ∙ c.in-At.is) c.next_token-2.ensures.line_value ∙ rw (c.sum_of.ensures, c.in-Comes.is)); names_inside = word_inside c.args.line.now _ _ _ c.in-Word.is c.next_token-first.ensures.inside }
+returns c = record { line_value = rw (c.next_token-first.ensures.line_value, c.in-Word.is, c.next_token.ensures.line_value) (names_sum _ c.args.line.now c.next_token.result _ _ c.next_token-2.result (sym c.is_free.ensures ∙ c.if-not-is_free.false) (sym c.mark_of.ensures ∙ c.in-Some.is) c.next_token-2.ensures.line_value ∙ rw (c.sum_of.ensures, c.in-Comes.is)); names_inside = word_inside c.args.line.now _ _ _ c.in-Word.is c.next_token-first.ensures.inside }

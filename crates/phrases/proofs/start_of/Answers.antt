@@ -17,7 +17,7 @@ pub slice_bounds-is_free-end : goal.slice_bounds-is_free-end
 slice_bounds-is_free-end c = (word_inside c.args.line.now _ _ _ c.in-Word.is c.next_token-first.ensures.inside).1
 
 pub returns-then-is_free : goal.returns-then-is_free
-returns-then-is_free c = starts_labelled c.args.line.now c.next_token-first.result _ _ c.next_token.result c.next_token-first.ensures.line_value c.next_token-first.ensures.inside c.in-Word.is c.next_token.ensures.line_value _ c.next_token-then-is_free.result (sym c.mark_of.ensures ∙ c.in-At.is) (sym c.is_free.ensures ∙ c.if-is_free.true) c.next_token-then-is_free.ensures.line_value c.next_token-then-is_free.ensures.inside
+returns-then-is_free c = starts_labelled c.args.line.now c.next_token-first.result _ _ c.next_token.result c.next_token-first.ensures.line_value c.next_token-first.ensures.inside c.in-Word.is c.next_token.ensures.line_value _ c.next_token-then-is_free.result (sym c.mark_of.ensures ∙ c.in-Some.is) (sym c.is_free.ensures ∙ c.if-is_free.true) c.next_token-then-is_free.ensures.line_value c.next_token-then-is_free.ensures.inside
 
 pub returns : goal.returns
-returns c = starts_kept c.args.line.now c.next_token-first.result _ _ c.next_token.result c.next_token-first.ensures.line_value c.next_token-first.ensures.inside c.in-Word.is c.next_token.ensures.line_value _ (sym c.mark_of.ensures ∙ c.in-At.is) (sym c.is_free.ensures ∙ c.if-is_free.false)
+returns c = starts_kept c.args.line.now c.next_token-first.result _ _ c.next_token.result c.next_token-first.ensures.line_value c.next_token-first.ensures.inside c.in-Word.is c.next_token.ensures.line_value _ (sym c.mark_of.ensures ∙ c.in-Some.is) (sym c.is_free.ensures ∙ c.if-is_free.false)

@@ -18,16 +18,16 @@ product-returns-in_default-mark_of t c =
 
 pub product-loop-t-preserved : goal.product-loop-t-preserved
 product-loop-t-preserved t c =
-    product_on _ _ _ _ _ c.loop-t.first _ c.next_token-first.result _ _ _ c.in-Read.is c.mark_of.ensures c.in-At.is c.next_token-first.ensures.line_value c.next_token-first.ensures.inside _ _ _ _ refl c.loop-t.invariant
+    product_on _ _ _ _ _ c.loop-t.first _ c.next_token-first.result _ _ _ c.in-Read.is c.mark_of.ensures c.in-Some.is c.next_token-first.ensures.line_value c.next_token-first.ensures.inside _ _ _ _ refl c.loop-t.invariant
     (c.term.ensures.by_index, c.term.ensures.told_inside) c.times-value.ensures
 
 pub sum-returns-in_default : goal.sum-returns-in_default
 sum-returns-in_default t c =
     both_told (c.loop-p.invariant.1.1 Reading.Outside (sum_fails _ _ _ _ _ _ _ (c.product.ensures.by_index, c.product.ensures.told_inside) c.in_default.is))
 
-pub sum-loop-p-preserved-in-At : goal.sum-loop-p-preserved-in-At
-sum-loop-p-preserved-in-At t c =
-    sum_on_up _ _ _ _ _ c.loop-p.first _ c.next_token-first.result _ _ _ c.in-Read.is c.mark_of.ensures c.in-At.is c.next_token-first.ensures.line_value c.next_token-first.ensures.inside _ _ _ _ _ _ c.loop-p.invariant
+pub sum-loop-p-preserved-in-Some : goal.sum-loop-p-preserved-in-Some
+sum-loop-p-preserved-in-Some t c =
+    sum_on_up _ _ _ _ _ c.loop-p.first _ c.next_token-first.result _ _ _ c.in-Read.is c.mark_of.ensures c.in-Some.is c.next_token-first.ensures.line_value c.next_token-first.ensures.inside _ _ _ _ _ _ c.loop-p.invariant
     (c.product.ensures.by_index, c.product.ensures.told_inside) c.joined-value.ensures refl
 
 pub sum-returns-in_default-mark_of-2 : goal.sum-returns-in_default-mark_of-2
@@ -36,7 +36,7 @@ sum-returns-in_default-mark_of-2 t c =
 
 pub sum-loop-p-preserved : goal.sum-loop-p-preserved
 sum-loop-p-preserved t c =
-    sum_on_down _ _ _ _ _ c.loop-p.first _ c.next_token-first-in-loop-p.result _ _ _ c.in-Read.is c.mark_of-in-loop-p.ensures c.in-At-mark_of.is c.next_token-first-in-loop-p.ensures.line_value c.next_token-first-in-loop-p.ensures.inside _ _ _ _ _ _ c.loop-p.invariant
+    sum_on_down _ _ _ _ _ c.loop-p.first _ c.next_token-first-in-loop-p.result _ _ _ c.in-Read.is c.mark_of-in-loop-p.ensures c.in-Some-mark_of.is c.next_token-first-in-loop-p.ensures.line_value c.next_token-first-in-loop-p.ensures.inside _ _ _ _ _ _ c.loop-p.invariant
     (c.product.ensures.by_index, c.product.ensures.told_inside) c.joined-value.ensures _ c.mark_of.ensures c.in_default-mark_of.is refl
 
 pub term-returns-in_default : goal.term-returns-in_default
@@ -67,9 +67,9 @@ pub term-returns-in-Free : goal.term-returns-in-Free
 term-returns-in-Free t c =
     both_told (name_read _ _ _ _ _ _ _ c.next_token-in-Word.result c.next_token-in-Word.ensures.line_value c.next_token-in-Word.ensures.inside _ c.in-Word.is c.kept.ensures c.in-Free.is c.value.ensures)
 
-pub term-returns-in-At : goal.term-returns-in-At
-term-returns-in-At t c =
-    both_told (bracket_read _ _ _ _ _ _ c.in-Mark.is c.next_token-in-Mark.result c.next_token-in-Mark.ensures.line_value c.if-b-ne-OPEN.false c.if-depth-eq0.false _ (c.sum.ensures.by_index, c.sum.ensures.told_inside) _ _ _ c.in-Read.is c.mark_of.ensures _ c.next_token-in-Mark-2.result c.in-At.is c.next_token-in-Mark-2.ensures.line_value c.next_token-in-Mark-2.ensures.inside)
+pub term-returns-in-Some : goal.term-returns-in-Some
+term-returns-in-Some t c =
+    both_told (bracket_read _ _ _ _ _ _ c.in-Mark.is c.next_token-in-Mark.result c.next_token-in-Mark.ensures.line_value c.if-b-ne-OPEN.false c.if-depth-eq0.false _ (c.sum.ensures.by_index, c.sum.ensures.told_inside) _ _ _ c.in-Read.is c.mark_of.ensures _ c.next_token-in-Mark-2.result c.in-Some.is c.next_token-in-Mark-2.ensures.line_value c.next_token-in-Mark-2.ensures.inside)
 
 pub term-returns-in-Stray : goal.term-returns-in-Stray
 term-returns-in-Stray t c = both_told (stray_read _ _ _ _ _ c.in-Stray.is)
