@@ -1,17 +1,19 @@
 -- The parts of a line as they are written one after another. Assumes nothing.
 use Rattle.std.specs.Prelude.{Err, Ok, Result}
-use mathlib.Core.Path.{◌≡◌, sym}
+use mathlib.Core.Path.{◌≡◌, refl, sym, ap, ◌∙◌}
 use mathlib.Core.List.{List, ◌++◌, append_assoc}
 use Prim.Native.Nat.{ℕ, ◌+◌, ◌<◌, ◌≤◌}
-use native.Mathlib.Numerals.{add-one}
 use native.Mathlib.Omega.{arith}
-use lib.ListN.{length, get_or, set, take, length-append}
-use lib.Seq.{length-take-le, take-suc, take_all}
+use lib.ListN.{length, take, drop, length-append}
+use lib.Seq.{take_all}
+use borrow.Rule.Slice.PartMut.{put_mid}
+use Rattle.std.proofs.lemmas.List.Edits.{sets-eq}
+use Rattle.std.proofs.lemmas.Slice.{put_mid-paste}
 use Rattle.paper.specs.Numbers.{number, kind, answer_task}
 use Rattle.paper.specs.Runner.{decimal, space, newline, refused_word, line}
 use Rattle.paper.specs.declared.Answer.{Answer}
 use Rattle.paper.specs.declared.Refusal.{Refusal}
-use Rattle.writes.specs.Written.{written, then_on, one_more}
+use Rattle.writes.specs.Written.{written, then_on}
 use Rattle.runner_lines.specs.Lines.{answer_text, refusal_text}
 
 pub accepted_line : (n : ℕ) (a : Answer) → decimal n ++ answer_text a ≡ line n (Ok a)
@@ -22,13 +24,13 @@ pub refused_line : (n : ℕ) (r : Refusal) → decimal n ++ refusal_text r ≡ l
 unfolding line refusal_text
 refused_line n r = simp append_assoc
 
--- one byte more of a text, and all of it
-module _ (o out text : List ℕ) (at k : ℕ) (e : out ≡ written o at (take k text)) where
-  pub byte_more : k < length text → set out (at + k) (get_or text k 0) ≡ written o at (take (k + 1) text)
-  byte_more h = rw (add-one, take-suc text k 0 h) (one_more o out at k (take k text) (get_or text k 0) e (sym (length-take-le k text (omega arith))))
-
-  pub text_done : length text ≤ k → out ≡ written o at text
-  text_done h = rw (take_all k text h) at e
+-- a text copied into its place
+pub text_copied : (o copied text : List ℕ) (at k : ℕ) → at + length text ≤ length o → k ≡ length text → copied ≡ text
+    → put_mid at k o copied ≡ written o at text
+unfolding written
+text_copied o copied text at k room ek e =
+    let whole : take (length text) text ≡ text = take_all (length text) text (omega arith) in
+    put_mid-paste at k o copied text (length text) e (sym ek) refl ∙ (ap (λ t. take at o ++ t ++ drop (at + length text) o) whole ∙ sym (sets-eq text o at room))
 
 -- texts written one after another
 module _ (o a b : List ℕ) (at p q : ℕ) (x y : List ℕ) (ea : a ≡ written o at x) (ep : p ≡ at + length x) (eb : b ≡ written a p y) (eq : q ≡ p + length y) where

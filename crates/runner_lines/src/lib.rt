@@ -50,12 +50,9 @@ pub fn put_text(out: &mut [u8], at: usize, text: &[u8]) -> usize
     ensures value { result ≡ at + length text.now }
     ensures out_after { out.new ≡ written out.old at text.now }
 {
-    let mut k: usize = 0;
-    while k < text.len() {
-        out[at + k] = text[k];
-        k += 1;
-    }
-    at + k
+    let end = at + text.len();
+    out[at..end].copy_from_slice(text);
+    end
 }
 
 // Writes a space and the decimal digits of a number.

@@ -6,12 +6,12 @@ use Rattle.runner_lines.proofs.Texts.{refusal_made}
 use Rattle.runner_lines.proofs.put_refusal.Goals as goal
 
 pub put_field-end-requires : goal.put_field-end-requires
-put_field-end-requires c = omega (arith, number_short c.args.r _ c.number_of.ensures, kept_length _ _ _ _ c.put_text-number.ensures.out_after)
+put_field-end-requires c = omega (arith, number_short c.args.r _ c.from.ensures, kept_length _ _ _ _ c.put_text-number.ensures.out_after)
 
 pub put_byte-requires : goal.put_byte-requires
-put_byte-requires c = omega (arith, number_short c.args.r _ c.number_of.ensures, kept_length _ _ _ _ c.put_text-number.ensures.out_after, kept_length _ _ _ _ c.put_field-end.ensures.out_after)
+put_byte-requires c = omega (arith, number_short c.args.r _ c.from.ensures, kept_length _ _ _ _ c.put_text-number.ensures.out_after, kept_length _ _ _ _ c.put_field-end.ensures.out_after)
 
 pub returns : goal.returns
 returns c =
-    let m = refusal_made _ _ _ _ _ _ _ _ _ c.put_text-number.ensures.out_after c.put_text-number.ensures.value c.put_field-end.ensures.out_after c.put_field-end.ensures.value c.put_byte.ensures.out_after c.put_byte.ensures.value c.args.r c.number_of.ensures in
-    record { value = m.0; upper_bound = omega (arith, number_short c.args.r _ c.number_of.ensures); out_after = m.1 }
+    let m = refusal_made _ _ _ _ _ _ _ _ _ c.put_text-number.ensures.out_after c.put_text-number.ensures.value c.put_field-end.ensures.out_after c.put_field-end.ensures.value c.put_byte.ensures.out_after c.put_byte.ensures.value c.args.r c.from.ensures in
+    record { value = m.0; upper_bound = omega (arith, number_short c.args.r _ c.from.ensures); out_after = m.1 }
