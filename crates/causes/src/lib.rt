@@ -1,4 +1,4 @@
-// Why a plan is refused, and why an event is malformed, where one number stands for several causes.
+// Why a plan is refused, and why an event is malformed, where one number stands for several causes; and the words for each.
 #![tactic(auto)]
 
 ghost use Rattle.std.specs.Prelude.{◌≤◌};
@@ -9,6 +9,8 @@ use paper::{
     PLAN_CI_AT, PLAN_CM_AT, PLAN_CO_AT, PLAN_SLICE_AT, PLAN_TASKS_AT, TICK, Task,
 };
 use plans::{length_of, program_of};
+use std::fmt;
+use std::fmt::{Display, Formatter};
 
 // Why a plan is refused; a task is told by its number.
 #[derive(Clone, Copy)]
@@ -39,11 +41,39 @@ pub enum EventCause {
     DoneCharacter,
 }
 
-// What is wrong with a part of a plan: the cause, or that it is right.
-#[derive(Clone, Copy)]
-enum Wrong {
-    Is(PlanCause),
-    Nothing,
+impl Display for PlanCause {
+    fn fmt<W: fmt::Write>(&self, f: &mut Formatter<W>) -> fmt::Result {
+        match *self {
+            PlanCause::OddBytes => f.write_str("an odd count of bytes"),
+            PlanCause::FewWords => f.write_str("under 5 words"),
+            PlanCause::Tasks => f.write_str("the number of tasks is not 1..16"),
+            PlanCause::Slice => f.write_str("the slice is not 1..65535"),
+            PlanCause::Inputs => f.write_str("CI is not 1..32"),
+            PlanCause::Outputs => f.write_str("CO is not 1..32"),
+            PlanCause::Messages => f.write_str("CM is not 1..32"),
+            PlanCause::FewPairs => f.write_str("a pair is missing"),
+            PlanCause::EmptySegment(k) => write!(f, "task {k} has a segment of no words"),
+            PlanCause::LongProgram(k) => {
+                write!(f, "task {k} has a program that is longer than its segment")
+            }
+            PlanCause::FewPrograms => f.write_str("words of a program are missing"),
+            PlanCause::WordsLeft => f.write_str("words are left over after the programs"),
+            PlanCause::TooManyWords => f.write_str("the image has more than 32768 words"),
+        }
+    }
+}
+
+impl Display for EventCause {
+    fn fmt<W: fmt::Write>(&self, f: &mut Formatter<W>) -> fmt::Result {
+        f.write_str(match self {
+            EventCause::Short => "the file ends within the event",
+            EventCause::Kind => "a kind over 2",
+            EventCause::NoBareTick => "a tick with a device or a character",
+            EventCause::Device => "no such device",
+            EventCause::Character => "a character over 255",
+            EventCause::DoneCharacter => "output done with a character",
+        })
+    }
 }
 
 // Whether a word is no capacity.
@@ -52,46 +82,45 @@ fn is_no_capacity(n: u16) -> bool {
 }
 
 // Which of the slice and the capacities of a plan is out of range.
-fn range_cause(plan: &[u16]) -> Wrong {
+fn range_cause(plan: &[u16]) -> Option<PlanCause> {
     if word_or_zero(plan, PLAN_SLICE_AT) < 1 {
-        return Wrong::Is(PlanCause::Slice);
+        return Some(PlanCause::Slice);
     }
     if is_no_capacity(word_or_zero(plan, PLAN_CI_AT)) {
-        return Wrong::Is(PlanCause::Inputs);
+        return Some(PlanCause::Inputs);
     }
     if is_no_capacity(word_or_zero(plan, PLAN_CO_AT)) {
-        return Wrong::Is(PlanCause::Outputs);
+        return Some(PlanCause::Outputs);
     }
     if is_no_capacity(word_or_zero(plan, PLAN_CM_AT)) {
-        return Wrong::Is(PlanCause::Messages);
+        return Some(PlanCause::Messages);
     }
-    Wrong::Nothing
+    None
 }
 
 // What is wrong with a pair.
-fn pair_cause(length: u16, program: u16, k: usize) -> Wrong {
+fn pair_cause(length: u16, program: u16, k: usize) -> Option<PlanCause> {
     if length < 1 {
-        return Wrong::Is(PlanCause::EmptySegment(k));
+        return Some(PlanCause::EmptySegment(k));
     }
     if length < program {
-        return Wrong::Is(PlanCause::LongProgram(k));
+        return Some(PlanCause::LongProgram(k));
     }
-    Wrong::Nothing
+    None
 }
 
 // Which of the pairs of a plan of n tasks is wrong.
-fn pairs_cause(plan: &[u16], n: usize) -> Wrong
+fn pairs_cause(plan: &[u16], n: usize) -> Option<PlanCause>
     requires { n ≤ 16 }
 {
-    let mut k: usize = 0;
-    while k < n {
+    for k in 0..n {
         let i = Task(k as u16);
-        if let Wrong::Is(cause) = pair_cause(length_of(plan, i), program_of(plan, i), k) {
-            return Wrong::Is(cause);
+        let cause = pair_cause(length_of(plan, i), program_of(plan, i), k);
+        if cause.is_some() {
+            return cause;
         }
-        k += 1;
     }
-    Wrong::Nothing
+    None
 }
 
 // How many words the programs of n tasks have by their pairs.
@@ -99,10 +128,8 @@ fn program_words(plan: &[u16], n: usize) -> usize
     requires { n ≤ 16 }
 {
     let mut words: usize = 0;
-    let mut k: usize = 0;
-    while k < n {
+    for k in 0..n {
         words += program_of(plan, Task(k as u16)) as usize;
-        k += 1;
     }
     words
 }
@@ -129,7 +156,7 @@ fn parts_cause(plan: &[u16], n: usize) -> PlanCause
     if plan.len() < programs {
         return PlanCause::FewPairs;
     }
-    if let Wrong::Is(cause) = pairs_cause(plan, n) {
+    if let Some(cause) = pairs_cause(plan, n) {
         return cause;
     }
     programs_cause(plan.len() - programs, program_words(plan, n))
@@ -141,13 +168,10 @@ pub fn plan_cause(plan: &[u16]) -> PlanCause {
         return PlanCause::FewWords;
     }
     let n = header_word(plan, PLAN_TASKS_AT);
-    if n < 1 {
+    if n < 1 || MOST_TASKS < n {
         return PlanCause::Tasks;
     }
-    if MOST_TASKS < n {
-        return PlanCause::Tasks;
-    }
-    if let Wrong::Is(cause) = range_cause(plan) {
+    if let Some(cause) = range_cause(plan) {
         return cause;
     }
     parts_cause(plan, n)
