@@ -5,7 +5,10 @@ ghost use Rattle.std.specs.Prelude.{◌≡◌, ◌≤◌, length};
 
 use kernel::{build, event, size};
 use numbers::task_of;
-use paper::{LEADING_WORDS, MOST_TASKS, MOST_WORDS, PAIR_WORDS, PLAN_CI_AT, PLAN_CM_AT, PLAN_CO_AT, PLAN_SLICE_AT, PLAN_TASKS_AT, TICK};
+use paper::{
+    LEADING_WORDS, MOST_TASKS, MOST_WORDS, PAIR_WORDS, PLAN_CI_AT, PLAN_CM_AT, PLAN_CO_AT,
+    PLAN_SLICE_AT, PLAN_TASKS_AT, TICK,
+};
 use std::io;
 
 // The most others that can be ahead.

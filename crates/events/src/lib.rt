@@ -15,7 +15,10 @@ ghost use Rattle.laws.specs.Events.{Formed};
 ghost use Rattle.words.specs.Spots.{Rowed};
 
 use connectives::both;
-use paper::{Answer, Event, IDLE, INPUT, MOST_CHARACTER, OUTPUT_DONE, PENDING, Queue, Refusal, STOPPED, Shape, TICK, Task, WAITS_FOR_INPUT, WAITS_FOR_OUTPUT};
+use paper::{
+    Answer, Event, IDLE, INPUT, MOST_CHARACTER, OUTPUT_DONE, PENDING, Queue, Refusal, STOPPED,
+    Shape, TICK, Task, WAITS_FOR_INPUT, WAITS_FOR_OUTPUT,
+};
 use services::{print, service};
 use waking::{leave, wake};
 use words::{Row, Spot, append, empty, full, get, put, take};

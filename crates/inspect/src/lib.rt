@@ -14,7 +14,10 @@ ghost use Rattle.queue_rules.specs.ReadyCounts.{AllFound};
 use connectives::{both, implies};
 use headers::{header_word, not_packed, out_of_range, shape_of, wrong_segments};
 use numbers::number_of_verdict;
-use paper::{CLOCK_AT, Cell, EDITION, EDITION_AT, HEADER_WORDS, MARK, MARK_AT, MOST_TASKS, Part, Queue, Refusal, Shape, Task};
+use paper::{
+    CLOCK_AT, Cell, EDITION, EDITION_AT, HEADER_WORDS, MARK, MARK_AT, MOST_TASKS, Part, Queue,
+    Refusal, Shape, Task,
+};
 use places::word_of;
 use queue_rules::{buffers_hold, count_ready, ready_holds};
 use task_rules::{flags_hold, is_empty, port_holds, readied_once, status_holds};

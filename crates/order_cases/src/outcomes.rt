@@ -4,7 +4,10 @@ ghost use Rattle.order_table.specs.Entries.{OrderTable};
 
 use happening::step;
 use inspect::inspect;
-use paper::{Answer, CLOCK_AT, ERROR, ERROR_END, FLAGS, HIGH_BYTES, LEAD_WORDS, NOTHING_PENDING, NO_ERROR, PENDING, READY_QUEUE_AT, Refusal, TASK_TABLE_AT, TASK_WORDS, TICK};
+use paper::{
+    Answer, CLOCK_AT, ERROR, ERROR_END, FLAGS, HIGH_BYTES, LEAD_WORDS, NO_ERROR, NOTHING_PENDING,
+    PENDING, READY_QUEUE_AT, Refusal, TASK_TABLE_AT, TASK_WORDS, TICK,
+};
 
 // A clock by which a tick is an order.
 const SOME_TIME: u16 = 1;

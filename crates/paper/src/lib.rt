@@ -451,4 +451,3 @@ pub enum Change {
     // R1 and R0 become words
     Return(u16, u16),
 }
-

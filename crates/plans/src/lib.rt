@@ -12,7 +12,10 @@ ghost use Rattle.plans.specs.Sizes.{most_planned, Summed, SizesOf, Packed};
 
 use connectives::{both, either};
 use headers::{header_word, offsets, out_of_range, word_or_zero};
-use paper::{LEADING_WORDS, MOST_WORDS, OFFSETS, PAIR_WORDS, PLAN_CI_AT, PLAN_CM_AT, PLAN_CO_AT, PLAN_SLICE_AT, PLAN_TASKS_AT, Place, Refusal, SEGMENTS, Shape, Task};
+use paper::{
+    LEADING_WORDS, MOST_WORDS, OFFSETS, PAIR_WORDS, PLAN_CI_AT, PLAN_CM_AT, PLAN_CO_AT,
+    PLAN_SLICE_AT, PLAN_TASKS_AT, Place, Refusal, SEGMENTS, Shape, Task,
+};
 
 // What the pairs of a plan add up to: whether each is right, the words of all segments, and where the last program ends.
 #[derive(Clone, Copy)]

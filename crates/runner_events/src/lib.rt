@@ -26,7 +26,13 @@ pub struct Fed {
 }
 
 // Carries out the event whose bytes start at a place.
-fn step_at(s: Shape, im: &mut [u16], table: &[u16; HIGH_BYTES], bytes: &[u8], at: usize) -> Result<Answer, Refusal>
+fn step_at(
+    s: Shape,
+    im: &mut [u16],
+    table: &[u16; HIGH_BYTES],
+    bytes: &[u8],
+    at: usize,
+) -> Result<Answer, Refusal>
     requires lawful { Lawful s im.old }
     requires order_table { OrderTable table.now }
     requires event_bytes_in_bounds { at + event_bytes ≤ length bytes.now }

@@ -7,7 +7,6 @@ use disk::{
     short_arg, standard_output, tell,
 };
 use inspect::inspect;
-
 use saying::say_refused_image;
 
 // How many arguments there are, the program's own name among them, and where the image's stands.

@@ -9,7 +9,9 @@ ghost use Rattle.views.specs.Promises.{LooksAtTask, LooksAtPort, LooksAtRegister
 
 use connectives::both;
 use inspect::inspect;
-use paper::{CAPACITY, ERROR, FLAGS, HEAD, LEAD_WORDS, PENDING, Queue, REGISTERS, Refusal, Shape, Task};
+use paper::{
+    CAPACITY, ERROR, FLAGS, HEAD, LEAD_WORDS, PENDING, Queue, REGISTERS, Refusal, Shape, Task,
+};
 use places::wide;
 use queue_rules::queue_word as word_of_queue;
 use results::error_of;
