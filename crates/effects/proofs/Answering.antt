@@ -1,5 +1,5 @@
 -- What the functions that carry out orders ask and answer, as laws over values. Assumes nothing.
-use Rattle.std.specs.Prelude.{Err, Ok, Result, ℕ}
+use Rattle.std.specs.Prelude.{Err, Ok, Result, ℕ, Option, Some, None}
 use mathlib.Core.Path.{◌≡◌, refl, ap, ◌∙◌}
 use mathlib.Core.List.{List}
 use mathlib.Core.Bool.{cond}
@@ -19,7 +19,6 @@ use Rattle.effects.specs.Holding.{past_end, place_is, within, register_held, ins
 use Rattle.effects.specs.Carrying.{set_went, store_went, call_went}
 use Rattle.effects.specs.declared.Aim.{Aim}
 use Rattle.effects.specs.declared.PartPlace.{PartPlace}
-use Rattle.effects.specs.declared.Reach.{Reach}
 use Rattle.effects.specs.declared.Segment.{Segment}
 use Rattle.effects.specs.declared.Went.{Went}
 
@@ -75,9 +74,9 @@ pub set_next : (g : Segment) (p : List ℕ) (at next : Aim) (a v : ℕ) (r : Wen
 set_next g p at next a v r out hand inside h ed en er eo = set_went g p at hand 1 next inside en (omega arith) a v r out h ed er eo
 
 -- what address y reaches
-module _ (g : Segment) (p : List ℕ) (at x : Aim) (y : ℕ) (r : Reach) (hand : InHand g p at) (ex : x.0 ≡ g.from + y) (er : r ≡ reach_of g x) where
+module _ (g : Segment) (p : List ℕ) (at x : Aim) (y : ℕ) (r : Option PartPlace) (hand : InHand g p at) (ex : x.0 ≡ g.from + y) (er : r ≡ reach_of g x) where
   -- none
-  module _ (out : r ≡ Reach.Outside) where
+  module _ (out : r ≡ None) where
     pub fetch_outside : (f : ℕ → Result (ℕ × Change) ℕ) → decided (machine_of g p at) ≡ reading (found (machine_of g p at) y) f → decided (machine_of g p at) ≡ Err outside
     fetch_outside f e = rw (outside_held g p at y x.0 ex (past_end g x r er out)) at e
 
@@ -85,7 +84,7 @@ module _ (g : Segment) (p : List ℕ) (at x : Aim) (y : ℕ) (r : Reach) (hand :
     store_outside e ed = rw (past_held g p at y x.0 ex (past_end g x r er out)) at ed
 
   -- a word
-  module _ (k : PartPlace) (ek : r ≡ Reach.At k) where
+  module _ (k : PartPlace) (ek : r ≡ Some k) where
     pub fetch_next : (next : Aim) (a v : ℕ) (z : Went) (out : List ℕ) → at.0 < g.to → a < 8
         → decided (machine_of g p at) ≡ reading (found (machine_of g p at) y) (sets (address_of g at + 1) a) → v ≡ get_or p k.0 0 → next.0 ≡ at.0 + 1
         → z ≡ cond (eqb a 0) Went.Off (Went.On next) → out ≡ set p a v → Worked g p at a z out
@@ -122,12 +121,12 @@ module _ (g : Segment) (p : List ℕ) (at : Aim) (v top n : ℕ) (hand : InHand 
   call_storing : decided (machine_of g p at) ≡ calls (machine_of g p at) (address_of g at + 2) top n
   call_storing = rw (register_held g p at 1 (omega arith) (omega arith), ← ev, ← etop) at ed
 
-  module _ (x : Aim) (r : Reach) (ex : x.0 ≡ g.from + top) (er : r ≡ reach_of g x) where
-    pub call_outside : r ≡ Reach.Outside → decided (machine_of g p at) ≡ Err outside
+  module _ (x : Aim) (r : Option PartPlace) (ex : x.0 ≡ g.from + top) (er : r ≡ reach_of g x) where
+    pub call_outside : r ≡ None → decided (machine_of g p at) ≡ Err outside
     call_outside out =
         store_outside g p at x top r hand ex er out (Ok (address_of g at + 2, Change.Call (address top) n)) call_storing
 
-    pub call_next : (k : PartPlace) (next y : Aim) (w : ℕ) (out : List ℕ) → r ≡ Reach.At k → next.0 ≡ at.0 + 2 → w ≡ address_of g next
+    pub call_next : (k : PartPlace) (next y : Aim) (w : ℕ) (out : List ℕ) → r ≡ Some k → next.0 ≡ at.0 + 2 → w ≡ address_of g next
         → out ≡ set (set p k.0 w) 1 top → y.0 ≡ g.from + n → n < 65536 → Done g p at (Went.On y) out
     call_next k next y w out ek en ew eo ey low =
         let past : w ≡ address_of g at + 2 = omega (arith, ew, en, is_from g p at hand) in

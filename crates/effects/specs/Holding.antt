@@ -1,5 +1,5 @@
 -- The machine in a lent part, R0 of it in hand: what its words are, and what is reached. Assumes nothing.
-use Rattle.std.specs.Prelude.{◌≡◌, refl, List, Bool, true, false, ℕ, ◌+◌, ◌-◌, ◌*◌, ◌<◌, ◌≤◌, ltb, length, None, Some}
+use Rattle.std.specs.Prelude.{◌≡◌, refl, List, Bool, true, false, ℕ, ◌+◌, ◌-◌, ◌*◌, ◌<◌, ◌≤◌, ltb, length, None, Some, Option}
 use Rattle.std.proofs.Common.{sym, ◌∙◌, arith, lt-ltb, le-ltb, ltb-true, ltb-false}
 use Rattle.std.proofs.Math.Path.{ap}
 use Rattle.std.proofs.Math.ListN.{get_or}
@@ -10,22 +10,21 @@ use Rattle.effects.specs.Parts.{Lent, lies_of, reach_of, address_of, stood_at, m
 use Rattle.effects.specs.Worked.{InHand}
 use Rattle.effects.specs.declared.Aim.{Aim}
 use Rattle.effects.specs.declared.PartPlace.{PartPlace}
-use Rattle.effects.specs.declared.Reach.{Reach}
 use Rattle.effects.specs.declared.Segment.{Segment}
 
 -- where an address leads tells what is reached
 module _ (g : Segment) (x : Aim) where
-  pub reach_at : x.0 < g.to → Reach.At (record { 0 = x.0 }) ≡ reach_of g x
+  pub reach_at : x.0 < g.to → Some (record { 0 = x.0 }) ≡ reach_of g x
   reach_at h = rw (lt-ltb x.0 g.to h)
 
-  pub reach_past : g.to ≤ x.0 → Reach.Outside ≡ reach_of g x
+  pub reach_past : g.to ≤ x.0 → None ≡ reach_of g x
   reach_past h = rw (le-ltb x.0 g.to h)
 
 -- and the other way round
-module _ (g : Segment) (x : Aim) (r : Reach) (er : r ≡ reach_of g x) where
-  told : (b : Bool) → ltb x.0 g.to ≡ b → (r ≡ Reach.Outside → g.to ≤ x.0) × ((k : PartPlace) → r ≡ Reach.At k → (k.0 ≡ x.0) × (x.0 < g.to))
+module _ (g : Segment) (x : Aim) (r : Option PartPlace) (er : r ≡ reach_of g x) where
+  told : (b : Bool) → ltb x.0 g.to ≡ b → (r ≡ None → g.to ≤ x.0) × ((k : PartPlace) → r ≡ Some k → (k.0 ≡ x.0) × (x.0 < g.to))
   told true e =
-      let is : r ≡ Reach.At (record { 0 = x.0 }) = rw e at er in (
+      let is : r ≡ Some (record { 0 = x.0 }) = rw e at er in (
         λ o.
             let z : ◌≡◌ {A = ℕ} 0 1 = cc in
             absurd (omega arith),
@@ -34,17 +33,17 @@ module _ (g : Segment) (x : Aim) (r : Reach) (er : r ≡ reach_of g x) where
             (ap (λ (j : PartPlace). j.0) same, ltb-true x.0 g.to e),
       )
   told false e =
-      let is : r ≡ Reach.Outside = rw e at er in (
+      let is : r ≡ None = rw e at er in (
         λ o. ltb-false x.0 g.to e,
         λ k q.
             let z : ◌≡◌ {A = ℕ} 0 1 = cc in
             absurd (omega arith),
       )
 
-  pub past_end : r ≡ Reach.Outside → g.to ≤ x.0
+  pub past_end : r ≡ None → g.to ≤ x.0
   past_end e = (told (ltb x.0 g.to) refl).0 e
 
-  module _ (k : PartPlace) (ek : r ≡ Reach.At k) where
+  module _ (k : PartPlace) (ek : r ≡ Some k) where
     pub place_is : k.0 ≡ x.0
     place_is = ((told (ltb x.0 g.to) refl).1 k ek).0
 
@@ -147,7 +146,7 @@ module _ (g : Segment) (p : List ℕ) (at : Aim) (hand : InHand g p at) where
   segment_in k h = omega (arith, is_lent)
 
 -- a word of the segment is a word of the part
-module _ (g : Segment) (p : List ℕ) (at x : Aim) (r : Reach) (k : PartPlace) (hand : InHand g p at) (er : r ≡ reach_of g x) (ek : r ≡ Reach.At k) where
+module _ (g : Segment) (p : List ℕ) (at x : Aim) (r : Option PartPlace) (k : PartPlace) (hand : InHand g p at) (er : r ≡ reach_of g x) (ek : r ≡ Some k) where
   pub read_in : k.0 < length p
   read_in = segment_in g p at hand k.0 (omega (arith, place_is g x r er k ek, within g x r er k ek))
 

@@ -1,9 +1,9 @@
 -- The part that is lent: where the machine's words lie in it, R0 in hand, and the part after an order.
-use Rattle.std.specs.Prelude.{cond, List, ℕ, ◌-◌, ◌<◌, ◌≤◌, ltb, length, set}
+use Rattle.std.specs.Prelude.{cond, List, ℕ, ◌-◌, ◌<◌, ◌≤◌, ltb, length, set, Option, Some, None}
 use Rattle.paper.specs.Machines.{Machine, Lies, machine, put_back}
 use Rattle.paper.specs.Orders.{decided, after}
 use Rattle.effects.specs.declared.Aim.{Aim}
-use Rattle.effects.specs.declared.Reach.{Reach}
+use Rattle.effects.specs.declared.PartPlace.{PartPlace}
 use Rattle.effects.specs.declared.Segment.{Segment}
 
 -- the row comes first, the segment lies further on
@@ -15,8 +15,8 @@ unfoldable pub Lent : Segment → List ℕ → Type 0
 Lent g p = (9 ≤ g.from) × (g.from < g.to) × (g.to ≤ length p) × (g.to ≤ 32768)
 
 -- what is reached where an address leads
-abbrev pub reach_of : Segment → Aim → Reach
-reach_of g x = cond (ltb x.0 g.to) (Reach.At (record { 0 = x.0 })) Reach.Outside
+abbrev pub reach_of : Segment → Aim → Option PartPlace
+reach_of g x = cond (ltb x.0 g.to) (Some (record { 0 = x.0 })) None
 
 -- the address that leads there
 abbrev pub address_of : Segment → Aim → ℕ

@@ -36,14 +36,8 @@ pub struct Segment {
     pub to: usize,
 }
 
-// What is reached: a word of the segment, at its place, or none.
-#[derive(Clone, Copy)]
-pub enum Reach {
-    At(PartPlace),
-    Outside,
-}
-
 // What became of an order: R0 is in hand, and another may follow; or the row of orders ends, and R0 stands in the part; or it names R0 and is left.
+// No case is a refusal or a lack, so this is no Result and no Option.
 #[derive(Clone, Copy)]
 pub enum Went {
     On(Aim),
@@ -67,15 +61,14 @@ pub fn onward(x: Aim, words: usize) -> Aim
     Aim(x.0 + words)
 }
 
-// What an address reaches, by where it leads and the segment's length: places are made here alone.
-pub fn reached(g: Segment, x: Aim) -> Reach
+// What an address reaches, by where it leads and the segment's length: a word of the segment, at its place, or none. Places are made here alone.
+pub fn reached(g: Segment, x: Aim) -> Option<PartPlace>
     ensures { result ≡ reach_of g x }
 {
-    let k = x.0;
-    if k < g.to {
-        return Reach::At(PartPlace(k));
+    if x.0 < g.to {
+        return Some(PartPlace(x.0));
     }
-    Reach::Outside
+    None
 }
 
 // The address that leads there.
@@ -128,10 +121,9 @@ fn fetches(p: &mut [u16], g: Segment, at: Aim, a: usize, y: u16) -> Went
     requires at_value { decided (machine_of g p.old at) ≡ reading (found (machine_of g p.old at) y) (sets (address_of g at + 1) a) }
     ensures { Worked g p.old at a result p.new }
 {
-    let Reach::At(x) = reached(g, aimed(g, Address(y))) else {
+    let Some(PartPlace(k)) = reached(g, aimed(g, Address(y))) else {
         return fault(p, g, at, OUTSIDE);
     };
-    let k = x.0;
     let v = p[k];
     set(p, onward(at, 1), a, v)
 }
@@ -143,10 +135,9 @@ fn stores(p: &mut [u16], g: Segment, at: Aim, v: u16, y: u16) -> Went
     requires at_value { decided (machine_of g p.old at) ≡ storing (machine_of g p.old at) y (Ok (address_of g at + 1, Change.Store (address_at y) v)) }
     ensures { Done g p.old at result p.new }
 {
-    let Reach::At(x) = reached(g, aimed(g, Address(y))) else {
+    let Some(PartPlace(k)) = reached(g, aimed(g, Address(y))) else {
         return fault(p, g, at, OUTSIDE);
     };
-    let k = x.0;
     p[k] = v;
     Went::On(onward(at, 1))
 }
@@ -220,10 +211,9 @@ pub fn calls_to(p: &mut [u16], g: Segment, at: Aim, n: u16) -> Went
     ensures { Done g p.old at result p.new }
 {
     let top = sum(p[STACK], LAST_WORD);
-    let Reach::At(x) = reached(g, aimed(g, Address(top))) else {
+    let Some(PartPlace(k)) = reached(g, aimed(g, Address(top))) else {
         return fault(p, g, at, OUTSIDE);
     };
-    let k = x.0;
     p[k] = address(g, onward(at, 2));
     p[STACK] = top;
     Went::On(aimed(g, Address(n)))

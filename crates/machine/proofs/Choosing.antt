@@ -1,5 +1,5 @@
 -- What the functions that decide ask and answer, as laws over values. Assumes nothing.
-use Rattle.std.specs.Prelude.{Option, ℕ}
+use Rattle.std.specs.Prelude.{Option, ℕ, Some}
 use mathlib.Core.Path.{◌≡◌, refl, sym, ap, ◌∙◌}
 use mathlib.Core.List.{List}
 use mathlib.Core.Bool.{Bool, true, false, cond, not, ◌&&◌, ◌||◌, and-eq-true_iff, or-true, or-false}
@@ -22,7 +22,6 @@ use Rattle.machine.proofs.Deciding.{is_inside, shape_read, shape_at, load_shape,
 use Rattle.effects.specs.Carrying.{set_went, jump_went, return_went, ask_went}
 use Rattle.effects.specs.declared.Aim.{Aim}
 use Rattle.effects.specs.declared.PartPlace.{PartPlace}
-use Rattle.effects.specs.declared.Reach.{Reach}
 use Rattle.effects.specs.declared.Segment.{Segment}
 use Rattle.effects.specs.declared.Went.{Went}
 use Rattle.paper.specs.declared.Field.{Field}
@@ -109,11 +108,9 @@ module _ (g : Segment) (p : List ℕ) (at : Aim) (hand : InHand g p at) where
       unfolding After
       left_as n = (refl, fetched, sh, named_ends w word_of (names_read true (two_names ∙ n)))
 
-      pub a_left : a ≡ 0 → After g p at (Went.Left w) p
-      a_left z = left_as (rw (eq-eqb a 0 z))
-
-      pub b_left : b ≡ 0 → After g p at (Went.Left w) p
-      b_left z = left_as (rw (eq-eqb b 0 z) (or-true (eqb a 0)))
+      pub r0_left : (a ≡ 0) ⊎ (a ≢ 0 × b ≡ 0) → After g p at (Went.Left w) p
+      r0_left (inl z) = left_as (rw (eq-eqb a 0 z))
+      r0_left (inr z) = left_as (rw (eq-eqb b 0 z.1) (or-true (eqb a 0)))
 
 -- the registers that the fields name
 module _ (g : Segment) (p : List ℕ) (at : Aim) (w : ℕ) (hand : InHand g p at) where
@@ -128,8 +125,8 @@ a_register a w e = omega arith
 
 -- what became of an order
 module _ (g : Segment) (p : List ℕ) (at : Aim) (w : ℕ) (hand : InHand g p at) (fetched : Fetched g p at w) where
-  pub load_next : kind_of w ≡ kind_of_order Op.Load → (a n : ℕ) (x next : Aim) (r : Reach) (k : PartPlace) (z : Went) (out : List ℕ) → a ≡ w / 16 % 8
-      → x.0 ≡ at.0 + 1 → r ≡ reach_of g x → r ≡ Reach.At k → n ≡ get_or p k.0 0 → next.0 ≡ at.0 + 2 → z ≡ cond (eqb a 0) Went.Off (Went.On next) → out ≡ set p a n
+  pub load_next : kind_of w ≡ kind_of_order Op.Load → (a n : ℕ) (x next : Aim) (r : Option PartPlace) (k : PartPlace) (z : Went) (out : List ℕ) → a ≡ w / 16 % 8
+      → x.0 ≡ at.0 + 1 → r ≡ reach_of g x → r ≡ Some k → n ≡ get_or p k.0 0 → next.0 ≡ at.0 + 2 → z ≡ cond (eqb a 0) Went.Off (Went.On next) → out ≡ set p a n
       → After g p at z out
   load_next e a n x next r k z out ea ex er ek en enext ez eo =
       load_after g p at hand w fetched e a ea next z out ez
@@ -138,15 +135,15 @@ module _ (g : Segment) (p : List ℕ) (at : Aim) (w : ℕ) (hand : InHand g p at
   pub call_after : kind_of w ≡ kind_of_order Op.Call → (r : Went) (out : List ℕ) → Done g p at r out → After g p at r out
   call_after e r out h = done_after g p at hand w fetched (rw (call_shape g p at w hand fetched e)) r out h
 
-  pub return_next : kind_of w ≡ kind_of_order Op.Return → (v n top : ℕ) (x y : Aim) (r : Reach) (k : PartPlace) (out : List ℕ) → v ≡ get_or p 1 0 → x.0 ≡ g.from + v
-      → r ≡ reach_of g x → r ≡ Reach.At k → n ≡ get_or p k.0 0 → top ≡ mod_word (v + 1) → out ≡ set p 1 top → y.0 ≡ g.from + n → n < 65536
+  pub return_next : kind_of w ≡ kind_of_order Op.Return → (v n top : ℕ) (x y : Aim) (r : Option PartPlace) (k : PartPlace) (out : List ℕ) → v ≡ get_or p 1 0 → x.0 ≡ g.from + v
+      → r ≡ reach_of g x → r ≡ Some k → n ≡ get_or p k.0 0 → top ≡ mod_word (v + 1) → out ≡ set p 1 top → y.0 ≡ g.from + n → n < 65536
       → After g p at (Went.On y) out
   return_next e v n top x y r k out ev ex er ek en etop eo ey low =
       done_after g p at hand w fetched (rw (return_shape g p at w hand fetched e)) (Went.On y) out
       (return_went g p at hand _ top n y out (return_acts g p at w hand fetched e v ev x ex r er k n top ek en etop) eo ey low)
 
-  module _ (ek : kind_of w ≡ kind_of_order Op.Jump) (low : a_of w ≤ 2) (x : Aim) (r : Reach) (ex : x.0 ≡ at.0 + 1) (er : r ≡ reach_of g x)
-      (k : PartPlace) (ea : r ≡ Reach.At k) (b : Bool) (eb : b ≡ (eqb (op_of w) 14 || eqb (get_or p 8 0) (a_of w))) where
+  module _ (ek : kind_of w ≡ kind_of_order Op.Jump) (low : a_of w ≤ 2) (x : Aim) (r : Option PartPlace) (ex : x.0 ≡ at.0 + 1) (er : r ≡ reach_of g x)
+      (k : PartPlace) (ea : r ≡ Some k) (b : Bool) (eb : b ≡ (eqb (op_of w) 14 || eqb (get_or p 8 0) (a_of w))) where
     no_names : names_next (decoded (entry_of w)) w ≡ false
     no_names = either_jump g p at w hand fetched ek (λ e. rw (shape_at g p at w hand fetched 14 e)) (λ e. rw (shape_at g p at w hand fetched 15 e))
 
@@ -203,13 +200,14 @@ module _ (g : Segment) (p : List ℕ) (at : Aim) (hand : InHand g p at) (next : 
     unfolding Worked Done
     moved_on y out e eo = carried_anew out (rw eo (rw e at h).0)
 
-    pub moved_off : r ≡ Went.Off → Carried g p at l
+    pub moved_off : ((y : Aim) → r ≡ Went.On y → ⊥) → Carried g p at l
     unfolding Worked
-    moved_off e = carried_anew l (rw e at h).0
-
-    pub never_left : (w : ℕ) → r ≡ Went.Left w → Carried g p at l
-    unfolding Worked
-    never_left w e = absurd (rw e at h)
+    moved_off none = go r h none
+      where
+        go : (z : Went) → Worked g m at a z l → ((y : Aim) → z ≡ Went.On y → ⊥) → Carried g p at l
+        go (Went.On y) h none = absurd (none y refl)
+        go Went.Off h none = carried_anew l h.0
+        go (Went.Left w) h none = absurd h
 
     -- where another follows, R0 is in hand
     pub on_hand : (y : Aim) → r ≡ Went.On y → InHand g l y

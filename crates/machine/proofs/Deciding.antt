@@ -1,5 +1,5 @@
 -- What an order of the machine in a lent part is decided to do, from its first word. Assumes nothing.
-use Rattle.std.specs.Prelude.{Err, Ok, Option, Result, Some, ℕ}
+use Rattle.std.specs.Prelude.{Err, Ok, Option, Result, Some, ℕ, None}
 use mathlib.Core.Path.{◌≡◌, refl, sym, ap, ◌∙◌}
 use mathlib.Core.List.{List}
 use mathlib.Core.Bool.{Bool, true, false, cond, not, ◌&&◌, ◌||◌, true≢false}
@@ -25,7 +25,6 @@ use Rattle.machine.specs.After.{Fetched}
 use Rattle.effects.specs.Holding.{past_end, place_is, within, next_held, register_held, flags_held, operand_next, operand_held, word_held, outside_held, is_lent, is_quiet, is_from, is_some}
 use Rattle.effects.specs.declared.Aim.{Aim}
 use Rattle.effects.specs.declared.PartPlace.{PartPlace}
-use Rattle.effects.specs.declared.Reach.{Reach}
 use Rattle.effects.specs.declared.Segment.{Segment}
 
 -- the first word's address before all
@@ -36,14 +35,14 @@ module _ (g : Segment) (p : List ℕ) (at : Aim) (hand : InHand g p at) where
   next_is : next_order (machine_of g p at) ≡ address_of g at
   next_is = next_held g p at (is_lent g p at hand)
 
-  pub first_outside : (r : Reach) → r ≡ reach_of g at → r ≡ Reach.Outside → decided (machine_of g p at) ≡ Err outside
+  pub first_outside : (r : Option PartPlace) → r ≡ reach_of g at → r ≡ None → decided (machine_of g p at) ≡ Err outside
   unfolding decided
   first_outside r er eo =
       let past = outside_held g p at (address_of g at) at.0 own_place (past_end g at r er eo) in
       rw (next_is, past)
 
   -- the first word
-  pub first_word : (r : Reach) (k : PartPlace) (w : ℕ) → r ≡ reach_of g at → r ≡ Reach.At k → w ≡ get_or p k.0 0 → w ≡ get_or p at.0 0
+  pub first_word : (r : Option PartPlace) (k : PartPlace) (w : ℕ) → r ≡ reach_of g at → r ≡ Some k → w ≡ get_or p k.0 0 → w ≡ get_or p at.0 0
   first_word r k w er ek ew = rw (← place_is g at r er k ek) ew
 
   decided_is : (w : ℕ) → at.0 < g.to → w ≡ get_or p at.0 0
@@ -167,15 +166,15 @@ module _ (g : Segment) (p : List ℕ) (at : Aim) (w : ℕ) (hand : InHand g p at
         moved_act v y ev ey = rw moved (fields_act v y (operand_moved a (omega arith) ∙ sym ev) (operand_moved b (omega arith) ∙ sym ey))
 
   -- the second word
-  module _ (x : Aim) (ex : x.0 ≡ at.0 + 1) (r : Reach) (er : r ≡ reach_of g x) where
+  module _ (x : Aim) (ex : x.0 ≡ at.0 + 1) (r : Option PartPlace) (er : r ≡ reach_of g x) where
     second_place : x.0 ≡ g.from + (next_order (machine_of g p at) + 1)
     second_place = omega (arith, next_is g p at hand, is_from g p at hand)
 
     module _ (f : ℕ → Result (ℕ × Change) ℕ) (acts : decided (machine_of g p at) ≡ second (machine_of g p at) f) where
-      second_outside : r ≡ Reach.Outside → decided (machine_of g p at) ≡ Err outside
+      second_outside : r ≡ None → decided (machine_of g p at) ≡ Err outside
       second_outside e = rw (outside_held g p at (next_order (machine_of g p at) + 1) x.0 second_place (past_end g x r er e)) at acts
 
-      second_is : (k : PartPlace) → r ≡ Reach.At k → decided (machine_of g p at) ≡ f (get_or p k.0 0)
+      second_is : (k : PartPlace) → r ≡ Some k → decided (machine_of g p at) ≡ f (get_or p k.0 0)
       second_is k ek =
           rw (place_is g x r er k ek)
           (rw (word_held g p at (next_order (machine_of g p at) + 1) x.0 second_place (is_lent g p at hand) (within g x r er k ek)) at acts)
@@ -194,14 +193,14 @@ module _ (g : Segment) (p : List ℕ) (at : Aim) (w : ℕ) (hand : InHand g p at
     loads_by : decided (machine_of g p at) ≡ second (machine_of g p at) (sets (address_of g at + 2) (a_of w))
     loads_by = known_acts 1 2 Field.Register Field.Unused load_op load_shape (omega arith) load_fields.0 load_fields.1 refl
 
-    pub load_outside : (x : Aim) (r : Reach) → x.0 ≡ at.0 + 1 → r ≡ reach_of g x → r ≡ Reach.Outside → decided (machine_of g p at) ≡ Err outside
+    pub load_outside : (x : Aim) (r : Option PartPlace) → x.0 ≡ at.0 + 1 → r ≡ reach_of g x → r ≡ None → decided (machine_of g p at) ≡ Err outside
     load_outside x r ex er e = second_outside x ex r er _ loads_by e
 
     module _ (a : ℕ) (ea : a ≡ w / 16 % 8) where
       pub loaded : a ≡ a_of w
       loaded = omega (arith, ltb-true (a_of w) 8 load_fields.0)
 
-      pub load_acts : (x : Aim) (r : Reach) (k : PartPlace) (n : ℕ) → x.0 ≡ at.0 + 1 → r ≡ reach_of g x → r ≡ Reach.At k → n ≡ get_or p k.0 0
+      pub load_acts : (x : Aim) (r : Option PartPlace) (k : PartPlace) (n : ℕ) → x.0 ≡ at.0 + 1 → r ≡ reach_of g x → r ≡ Some k → n ≡ get_or p k.0 0
           → decided (machine_of g p at) ≡ sets (address_of g at + 2) a n
       load_acts x r k n ex er ek en = rw (loaded, en) (second_is x ex r er _ loads_by k ek)
 
@@ -220,11 +219,11 @@ module _ (g : Segment) (p : List ℕ) (at : Aim) (w : ℕ) (hand : InHand g p at
     pub call_shape : decoded (entry_of w) ≡ Some (2, Field.Unused, Field.Unused)
     call_shape = shape_at 16 call_op
 
-    module _ (x : Aim) (r : Reach) (ex : x.0 ≡ at.0 + 1) (er : r ≡ reach_of g x) where
-      pub call_outside : r ≡ Reach.Outside → decided (machine_of g p at) ≡ Err outside
+    module _ (x : Aim) (r : Option PartPlace) (ex : x.0 ≡ at.0 + 1) (er : r ≡ reach_of g x) where
+      pub call_outside : r ≡ None → decided (machine_of g p at) ≡ Err outside
       call_outside eo = second_outside x ex r er _ (bare_acts 16 2 call_op call_shape (omega arith)) eo
 
-      pub call_acts : (n : ℕ) (k : PartPlace) → r ≡ Reach.At k → n ≡ get_or p k.0 0
+      pub call_acts : (n : ℕ) (k : PartPlace) → r ≡ Some k → n ≡ get_or p k.0 0
           → decided (machine_of g p at) ≡ calls (machine_of g p at) (address_of g at + 2) (mod_word (stack (machine_of g p at) + 65535)) n
       call_acts n k ek en = rw en (second_is x ex r er _ (bare_acts 16 2 call_op call_shape (omega arith)) k ek)
 
@@ -241,11 +240,11 @@ module _ (g : Segment) (p : List ℕ) (at : Aim) (w : ℕ) (hand : InHand g p at
           let top : stack (machine_of g p at) ≡ v = register_held g p at 1 (omega arith) (omega arith) ∙ sym ev in
           rw top at (bare_acts 17 1 return_op return_shape (omega arith))
 
-      module _ (r : Reach) (er : r ≡ reach_of g x) where
-        pub return_outside : r ≡ Reach.Outside → decided (machine_of g p at) ≡ Err outside
+      module _ (r : Option PartPlace) (er : r ≡ reach_of g x) where
+        pub return_outside : r ≡ None → decided (machine_of g p at) ≡ Err outside
         return_outside eo = rw (outside_held g p at v x.0 ex (past_end g x r er eo)) at returns_by
 
-        pub return_acts : (k : PartPlace) (n top : ℕ) → r ≡ Reach.At k → n ≡ get_or p k.0 0 → top ≡ mod_word (v + 1)
+        pub return_acts : (k : PartPlace) (n top : ℕ) → r ≡ Some k → n ≡ get_or p k.0 0 → top ≡ mod_word (v + 1)
             → decided (machine_of g p at) ≡ Ok (address_of g at + 1, Change.Return top n)
         return_acts k n top ek en etop =
             rw (en, etop, place_is g x r er k ek) (rw (word_held g p at v x.0 ex (is_lent g p at hand) (within g x r er k ek)) at returns_by)
@@ -276,11 +275,11 @@ module _ (g : Segment) (p : List ℕ) (at : Aim) (w : ℕ) (hand : InHand g p at
     bad_condition h =
         either_jump (λ e. absurd (omega (arith, eqb-true (a_of w) 0 (unused 14 2 e (shape_at 14 e)).0))) (λ e. condition_refused e h)
 
-    module _ (low : a_of w ≤ 2) (x : Aim) (r : Reach) (ex : x.0 ≡ at.0 + 1) (er : r ≡ reach_of g x) where
-      pub jump_outside : r ≡ Reach.Outside → decided (machine_of g p at) ≡ Err outside
+    module _ (low : a_of w ≤ 2) (x : Aim) (r : Option PartPlace) (ex : x.0 ≡ at.0 + 1) (er : r ≡ reach_of g x) where
+      pub jump_outside : r ≡ None → decided (machine_of g p at) ≡ Err outside
       jump_outside h = either_jump (λ e. second_outside x ex r er _ (jump_acts e) h) (λ e. second_outside x ex r er _ (condition_acts e low) h)
 
-      module _ (k : PartPlace) (ea : r ≡ Reach.At k) (b : Bool) (eb : b ≡ (eqb (op_of w) 14 || eqb (get_or p 8 0) (a_of w))) where
+      module _ (k : PartPlace) (ea : r ≡ Some k) (b : Bool) (eb : b ≡ (eqb (op_of w) 14 || eqb (get_or p 8 0) (a_of w))) where
         by_condition : (e : op_of w ≡ 15) → decided (machine_of g p at) ≡ sets (address_of g at + 2) 0 (cond b (get_or p k.0 0) (address_of g at + 2))
         by_condition e =
             let same : eqb (cc (machine_of g p at)) (a_of w) ≡ b = rw condition_bare (sym (rw e at eb)) in

@@ -12,7 +12,7 @@ ghost use Rattle.machine.specs.InRow.{part_after, row_length};
 
 use connectives::{both, either};
 use effects::{
-    Aim, Reach, Segment, Went, aimed, calls_to, fault, onward, reached, set, stand, works,
+    Aim, PartPlace, Segment, Went, aimed, calls_to, fault, onward, reached, set, stand, works,
 };
 use order_table::kinds::{
     ADD, AND, CALL, COMPARE, COPY, DIVIDE, EXCLUSIVE_OR, FETCH, LOAD, MULTIPLY, OR, RETURN,
@@ -51,11 +51,8 @@ fn named(p: &mut [u16], table: &[u16; HIGH_BYTES], g: Segment, at: Aim, w: u16)
     let a = field_a(w);
     let x = p[a];
     let y = p[field_b(w)];
-    let went = works(p, g, at, kind, w, a, x, y);
-    match went {
-        Went::On(next) => stand(p, g, next),
-        Went::Off => {}
-        Went::Left(_) => {}
+    if let Went::On(next) = works(p, g, at, kind, w, a, x, y) {
+        stand(p, g, next);
     }
 }
 
@@ -69,10 +66,7 @@ fn two(p: &mut [u16], g: Segment, at: Aim, kind: u16, w: u16) -> Went
 {
     let a = field_a(w);
     let b = field_b(w);
-    if a == NEXT_ORDER {
-        return Went::Left(w);
-    }
-    if b == NEXT_ORDER {
+    if a == NEXT_ORDER || b == NEXT_ORDER {
         return Went::Left(w);
     }
     let x = p[a];
@@ -87,10 +81,9 @@ fn loads(p: &mut [u16], g: Segment, at: Aim, w: u16) -> Went
     requires w_value { kind_of w ≡ kind_of_order Op.Load }
     ensures { After g p.old at result p.new }
 {
-    let Reach::At(second) = reached(g, onward(at, 1)) else {
+    let Some(PartPlace(k)) = reached(g, onward(at, 1)) else {
         return fault(p, g, at, OUTSIDE);
     };
-    let k = second.0;
     let n = p[k];
     set(p, onward(at, 2), field_a(w), n)
 }
@@ -106,11 +99,10 @@ fn jumps(p: &mut [u16], g: Segment, at: Aim, w: u16) -> Went
     if MOST_CC < c {
         return fault(p, g, at, BAD_ORDER);
     }
-    let Reach::At(second) = reached(g, onward(at, 1)) else {
+    let Some(PartPlace(k)) = reached(g, onward(at, 1)) else {
         return fault(p, g, at, OUTSIDE);
     };
     if either(w / OP == JUMP, p[FLAGS] == c) {
-        let k = second.0;
         return Went::On(aimed(g, Address(p[k])));
     }
     Went::On(onward(at, 2))
@@ -123,10 +115,9 @@ fn calls(p: &mut [u16], g: Segment, at: Aim, w: u16) -> Went
     requires w_value { kind_of w ≡ kind_of_order Op.Call }
     ensures { After g p.old at result p.new }
 {
-    let Reach::At(second) = reached(g, onward(at, 1)) else {
+    let Some(PartPlace(k)) = reached(g, onward(at, 1)) else {
         return fault(p, g, at, OUTSIDE);
     };
-    let k = second.0;
     let n = p[k];
     calls_to(p, g, at, n)
 }
@@ -139,10 +130,9 @@ fn returns(p: &mut [u16], g: Segment, at: Aim, w: u16) -> Went
     ensures { After g p.old at result p.new }
 {
     let top = p[STACK];
-    let Reach::At(x) = reached(g, aimed(g, Address(top))) else {
+    let Some(PartPlace(k)) = reached(g, aimed(g, Address(top))) else {
         return fault(p, g, at, OUTSIDE);
     };
-    let k = x.0;
     let n = p[k];
     p[STACK] = sum(top, 1);
     Went::On(aimed(g, Address(n)))
@@ -215,10 +205,9 @@ fn order(p: &mut [u16], table: &[u16; HIGH_BYTES], g: Segment, at: Aim) -> Went
     requires order_table { OrderTable table.now }
     ensures { After g p.old at result p.new }
 {
-    let Reach::At(x) = reached(g, at) else {
+    let Some(PartPlace(k)) = reached(g, at) else {
         return fault(p, g, at, OUTSIDE);
     };
-    let k = x.0;
     let w = p[k];
     known(p, table, g, at, w)
 }
@@ -233,16 +222,13 @@ pub fn orders(p: &mut [u16], table: &[u16; HIGH_BYTES], g: Segment, most: u16) -
     ensures p_after { p.new ≡ part_after g p.old result }
 {
     let mut at = aimed(g, Address(p[NEXT_ORDER]));
-    let mut left = most;
-    while left > 0 {
-        let went = order(p, table, g, at);
-        left -= 1;
-        match went {
+    for done in 0..most {
+        match order(p, table, g, at) {
             Went::On(next) => at = next,
-            Went::Off => return most - left,
+            Went::Off => return done + 1,
             Went::Left(w) => {
                 named(p, table, g, at, w);
-                return most - left;
+                return done + 1;
             }
         }
     }

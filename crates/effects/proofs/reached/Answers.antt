@@ -2,8 +2,8 @@
 use Rattle.effects.specs.Holding.{reach_at, reach_past}
 use Rattle.effects.proofs.reached.Goals as goal
 
-pub returns-then-k-g : goal.returns-then-k-g
-returns-then-k-g c = search reach_at
+pub returns-then-x-g : goal.returns-then-x-g
+returns-then-x-g c = search reach_at
 
 pub returns : goal.returns
 returns c = search reach_past

@@ -35,7 +35,7 @@ pub aimed-requires : goal.aimed-requires
 aimed-requires c = search is_based
 
 pub returns-then-either : goal.returns-then-either
-returns-then-either c = jump_next _ _ _ _ c.requires.in_hand c.requires.fetched c.requires.w_value c.if-c-gt-MOST_CC.false _ _ c.onward.ensures c.reached.ensures _ c.in-At.is _ c.either.ensures _ _ c.if-either.true refl c.aimed.ensures (omega (arith, c.type_inv.p c.in-At.second.0))
+returns-then-either c = jump_next _ _ _ _ c.requires.in_hand c.requires.fetched c.requires.w_value c.if-c-gt-MOST_CC.false _ _ c.onward.ensures c.reached.ensures _ c.in-Some.is _ c.either.ensures _ _ c.if-either.true refl c.aimed.ensures (omega (arith, c.type_inv.p c.in-Some.field-0.0))
 
 pub onward-requires-2 : goal.onward-requires-2
 onward-requires-2 c = (search is_near, search rules)

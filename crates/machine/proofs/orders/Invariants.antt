@@ -2,8 +2,5 @@
 use Rattle.machine.proofs.Going.{Going}
 use Rattle.machine.proofs.orders.Given as goal
 
-abbrev pub invariant-loop-left : goal.invariant-loop-left
-invariant-loop-left l = Going l.g l.initial.p l.most l.left l.p l.at
-
-abbrev pub decreases-loop-left : goal.decreases-loop-left
-decreases-loop-left l = l.left
+abbrev pub invariant-loop-done : goal.invariant-loop-done
+invariant-loop-done l = Going l.g l.initial.p l.most l.done l.p l.at

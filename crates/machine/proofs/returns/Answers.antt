@@ -32,4 +32,4 @@ pub aimed-requires-2 : goal.aimed-requires-2
 aimed-requires-2 c = search is_based
 
 pub returns : goal.returns
-returns c = return_next _ _ _ _ c.requires.in_hand c.requires.fetched c.requires.w_value _ _ _ _ _ _ _ _ refl c.aimed.ensures c.reached.ensures c.in-At.is refl c.sum.ensures refl c.aimed-2.ensures (grind arith)
+returns c = return_next _ _ _ _ c.requires.in_hand c.requires.fetched c.requires.w_value _ _ _ _ _ _ _ _ refl c.aimed.ensures c.reached.ensures c.in-Some.is refl c.sum.ensures refl c.aimed-2.ensures (grind arith)

@@ -1,14 +1,11 @@
 -- An order that names R0 is left; any other is worked with the words of its registers.
 use Rattle.machine.proofs.Deciding.{is_inside, two_act}
-use Rattle.machine.proofs.Choosing.{a_left, b_left, a_in, b_in, a_register, two_after}
+use Rattle.machine.proofs.Choosing.{r0_left, a_in, b_in, a_register, two_after}
 use borrow.Author.Rules.{rules}
 use Rattle.machine.proofs.two.Goals as goal
 
 pub returns-then-a-eq-NEXT_ORDER : goal.returns-then-a-eq-NEXT_ORDER
-returns-then-a-eq-NEXT_ORDER c = search a_left
-
-pub returns-then-b-eq-NEXT_ORDER : goal.returns-then-b-eq-NEXT_ORDER
-returns-then-b-eq-NEXT_ORDER c = search b_left
+returns-then-a-eq-NEXT_ORDER c = search r0_left
 
 pub bounds-p-a : goal.bounds-p-a
 bounds-p-a c = search a_in
