@@ -40,14 +40,14 @@ pub fn task_of(a: Answer) -> u16
 {
     match a {
         Answer::Idle => 0,
-        Answer::ErrorStop(t) => t.0,
-        Answer::TurnPassed(t) => t.0,
-        Answer::ServiceDone(t) => t.0,
-        Answer::ServiceWaits(t) => t.0,
-        Answer::ServiceFaulted(t) => t.0,
-        Answer::OrderDone(t) => t.0,
-        Answer::OrderFaulted(t) => t.0,
-        Answer::Input(t) => t.0,
-        Answer::OutputDone(t) => t.0,
+        Answer::ErrorStop(t)
+        | Answer::TurnPassed(t)
+        | Answer::ServiceDone(t)
+        | Answer::ServiceWaits(t)
+        | Answer::ServiceFaulted(t)
+        | Answer::OrderDone(t)
+        | Answer::OrderFaulted(t)
+        | Answer::Input(t)
+        | Answer::OutputDone(t) => t.0,
     }
 }
