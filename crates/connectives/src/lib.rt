@@ -8,19 +8,19 @@ ghost use Rattle.paper.specs.Tests.{implies as if_then};
 pub fn both(a: bool, b: bool) -> bool
     ensures { result ≡ (a && b) }
 {
-    if a { b } else { false }
+    a & b
 }
 
 // Whether one of two holds.
 pub fn either(a: bool, b: bool) -> bool
     ensures { result ≡ (a || b) }
 {
-    if a { true } else { b }
+    a | b
 }
 
 // Whether b holds where a does.
 pub fn implies(a: bool, b: bool) -> bool
     ensures { result ≡ if_then a b }
 {
-    if a { b } else { true }
+    !a | b
 }
