@@ -7,7 +7,7 @@ use native.Mathlib.Numerals.{add-one}
 use native.Mathlib.Omega.{arith}
 use mir.Syntax.{w16}
 use mir.Val.{Fits}
-use lib.ListN.{length, get_or, take, drop, replicate, length-drop, length-replicate}
+use lib.ListN.{length, get_or, take, drop, replicate, length-take, length-drop, length-replicate}
 use lib.Seq.{length-take-le}
 use Rattle.paper.specs.Image.{mark, edition, most_words, begin, start, offsets, total, header}
 use Rattle.paper.specs.Plans.{plan_tasks, segment_length, program_length, segment_words, program_start, fresh_queue, fresh_segment, fresh_part, plan_shape}
@@ -33,18 +33,10 @@ pub queue_in_zeros : (o out : List ℕ) (at c v : ℕ) → Zeroed o at (length (
 queue_in_zeros o out at c v z ev e =
     zeros_around o out at 3 (c ∷ []) c (part_zeroed o at _ at _ z (omega arith) (omega (arith, queue_long c))) (rw (← ev) e)
 
--- a program within its plan has its length, and is followed by zeros where the words after it are 0
-module _ (plan : List ℕ) (from p : ℕ) (inside : from + p ≤ length plan) where
-  program_size : length (take p (drop from plan)) ≡ p
-  program_size = length-take-le p (drop from plan) (simp length-drop (omega arith))
-
-  pub program_ends : (at r : ℕ) → r ≡ at + p → r ≡ at + length (take p (drop from plan))
-  program_ends at r e = omega (arith, program_size)
-
-  pub program_in_zeros : (o out : List ℕ) (at l : ℕ) → p ≤ l → (zeroed : Bool) → (zeroed ≡ true → Zeroed o at l) → zeroed ≡ true
-      → out ≡ written o at (take p (drop from plan)) → out ≡ written o at (take p (drop from plan) ++ replicate (l - p) 0)
-  program_in_zeros o out at l h zeroed z so e =
-      zeros_after o out at (take p (drop from plan)) (l - p) (part_zeroed o at l at _ (z so) (omega arith) (omega (arith, program_size))) e
+-- a program is followed by zeros where the words after it are 0
+pub program_in_zeros : (o out t : List ℕ) (at l : ℕ) → length t ≤ l → (zeroed : Bool) → (zeroed ≡ true → Zeroed o at l) → zeroed ≡ true
+    → out ≡ written o at t → out ≡ written o at (t ++ replicate (l - length t) 0)
+program_in_zeros o out t at l h zeroed z so e = zeros_after o out at t (l - length t) (part_zeroed o at l at _ (z so) (omega arith) (omega arith)) e
 
 -- what an accepted plan fixes
 module _ (s : Shape) (plan : List ℕ) (p : Plan s plan) where
@@ -83,12 +75,24 @@ module _ (s : Shape) (plan : List ℕ) (p : Plan s plan) where
 
   -- the segment of task k, by the lengths that were read
   module _ (k l q from : ℕ) (h : k < s.n) (el : l ≡ segment_length plan k) (eq : q ≡ program_length plan k) (ef : from ≡ program_start plan k) where
-    pub segment_asks : (q ≤ l) × (from + q ≤ length plan)
-    segment_asks =
+    program_asks : (q ≤ l) × (from + q ≤ length plan)
+    program_asks =
         let r = planned plan p.fine in (
           omega (arith, (r.pairs k (omega (arith, plan_count))).1),
           omega (arith, programs_later plan (suc k) s.n h, r.ends, ap (program_start plan) plan_count),
         )
+
+    -- its program is as long as the plan says
+    pub segment_asks : (q ≤ l) × (from + q ≤ length plan) × (length (take (from + q - from) (drop from plan)) ≤ l)
+    segment_asks =
+        let a = program_asks in
+        (a.0, a.1, simp (length-take, length-drop) (omega (arith, a.0)))
+
+    program_is : take (from + q - from) (drop from plan) ≡ take q (drop from plan)
+    program_is = let e : from + q - from ≡ q = omega arith in rw e
+
+    program_size : length (take q (drop from plan)) ≡ q
+    program_size = length-take-le q (drop from plan) (simp length-drop (omega (arith, program_asks.1)))
 
     pub next_program : from + q ≡ program_start plan (k + 1)
     next_program = rw (add-one, ef, eq)
@@ -104,11 +108,12 @@ module _ (s : Shape) (plan : List ℕ) (p : Plan s plan) where
       segment_zeroed zeroed z so = rw (← whole) (row_zeroed (fresh_segment plan) o at k next out r s.n h (z so))
 
       pub segment_more : (out' : List ℕ) (next' : ℕ)
-          → (next' ≡ next + l) × (out' ≡ written out next (take q (drop from plan) ++ replicate (l - q) 0))
+          → next' ≡ next + l
+          → out' ≡ written out next (take (from + q - from) (drop from plan) ++ replicate (l - length (take (from + q - from) (drop from plan))) 0)
           → FirstRows (fresh_segment plan) o at (k + 1) next' out'
-      segment_more out' next' w =
+      segment_more out' next' en eo =
           row_more (fresh_segment plan) o at k next out r out' (fresh_segment plan k) next' refl
-          (omega (arith, whole, w.0), rw (ef, eq, el) at w.1)
+          (omega (arith, whole, en), rw (program_is, program_size, ef, eq, el) at eo)
 
 -- an entry of the segment table, and the next base
 module _ (s : Shape) (plan : List ℕ) (k l b : ℕ) (el : l ≡ segment_length plan k) (eb : b ≡ start s Part.Segments + segment_words plan k) where

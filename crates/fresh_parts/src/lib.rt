@@ -57,7 +57,7 @@ pub fn put_header(s: Shape, out: &mut [u16]) -> Place
         t,
         s.slice,
     ];
-    Place(put_words(out, 0, &words, 0, HEADER_WORDS))
+    Place(put_words(out, 0, &words))
 }
 
 // A task where the words are 0: R1 = L.
@@ -76,7 +76,7 @@ pub fn put_lead(out: &mut [u16], at: Place, count: u16, capacity: u16) -> Place
     ensures { Wrote out.old at (0 ∷ 0 ∷ count ∷ capacity ∷ []) out.new result }
 {
     let words = [FIRST_SLOT, FIRST_SLOT, count, capacity];
-    Place(put_words(out, at.0, &words, 0, LEAD_WORDS))
+    Place(put_words(out, at.0, &words))
 }
 
 // An empty queue where the words are 0.
@@ -96,32 +96,23 @@ fn put_entry(out: &mut [u16], at: Place, base: u16, length: u16) -> Place
     ensures { Wrote out.old at (base ∷ length ∷ []) out.new result }
 {
     let words = [base, length];
-    Place(put_words(out, at.0, &words, 0, ENTRY_WORDS))
+    Place(put_words(out, at.0, &words))
 }
 
-// A segment: program words followed by zeros, which are there already where the words are 0.
-fn put_segment(
-    out: &mut [u16],
-    at: Place,
-    plan: &[u16],
-    from: usize,
-    program: u16,
-    length: u16,
-    zeroed: bool,
-) -> Place
-    requires program_in_bounds { (program ≤ length) × (from + program ≤ list_length plan.now) }
+// A segment: a program followed by zeros, which are there already where the words are 0.
+fn put_segment(out: &mut [u16], at: Place, program: &[u16], length: u16, zeroed: bool) -> Place
+    requires program_in_bounds { list_length program.now ≤ length }
     requires length_bound { at.0 + length ≤ list_length out.old }
     requires zeroed { zeroed ≡ true → Zeroed out.old at.0 length }
     ensures result_value { result.0 ≡ at.0 + length }
-    ensures out_after { out.new ≡ written out.old at.0 (take program (drop from plan.now) ++ replicate (length - program) 0) }
+    ensures out_after { out.new ≡ written out.old at.0 (program.now ++ replicate (length - list_length program.now) 0) }
 {
-    let words = program as usize;
     let whole = length as usize;
-    let zeros = put_words(out, at.0, plan, from, words);
+    let zeros = put_words(out, at.0, program);
     if zeroed {
         return Place(at.0 + whole);
     }
-    Place(put_zeros(out, zeros, whole - words))
+    Place(put_zeros(out, zeros, whole - program.len()))
 }
 
 // The numbers 0..n-1.
@@ -131,10 +122,8 @@ pub fn put_numbers(out: &mut [u16], at: Place, n: usize) -> Place
     ensures { Wrote out.old at (joined n (λ k. k ∷ [])) out.new result }
 {
     let mut next = at;
-    let mut k: usize = 0;
-    while k < n {
+    for k in 0..n {
         next = Place(put_word(out, next.0, k as u16));
-        k += 1;
     }
     next
 }
@@ -147,10 +136,8 @@ pub fn put_queues(out: &mut [u16], at: Place, rows: usize, capacity: usize) -> P
     ensures { Wrote out.old at (joined rows (λ i. fresh_queue capacity)) out.new result }
 {
     let mut next = at;
-    let mut k: usize = 0;
-    while k < rows {
+    for k in 0..rows {
         next = put_queue(out, next, capacity);
-        k += 1;
     }
     next
 }
@@ -163,10 +150,8 @@ pub fn put_tasks(s: Shape, plan: &[u16], out: &mut [u16], at: Place) -> Place
     ensures { Wrote out.old at (fresh_part s plan.now TaskTable) out.new result }
 {
     let mut next = at;
-    let mut k: usize = 0;
-    while k < s.n {
+    for k in 0..s.n {
         next = put_task(out, next, length_of(plan, Task(k as u16)));
-        k += 1;
     }
     next
 }
@@ -180,12 +165,10 @@ pub fn put_table(s: Shape, plan: &[u16], out: &mut [u16], at: Place) -> Place
     let starts = s.starts;
     let mut base = starts[SEGMENTS];
     let mut next = at;
-    let mut k: usize = 0;
-    while k < s.n {
+    for k in 0..s.n {
         let length = length_of(plan, Task(k as u16));
         next = put_entry(out, next, base as u16, length);
         base += length as usize;
-        k += 1;
     }
     next
 }
@@ -199,14 +182,12 @@ fn put_programs(s: Shape, plan: &[u16], out: &mut [u16], at: Place, zeroed: bool
 {
     let mut from = LEADING_WORDS + PAIR_WORDS * s.n;
     let mut next = at;
-    let mut k: usize = 0;
-    while k < s.n {
+    for k in 0..s.n {
         let i = Task(k as u16);
         let length = length_of(plan, i);
-        let program = program_of(plan, i);
-        next = put_segment(out, next, plan, from, program, length, zeroed);
-        from += program as usize;
-        k += 1;
+        let end = from + program_of(plan, i) as usize;
+        next = put_segment(out, next, &plan[from..end], length, zeroed);
+        from = end;
     }
 }
 

@@ -1,7 +1,9 @@
 -- A list with words written over it from a place on. Assumes nothing.
-use Rattle.std.specs.Prelude.{◌≡◌, refl, List, [], ◌∷◌, ◌++◌, ℕ, zero, suc, ◌+◌, ◌<◌, ◌≤◌, length, set}
-use Rattle.std.proofs.Common.{sym, ap, ◌∙◌, append-nil, add-zero, zero-add, add-suc, suc-add, arith, set-set}
+use Rattle.std.specs.Prelude.{◌≡◌, refl, List, [], ◌∷◌, ◌++◌, ℕ, zero, suc, ◌+◌, ◌<◌, ◌≤◌, length, set, take, drop}
+use Rattle.std.proofs.Common.{sym, ap, ◌∙◌, append-nil, add-zero, zero-add, add-suc, suc-add, arith, set-set, append_assoc}
+use Rattle.std.proofs.lemmas.List.{drop-drop}
 use Rattle.std.proofs.lemmas.List.Edits.{sets, sets-eq}
+use borrow.Rule.Slice.PartMut.{put_mid}
 use Rattle.std.proofs.Math.Seq.{length-sets, drop-length}
 
 -- vs stored from index i on
@@ -58,6 +60,12 @@ kept_length l out at vs e = ap length e ∙ written_length l at vs
 -- two lists written one after another
 pub then_on : (o a b : List ℕ) (at p : ℕ) (x y : List ℕ) → a ≡ written o at x → p ≡ at + length x → b ≡ written a p y → b ≡ written o at (x ++ y)
 then_on o a b at p x y ea ep eb = rw (eb, ea, ep) (written_on o at x y)
+
+-- after a write to l[i..i + k]: vs is what that part is now
+pub part_written : (l us vs : List ℕ) (i k : ℕ) → us ≡ vs → k ≡ length vs → i + k ≤ length l → put_mid i k l us ≡ written l i vs
+unfolding written
+part_written l us vs i k eu ek h =
+    rw (eu, ek, drop-drop, ← append_assoc (take i l) vs (drop (i + length vs) l)) (sym (sets-eq vs l i (omega arith)))
 
 -- what a loop has written so far: one word more, and all of it
 module _ (l out : List ℕ) (at k : ℕ) where

@@ -20,25 +20,16 @@ pub fn put_zeros(out: &mut [u16], at: usize, n: usize) -> usize
     ensures value { result ≡ at + n }
     ensures out_after { out.new ≡ written out.old at (replicate n 0) }
 {
-    let mut k: usize = 0;
-    while k < n {
-        out[at + k] = 0;
-        k += 1;
-    }
+    out[at..at + n].fill(0);
     at + n
 }
 
-// Writes the n words of src from index from on.
-pub fn put_words(out: &mut [u16], at: usize, src: &[u16], from: usize, n: usize) -> usize
-    requires n_in_bounds { at + n ≤ length out.old }
-    requires n_in_bounds_2 { from + n ≤ length src.now }
-    ensures value { result ≡ at + n }
-    ensures out_after { out.new ≡ written out.old at (take n (drop from src.now)) }
+// Writes the words of src.
+pub fn put_words(out: &mut [u16], at: usize, src: &[u16]) -> usize
+    requires { at + length src.now ≤ length out.old }
+    ensures value { result ≡ at + length src.now }
+    ensures out_after { out.new ≡ written out.old at src.now }
 {
-    let mut k: usize = 0;
-    while k < n {
-        out[at + k] = src[from + k];
-        k += 1;
-    }
-    at + n
+    out[at..at + src.len()].copy_from_slice(src);
+    at + src.len()
 }

@@ -1,11 +1,7 @@
 -- The numbers before k are written.
 use mathlib.Core.List.{[], ◌∷◌}
-use Prim.Native.Nat.{◌-◌, ◌≤◌}
 use Rattle.fresh_parts.proofs.Repeating.{FirstRows}
 use Rattle.fresh_parts.proofs.put_numbers.Given as goal
 
 abbrev pub invariant-loop-k : goal.invariant-loop-k
-invariant-loop-k l = FirstRows (λ j. j ∷ []) l.initial.out l.initial.next.0 l.k l.next.0 l.out × (l.k ≤ l.n)
-
-abbrev pub decreases-loop-k : goal.decreases-loop-k
-decreases-loop-k l = l.n - l.k
+invariant-loop-k l = FirstRows (λ j. j ∷ []) l.initial.out l.initial.next.0 l.k l.next.0 l.out

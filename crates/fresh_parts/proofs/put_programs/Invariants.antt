@@ -1,12 +1,8 @@
 -- The segments before k are written, and where the next program starts is known.
 use mathlib.Core.Path.{◌≡◌}
-use Prim.Native.Nat.{◌-◌, ◌≤◌}
 use Rattle.paper.specs.Plans.{program_start, fresh_segment}
 use Rattle.fresh_parts.proofs.Repeating.{FirstRows}
 use Rattle.fresh_parts.proofs.put_programs.Given as goal
 
 abbrev pub invariant-loop-k : goal.invariant-loop-k
-invariant-loop-k l = FirstRows (fresh_segment l.plan) l.initial.out l.initial.next.0 l.k l.next.0 l.out × (l.k ≤ l.s.n) × (l.from ≡ program_start l.plan l.k)
-
-abbrev pub decreases-loop-k : goal.decreases-loop-k
-decreases-loop-k l = l.s.n - l.k
+invariant-loop-k l = FirstRows (fresh_segment l.plan) l.initial.out l.initial.next.0 l.k l.next.0 l.out × (l.from ≡ program_start l.plan l.k)

@@ -1,12 +1,8 @@
 -- The tasks before k are written.
-use Prim.Native.Nat.{◌-◌, ◌≤◌}
 use Rattle.paper.specs.Plans.{fresh_row}
 use Rattle.paper.specs.declared.Part.{Part}
 use Rattle.fresh_parts.proofs.Repeating.{FirstRows}
 use Rattle.fresh_parts.proofs.put_tasks.Given as goal
 
 abbrev pub invariant-loop-k : goal.invariant-loop-k
-invariant-loop-k l = FirstRows (fresh_row l.s l.plan Part.TaskTable) l.initial.out l.initial.next.0 l.k l.next.0 l.out × (l.k ≤ l.s.n)
-
-abbrev pub decreases-loop-k : goal.decreases-loop-k
-decreases-loop-k l = l.s.n - l.k
+invariant-loop-k l = FirstRows (fresh_row l.fn.s l.plan Part.TaskTable) l.initial.out l.initial.next.0 l.k l.next.0 l.out

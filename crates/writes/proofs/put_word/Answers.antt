@@ -1,7 +1,6 @@
--- The word is written at its place, and the next goes one further.
-use mathlib.Core.Path.{refl}
+-- The word is written at its place.
 use Rattle.writes.specs.Written.{written_one}
 use Rattle.writes.proofs.put_word.Goals as goal
 
-pub returns : goal.returns
-returns c = record { value = refl; out_after = written_one _ _ _ }
+pub returns-clause-out_after : goal.returns-clause-out_after
+returns-clause-out_after c = written_one _ _ _

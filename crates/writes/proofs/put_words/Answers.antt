@@ -1,24 +1,7 @@
--- k words are written.
-use mathlib.Core.Path.{refl, sym}
-use native.Mathlib.Omega.{arith}
-use lib.ListN.{take, drop}
-use Rattle.writes.specs.Written.{written_none, kept_length, all_done}
-use Rattle.writes.proofs.Looping.{words_again}
+-- The part of the list that src is copied over is as long as src.
+use Rattle.std.proofs.Common.{arith}
+use Rattle.writes.specs.Written.{part_written}
 use Rattle.writes.proofs.put_words.Goals as goal
 
-pub loop-k-init : goal.loop-k-init
-loop-k-init c = (sym (written_none _ _), omega arith)
-
-pub bounds-out-at : goal.bounds-out-at
-bounds-out-at c = omega (arith, kept_length _ _ _ _ c.loop-k.invariant.0)
-
-pub loop-k-preserved : goal.loop-k-preserved
-loop-k-preserved c = (words_again _ _ _ c.loop-k.k c.args.src.now c.args.from (omega arith) c.loop-k.invariant.0, omega arith)
-
-pub shape_of-out : goal.shape_of-out
-shape_of-out c = kept_length _ _ _ _ c.loop-k.invariant.0
-
-pub returns : goal.returns
-returns c =
-    let a = c.args in
-    record { value = refl; out_after = all_done _ _ _ _ (λ k. take k (drop a.from a.src.now)) _ c.loop-k.invariant.0 c.loop-k-test.false c.loop-k.invariant.1 }
+pub returns-clause-out_after : goal.returns-clause-out_after
+returns-clause-out_after c = part_written _ _ _ _ _ c.copy_from_slice.ensures.after (omega arith) (omega arith)
