@@ -2,23 +2,26 @@
 use Rattle.std.specs.Prelude.{Err, Ok, Result, ℕ}
 use mathlib.Core.Path.{◌≡◌, refl, sym, ◌∙◌, ap}
 use mathlib.Core.List.{List}
+use mathlib.Core.Logic.{◌⊎◌}
 use mathlib.Core.Bool.{Bool, true, false, not, ◌&&◌, ◌||◌}
 use Prim.Native.Nat.{ℕ, ◌+◌, ◌-◌, ◌*◌, ◌<◌, ◌≤◌}
 use native.Mathlib.Numerals.{add-one}
 use native.Mathlib.Omega.{arith}
-use borrow.Author.Tests.{lt-ltb, le-ltb}
+use Rattle.std.proofs.Common.{⊎_elim}
+use borrow.Author.Tests.{lt-ltb, le-ltb, le-leb, lt-leb}
+use Rattle.std.proofs.Math.Bool.{and-false, or-false, or-true}
 use lib.Dec.{eqb, leb, ltb}
 use lib.ListN.{get_or, length}
 use Rattle.paper.specs.Image.{most_tasks, most_words, offsets, start, total}
 use Rattle.paper.specs.Tests.{every}
 use Rattle.paper.specs.Plans.{plan_tasks, segment_length, program_length, segment_words, plan_shape}
-use Rattle.paper.specs.Numbers.{out_of_range, plan_broken, check_plan}
+use Rattle.paper.specs.Numbers.{pair_right, out_of_range, plan_broken, check_plan}
 use Rattle.paper.specs.Calls.{plan_size, size_number, size_value}
 use Rattle.paper.specs.Promises.{Measures}
 use Rattle.paper.specs.declared.Shape.{Shape}
 use Rattle.paper.specs.declared.Part.{Part}
 use Rattle.paper.specs.declared.Refusal.{Refusal}
-use Rattle.laws.specs.Every.{every_none}
+use Rattle.laws.specs.Every.{every_none, every_fails}
 use Rattle.laws.specs.Layout.{Ranged, largest_offset, total_is}
 use Rattle.laws.specs.Checked.{ranged_is}
 use Rattle.laws.specs.Fresh.{planned}
@@ -30,7 +33,7 @@ pub no_pairs : (plan : List ℕ) (n : ℕ) → n ≤ most_tasks → n ≡ plan_t
 no_pairs plan n h e =
     record { pairs = sym (every_none _); segments = refl; programs = rw e; small = omega arith; near = omega arith }
 
-pub one_pair_more : (plan : List ℕ) (k l p words end : ℕ) (right a b : Bool) → Summed plan k right words end
+one_pair_more : (plan : List ℕ) (k l p words end : ℕ) (right a b : Bool) → Summed plan k right words end
     → l ≡ segment_length plan k → p ≡ program_length plan k → a ≡ (leb 1 l && leb p l) → b ≡ (right && a) → l ≤ 65535 → p ≤ 65535
     → Summed plan (k + 1) b (words + l) (end + p)
 unfolding every
@@ -42,6 +45,21 @@ one_pair_more plan k l p words end right a b sum el ep ea eb hl hp =
       small = omega (arith, sum.small);
       near = omega (arith, sum.near);
     }
+
+-- a pair that is right or not, by its two tests
+right_pair : (l p : ℕ) → 1 ≤ l → p ≤ l → true ≡ (leb 1 l && leb p l)
+right_pair l p h g = rw (le-leb 1 l h, le-leb p l g) refl
+
+wrong_tests : (l p : ℕ) → (l < 1) ⊎ ((1 ≤ l) × (l < p)) → (leb 1 l && leb p l) ≡ false
+wrong_tests l p w = ⊎_elim (λ h. rw (lt-leb 1 l h) refl) (λ h. rw (lt-leb p l h.1) (and-false (leb 1 l))) w
+
+pub pair_more : (plan : List ℕ) (k l p words end : ℕ) → Summed plan k true words end → l ≡ segment_length plan k → p ≡ program_length plan k
+    → 1 ≤ l → p ≤ l → l ≤ 65535 → p ≤ 65535 → Summed plan (k + 1) true (words + l) (end + p)
+pair_more plan k l p words end sum el ep h g hl hp = one_pair_more plan k l p words end true true true sum el ep (right_pair l p h g) refl hl hp
+
+pub wrong_pair : (plan : List ℕ) (n k l p : ℕ) → k < n → l ≡ segment_length plan k → p ≡ program_length plan k → (l < 1) ⊎ ((1 ≤ l) × (l < p))
+    → every n (pair_right plan) ≡ false
+wrong_pair plan n k l p h el ep w = every_fails n k (pair_right plan) h (rw (← el, ← ep) (wrong_tests l p w))
 
 -- the shape that a plan gives
 module _ (plan : List ℕ) where
@@ -130,11 +148,19 @@ module _ (plan : List ℕ) where
   unfolding plan_shape
   few_tasks n e r = rw e r.tasks.1
 
-  pub broken_tested : (n w end t : ℕ) (right a b o : Bool) → n ≡ get_or plan 0 0 → Summed plan n right w end
-      → a ≡ (ltb (length plan) (5 + 2 * n) || not right) → b ≡ (a || not (eqb (length plan) end)) → t ≡ total (plan_shape plan)
-      → o ≡ (b || ltb most_words t) → o ≡ plan_broken plan
+  pub broken_tested : (n w end t : ℕ) → n ≡ get_or plan 0 0 → Summed plan n true w end → t ≡ total (plan_shape plan)
+      → (ltb (length plan) (5 + 2 * n) || not (eqb (length plan) end) || ltb most_words t) ≡ plan_broken plan
   unfolding plan_broken
-  broken_tested n w end t right a b o en sum ea eb et eo = rw (eo, eb, ea, et, sum.pairs, sum.programs, en)
+  broken_tested n w end t en sum et =
+      let pairs = rw en at sum.pairs in
+      let programs = rw en at sum.programs in
+      rw (et, programs, en, ← pairs, or-false) refl
+
+  pub pairs_broken : (n : ℕ) → n ≡ get_or plan 0 0 → every n (pair_right plan) ≡ false → plan_broken plan ≡ true
+  unfolding plan_broken
+  pairs_broken n en wrong =
+      let e : every (get_or plan 0 0) (pair_right plan) ≡ false = rw (← en) wrong in
+      rw (e, or-true (ltb (length plan) (5 + 2 * get_or plan 0 0))) refl
 
   -- the answer that a verdict gives
   measured : (answer : Result ℕ Refusal) → answer ≡ plan_size plan → Measures plan answer

@@ -1,26 +1,25 @@
 // A plan: its verdict, its shape and its size.
 #![tactic(auto)]
 
-ghost use Rattle.std.specs.Prelude.{◌≡◌, ◌≤◌, Ok};
+ghost use Rattle.std.specs.Prelude.{◌≡◌, ◌≤◌, Ok, true, false, MatchOption};
 ghost use Rattle.paper.specs.Plans.{plan_tasks, segment_length, program_length, segment_words, plan_shape as shape_planned};
 ghost use Rattle.paper.specs.Image.{most_tasks, start, total};
-ghost use Rattle.paper.specs.Numbers.{plan_broken, check_plan as verdict_on_plan};
+ghost use Rattle.paper.specs.Tests.{every};
+ghost use Rattle.paper.specs.Numbers.{pair_right, plan_broken, check_plan as verdict_on_plan};
 ghost use Rattle.paper.specs.Promises.{Measures};
 ghost use Rattle.paper.specs.declared.Part.TheVariants.{Segments};
 ghost use Rattle.laws.specs.Layout.{Ranged};
 ghost use Rattle.plans.specs.Sizes.{most_planned, Summed, SizesOf, Packed};
 
-use connectives::{both, either};
 use headers::{header_word, offsets, out_of_range, word_or_zero};
 use paper::{
     LEADING_WORDS, MOST_WORDS, OFFSETS, PAIR_WORDS, PLAN_CI_AT, PLAN_CM_AT, PLAN_CO_AT,
     PLAN_SLICE_AT, PLAN_TASKS_AT, Place, Refusal, SEGMENTS, Shape, Task,
 };
 
-// What the pairs of a plan add up to: whether each is right, the words of all segments, and where the last program ends.
+// What the pairs of a plan add up to: the words of all segments, and where the last program ends.
 #[derive(Clone, Copy)]
 struct Sums {
-    right: bool,
     words: usize,
     end: usize,
 }
@@ -39,30 +38,38 @@ pub fn program_of(plan: &[u16], i: Task) -> u16
     word_or_zero(plan, LEADING_WORDS + 1 + PAIR_WORDS * i.0 as usize)
 }
 
-// What the pairs of a plan of n tasks add up to.
-fn add_up(plan: &[u16], n: usize) -> Sums
+// What the pairs of a plan of n tasks add up to, where each is right.
+fn add_up(plan: &[u16], n: usize) -> Option<Sums>
     requires n_le_most_tasks { n ≤ most_tasks }
     requires n_value { n ≡ plan_tasks plan.now }
-    ensures { Summed plan.now n result.right result.words result.end }
+    ensures { MatchOption result (every n (pair_right plan.now) ≡ false) (λ sums. Summed plan.now n true sums.words sums.end) }
 {
-    let mut right = true;
     let mut words: usize = 0;
     let mut end = LEADING_WORDS + PAIR_WORDS * n;
-    let mut k: usize = 0;
-    while k < n {
+    for k in 0..n {
         let i = Task(k as u16);
         let length = length_of(plan, i);
         let program = program_of(plan, i);
-        right = both(right, both(1 <= length, program <= length));
+        if length < 1 || length < program {
+            return None;
+        }
         words += length as usize;
         end += program as usize;
-        k += 1;
     }
-    Sums {
-        right: right,
-        words: words,
-        end: end,
+    Some(Sums { words, end })
+}
+
+// The words of all segments of a plan of n tasks, whether its pairs are right or not.
+fn words_of(plan: &[u16], n: usize) -> usize
+    requires { n ≤ most_tasks }
+    ensures value { result ≡ segment_words plan.now n }
+    ensures small { result ≤ most_planned }
+{
+    let mut words: usize = 0;
+    for k in 0..n {
+        words += length_of(plan, Task(k as u16)) as usize;
     }
+    words
 }
 
 // N, S and the capacities of a plan; the offsets and the words of the segments are left 0.
@@ -95,8 +102,8 @@ fn shape_with(plan: &[u16], words: usize) -> Shape
         ci: sizes.ci,
         co: sizes.co,
         cm: sizes.cm,
-        starts: starts,
-        words: words,
+        starts,
+        words,
     }
 }
 
@@ -106,8 +113,7 @@ pub fn shape_of_plan(plan: &[u16]) -> Shape
     ensures value { result ≡ shape_planned plan.now }
     ensures packed { Packed result }
 {
-    let all = add_up(plan, header_word(plan, PLAN_TASKS_AT));
-    shape_with(plan, all.words)
+    shape_with(plan, words_of(plan, header_word(plan, PLAN_TASKS_AT)))
 }
 
 // T of a packed shape.
@@ -139,17 +145,14 @@ pub fn shape_sized(plan: &[u16], whole: usize) -> Shape
     shape_with(plan, whole - first.0)
 }
 
-// Whether a plan of n tasks in range, whose pairs and whose T are known, breaks another rule of plans.
+// Whether a plan of n tasks in range, whose right pairs add up to all and whose T is known, breaks another rule of plans.
 fn is_broken(plan: &[u16], n: usize, all: Sums, whole: usize) -> bool
     requires n_le_most_tasks { (n ≤ most_tasks) × (n ≡ plan_tasks plan.now) }
-    requires summed { Summed plan.now n all.right all.words all.end }
+    requires summed { Summed plan.now n true all.words all.end }
     requires whole_value { whole ≡ total (shape_planned plan.now) }
     ensures { result ≡ plan_broken plan.now }
 {
-    let missing = plan.len() < LEADING_WORDS + PAIR_WORDS * n;
-    let pairs = either(missing, !all.right);
-    let programs = either(pairs, plan.len() != all.end);
-    either(programs, MOST_WORDS < whole)
+    (plan.len() < LEADING_WORDS + PAIR_WORDS * n) | (plan.len() != all.end) | (MOST_WORDS < whole)
 }
 
 // How many words a plan needs.
@@ -163,9 +166,10 @@ pub fn size(plan: &[u16]) -> Result<usize, Refusal>
     if out_of_range(sizes) {
         return Err(Refusal::OutOfRange);
     }
-    let all = add_up(plan, sizes.n);
-    let first = first_segment(sizes);
-    let whole = first.0 + all.words;
+    let Some(all) = add_up(plan, sizes.n) else {
+        return Err(Refusal::BadPlan);
+    };
+    let whole = first_segment(sizes).0 + all.words;
     if is_broken(plan, sizes.n, all, whole) {
         return Err(Refusal::BadPlan);
     }
@@ -176,9 +180,6 @@ pub fn size(plan: &[u16]) -> Result<usize, Refusal>
 pub fn verdict(plan: &[u16]) -> Result<(), Refusal>
     ensures { result ≡ verdict_on_plan plan.now }
 {
-    let found = size(plan);
-    match found {
-        Ok(_) => Ok(()),
-        Err(r) => Err(r),
-    }
+    size(plan)?;
+    Ok(())
 }
