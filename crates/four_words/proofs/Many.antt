@@ -1,37 +1,35 @@
 -- Many words: their bits together, those that marks pick, and the marks of a capacity. Assumes nothing.
-use mathlib.Core.Path.{◌≡◌, refl, sym, ◌∙◌}
+use mathlib.Core.Path.{◌≡◌, sym, ◌∙◌}
 use mathlib.Core.List.{List}
-use mathlib.Core.Bool.{true, false, false≢true}
-use mathlib.Core.Logic.{◌≢◌, ◌↔◌, inl, inr, dite}
+use mathlib.Core.Bool.{Bool, true}
+use mathlib.Core.Logic.{◌↔◌, inl, inr, dite}
 use Prim.Native.Nat.{ℕ, ◌+◌, ◌-◌, ◌<◌, ◌≤◌}
-use native.Mathlib.Decide.{ℕ_discrete, dec_lt}
+use native.Mathlib.Decide.{dec_lt}
 use native.Mathlib.Omega.{arith}
 use borrow.Author.Tests.{eqb-true, eq-eqb}
 use lib.Bits.{bit_and, bit_or, bit_xor}
 use lib.Dec.{eqb}
-use lib.ListN.{length, get_or, set, replicate, length-set, length-replicate, get_or-replicate, get_or-eq_default}
-use lib.Seq.{get_or-set_same, get_or-set_other}
+use lib.ListN.{length, get_or, take, drop, replicate, length-replicate, get_or-replicate, get_or-eq_default}
+use Rattle.std.specs.List.{list_all}
+use Rattle.std.proofs.lemmas.List.{get_or-take, get_or-drop, length-take-le, length-drop}
+use Rattle.std.proofs.lemmas.List.Elements.{All-from_get_or}
+use Rattle.std.proofs.lemmas.List.Sums.{AllPass-from_list_all, list_all-from_AllPass}
 use Rattle.paper.specs.Image.{most_capacity}
 use Rattle.four_words.specs.FourWords.{four_at, Gathers, Clear, AllOrNone, Sieves, MarkedFrom, Marks}
 use Rattle.four_words.proofs.Lanes.{gathers_four, gathers_both, gathers_none, sieves_four, sieves_both}
 
--- words that are 0, one after another
-module _ (l : List ℕ) (from : ℕ) where
-  pub clear_none : Clear l from from
-  unfolding Clear
-  clear_none k a b = absurd (omega arith)
-
-  pub clear_more : (at w : ℕ) → Clear l from at → w ≡ get_or l at 0 → w ≡ 0 → Clear l from (at + 1)
-  unfolding Clear
-  clear_more at w f e z k a b = dite (ℕ_discrete k at) (λ i. rw i (sym e ∙ z)) (λ ne. f k a (omega arith))
-
-  pub clear_wrong : (at end w : ℕ) → from ≤ at → at < end → w ≡ get_or l at 0 → w ≢ 0 → (false ≡ true) ↔ Clear l from end
-  unfolding Clear
-  clear_wrong at end w a b e ne = (λ n. absurd (false≢true n), λ f. absurd (ne (e ∙ f at a b)))
-
-  pub clear_done : (at end : ℕ) → Clear l from at → end ≤ at → (true ≡ true) ↔ Clear l from end
-  unfolding Clear
-  clear_done at end f h = (λ _ k a b. f k a (omega arith), λ _. refl)
+-- all words of a stretch are 0
+pub clear_told : (l : List ℕ) (at n : ℕ) (r : Bool) → at + n ≤ length l → r ≡ list_all (λ w. eqb w 0) (take (at + n - at) (drop at l)) → (r ≡ true) ↔ Clear l at (at + n)
+unfolding Clear
+clear_told l at n r inside told =
+    let here : (k : ℕ) → k < n → get_or (take (at + n - at) (drop at l)) k 0 ≡ get_or l (at + k) 0 = λ k i. get_or-take (at + n - at) (drop at l) k 0 (omega arith) ∙ get_or-drop at l k 0 in
+    let long : length (take (at + n - at) (drop at l)) ≡ n = length-take-le (at + n - at) (drop at l) (omega (arith, length-drop at l)) ∙ omega arith in (
+      λ e k a b.
+          let same : at + (k - at) ≡ k = omega arith in
+          let z = AllPass-from_list_all (λ w. eqb w 0) (take (at + n - at) (drop at l)) (sym told ∙ e) (k - at) 0 (omega (arith, long)) in
+          rw same at (sym (here (k - at) (omega arith)) ∙ eqb-true _ 0 z),
+      λ f. told ∙ list_all-from_AllPass (λ w. eqb w 0) (take (at + n - at) (drop at l)) (All-from_get_or (λ w. eqb w 0 ≡ true) (take (at + n - at) (drop at l)) 0 (λ k i. eq-eqb _ 0 (here k (omega (arith, long)) ∙ f (at + k) (omega arith) (omega (arith, long))))),
+    )
 
 -- the bits of sixteen words, and of more
 module _ (l : List ℕ) (small : (k : ℕ) → get_or l k 0 < 65536) (at : ℕ) where
@@ -72,24 +70,6 @@ sieved_sixteen l marks at a b r1 r2 r3 r4 s1 s2 s3 s4 =
     sieves_both l marks at a b 8 _ 8 8 _ 16 (sieves_both l marks at a b 4 r1 4 4 r2 8 s1 s2 (omega arith) (omega arith) (omega arith))
     (sieves_both l marks (at + 8) (a + 8) (b + 8) 4 r3 4 4 r4 8 s3 (rw (far at, far a, far b) s4) (omega arith) (omega arith) (omega arith))
     (omega arith) (omega arith) (omega arith)
-
--- places marked one after another
-module _ (marks : List ℕ) (from : ℕ) where
-  pub marked_none : MarkedFrom marks from 0 marks
-  marked_none = record { long = refl; marked = λ k a b. absurd (omega arith); others = λ k f. refl }
-
-  pub marked_more : (n : ℕ) (l : List ℕ) → from + n < length marks → MarkedFrom marks from n l → MarkedFrom marks from (n + 1) (set l (from + n) 65535)
-  marked_more n l inside m =
-      record {
-        long = length-set l (from + n) 65535 ∙ m.long;
-        marked = λ k a b.
-            dite (ℕ_discrete k (from + n)) (λ e. rw e (get_or-set_same l (from + n) 65535 0 (omega (arith, m.long))))
-            (λ ne. get_or-set_other l (from + n) k 65535 0 ne ∙ m.marked k a (omega arith));
-        others = λ k f. get_or-set_other l (from + n) k 65535 0 (λ e. absurd (omega (arith, f (omega arith)))) ∙ m.others k (λ a. omega (arith, f a));
-      }
-
-  pub marked_done : (n m : ℕ) (l : List ℕ) → m ≤ n → n ≤ m → MarkedFrom marks from n l → MarkedFrom marks from m l
-  marked_done n m l a b h = let e : m ≡ n = omega arith in rw e h
 
 -- no mark yet
 no_mark : (k : ℕ) → ◌≡◌ {A = ℕ} (get_or (replicate 96 0) k 0) 0

@@ -1,12 +1,12 @@
 // Many words looked at together, four of them as one number.
 #![tactic(auto)]
 
-ghost use Rattle.std.specs.Prelude.{◌≡◌, true, ◌↔◌, ◌+◌, ◌≤◌, length};
+ghost use Rattle.std.specs.Prelude.{◌≡◌, true, ◌↔◌, ◌+◌, ◌≤◌, eqb, length};
+ghost use Rattle.std.specs.List.{list_all};
 ghost use Rattle.paper.specs.Image.{most_capacity};
 ghost use Rattle.four_words.specs.FourWords.{lanes, four_at, Gathers, Clear, AllOrNone, Sieves, MarkedFrom};
 
 use paper::{MOST_CAPACITY, WORD_END};
-use places::wide;
 
 // A queue of so many slots or more is looked at sixteen slots at a time.
 pub const SIXTEEN: usize = 16;
@@ -21,8 +21,8 @@ const MARKED: u16 = 65535;
 fn joined(a: u16, b: u16, c: u16, d: u16) -> usize
     ensures { result ≡ lanes a b c d }
 {
-    let high = wide(c) + WORD_END * wide(d);
-    wide(a) + WORD_END * (wide(b) + WORD_END * high)
+    let high = usize::from(c) + WORD_END * usize::from(d);
+    usize::from(a) + WORD_END * (usize::from(b) + WORD_END * high)
 }
 
 // Four words from a place on, as one number.
@@ -50,19 +50,11 @@ pub fn all_bits(im: &[u16], at: usize, words: usize) -> usize
     sixteen(im, at) | sixteen(im, at + words - SIXTEEN)
 }
 
-// Whether the words from a place up to another are 0.
-fn zeros(im: &[u16], from: usize, end: usize) -> bool
-    requires { (from ≤ end) × (end ≤ length im.now) }
-    ensures { (result ≡ true) ↔ Clear im.now from end }
+// Whether all words of a list are 0.
+fn zeros(words: &[u16]) -> bool
+    ensures { result ≡ list_all (λ w. eqb w 0) words.now }
 {
-    let mut at = from;
-    while at < end {
-        if im[at] != 0 {
-            return false;
-        }
-        at += 1;
-    }
-    true
+    words.iter().all(|w| *w == 0)
 }
 
 // Whether all slots of a queue are 0, where they begin at a place.
@@ -74,7 +66,7 @@ pub fn slots_clear(im: &[u16], at: usize, given: usize) -> bool
     if SIXTEEN <= given {
         return all_bits(im, at, given) == 0;
     }
-    zeros(im, at, at + given)
+    zeros(&im[at..at + given])
 }
 
 // The bits that are set in four words though they must not be: those of words whose two marks differ.
@@ -106,9 +98,5 @@ pub fn mark(marks: &mut [u16; MARKS], from: usize)
     requires most_capacity_bound { from + most_capacity ≤ 96 }
     ensures { MarkedFrom marks.old from most_capacity marks.new }
 {
-    let mut k: usize = 0;
-    while k < MOST_CAPACITY {
-        marks[from + k] = MARKED;
-        k += 1;
-    }
+    marks[from..from + MOST_CAPACITY].fill(MARKED);
 }

@@ -1,19 +1,19 @@
 -- The shape as it is read, and the tests of numbers 3, 4 and 5 as they are made. Assumes nothing.
 use mathlib.Core.Path.{◌≡◌, refl, sym, ap, ◌∙◌}
 use mathlib.Core.List.{List, [], ◌∷◌, map}
-use mathlib.Core.Bool.{Bool, true, false, not, ◌&&◌}
+use mathlib.Core.Bool.{Bool, true, false, not, ◌&&◌, false≢true}
 use Prim.Native.Nat.{ℕ, ◌+◌, ◌-◌, ◌*◌, ◌<◌, ◌≤◌}
 use native.Mathlib.Nat.{mul-le-mul_left, mul-le-mul_right, le_trans}
 use native.Mathlib.Numerals.{add-one}
 use native.Mathlib.Omega.{arith}
 use mathlib.Core.Logic.{◌≢◌}
 use borrow.Author.Tests.{eq-eqb, ne_eqb, le-leb, lt-leb}
-use lib.Dec.{eqb, leb}
-use lib.ListN.{get_or, length, get_or-eq_default}
-use Rattle.paper.specs.Image.{lead, most_tasks, most_slice, most_capacity, most_words, offset_words, offsets, header_word, shape_of, task, total, start, segment_start, at, base, len}
+use lib.Dec.{eqb}
+use lib.Pointwise.{pointwise, bytes_decides}
+use lib.ListN.{get_or, length}
+use Rattle.paper.specs.Image.{lead, most_words, offset_words, offsets, header_word, shape_of, task, total, start, segment_start, at, len}
 use Rattle.paper.specs.Tests.{every, every_task}
-use Rattle.paper.specs.Numbers.{within, out_of_range, not_packed, segment_right, wrong_segments}
-use Rattle.paper.specs.declared.Task.{Task}
+use Rattle.paper.specs.Numbers.{not_packed, segment_right, wrong_segments}
 use Rattle.paper.specs.declared.Shape.{Shape}
 use Rattle.paper.specs.declared.Part.{Part}
 use Rattle.laws.specs.Layout.{Ranged, fit_ranged, largest_offset, total_is}
@@ -22,16 +22,6 @@ use Rattle.laws.specs.Sound.{Sized, sized_fit, sized_words}
 use Rattle.laws.specs.Checked.{packed_is}
 use Rattle.headers.specs.Shaped.{shaped, sized_by}
 
--- a word past the end
-pub past_end : (l : List ℕ) (k : ℕ) → length l ≤ k → 0 ≡ get_or l k 0
-past_end l k h = sym (get_or-eq_default l 0 h)
-
--- the nine offsets as they are read
-pub starts_read : (im : List ℕ) (a b c d e f g h i : ℕ) → a ≡ header_word im 7 → b ≡ header_word im 8 → c ≡ header_word im 9
-    → d ≡ header_word im 10 → e ≡ header_word im 11 → f ≡ header_word im 12 → g ≡ header_word im 13 → h ≡ header_word im 14
-    → i ≡ header_word im 15 → a ∷ b ∷ c ∷ d ∷ e ∷ f ∷ g ∷ h ∷ i ∷ [] ≡ map (header_word im) offset_words
-starts_read im a b c d e f g h i ea eb ec ed ee ef eg eh ei = rw (ea, eb, ec, ed, ee, ef, eg, eh, ei)
-
 -- the shape as it is read
 pub shape_read : (im : List ℕ) (n slice ci co cm total first words : ℕ) (starts : List ℕ) → starts ≡ map (header_word im) offset_words
     → n ≡ header_word im 2 → slice ≡ header_word im 3 → ci ≡ header_word im 4 → co ≡ header_word im 5 → cm ≡ header_word im 6
@@ -39,13 +29,6 @@ pub shape_read : (im : List ℕ) (n slice ci co cm total first words : ℕ) (sta
     → shaped n slice ci co cm starts words ≡ shape_of im
 unfolding shape_of
 shape_read im n slice ci co cm total first words starts es en el ei eo em et ef ew = rw (en, el, ei, eo, em, es, ew, et, ef)
-
--- the range test as it is put together
-pub range_tested : (s : Shape) (w : ℕ) (a b c d e p q r o : Bool) → w ≡ s.slice → a ≡ within 1 most_tasks s.n → b ≡ within 1 most_slice w
-    → p ≡ (a && b) → c ≡ within 1 most_capacity s.ci → q ≡ (p && c) → d ≡ within 1 most_capacity s.co → r ≡ (q && d)
-    → e ≡ within 1 most_capacity s.cm → o ≡ (r && e) → not o ≡ out_of_range s
-unfolding out_of_range
-range_tested s w a b c d e p q r o ew ea eb ep ec eq ed er ee eo = rw (eo, er, eq, ep, ea, eb, ec, ed, ee, ew)
 
 -- a part is at most 256 rows of 36 words
 pub part_small : (rows width : ℕ) → rows ≤ 256 → width ≤ 36 → rows * width ≤ 9216
@@ -60,17 +43,17 @@ pub offsets_made : (s : Shape) (ready status inputs outputs messages ports table
 offsets_made s ready status inputs outputs messages ports table segments er es ei eo em ep et eg =
     rw (eg, et, ep, em, eo, ei, es, er)
 
--- the test of the offsets
-pub packed_tested : (s : Shape) (r : Bool) (l : List ℕ) → l ≡ offsets s → r ≡ every 9 (λ k. eqb (get_or s.starts k 0) (get_or l k 0))
-    → not r ≡ not_packed s
-unfolding not_packed
-packed_tested s r l el er = rw (er, el)
+-- a test that holds just where another fails
+opposite : (b c : Bool) → (b ≡ true → c ≡ false) → (c ≡ false → b ≡ true) → not b ≡ c
+opposite true c f g = sym (f refl)
+opposite false true f g = refl
+opposite false false f g = absurd (false≢true (g refl))
 
--- the test of one segment
-pub segment_tested : (s : Shape) (im : List ℕ) (i : Task) (start b w l : ℕ) (r : Bool) → start ≡ segment_start s im i.0
-    → b ≡ at s im (base i) → w ≡ b → l ≡ at s im (len i) → r ≡ (eqb w start && leb 1 l) → r ≡ segment_right s im i
-unfolding segment_right
-segment_tested s im i start b w l r es eb ew el er = rw (er, ew, eb, el, es)
+-- the test of the offsets
+pub packed_tested : (s : Shape) (l : List ℕ) → length s.starts ≡ 9 → l ≡ offsets s → not (pointwise eqb s.starts l) ≡ not_packed s
+packed_tested s l nine el =
+    let d = bytes_decides s.starts (offsets s) in
+    rw el (opposite (pointwise eqb s.starts (offsets s)) (not_packed s) (λ e. (packed_is s nine).1 (d.0 e)) (λ e. d.1 ((packed_is s nine).0 e)))
 
 -- the segments, one after another
 module _ (s : Shape) (im : List ℕ) (h : Sized s im) where

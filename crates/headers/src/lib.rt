@@ -1,15 +1,14 @@
 // The header of an image: the shape that it gives, and the tests of numbers 3, 4 and 5.
 #![tactic(auto)]
 
-ghost use Rattle.std.specs.Prelude.{◌≡◌, ◌&&◌, true, false, map, ◌+◌, ◌-◌, ◌*◌, ◌<◌, ◌≤◌, eqb, length, get_or};
+ghost use Rattle.std.specs.Prelude.{◌≡◌, ◌&&◌, false, map, ◌+◌, ◌*◌, ◌<◌, ◌≤◌, eqb, get_or};
 ghost use Rattle.paper.specs.Image.{offset_words, offsets as packed_offsets, header_word as word_of_header, shape_of as shape_given, cell, at as word_at, segment_start, total};
-ghost use Rattle.paper.specs.Tests.{every, every_task};
+ghost use Rattle.paper.specs.Tests.{every_task};
 ghost use Rattle.paper.specs.Numbers.{within as is_within, out_of_range as is_out_of_range, not_packed as is_not_packed, segment_right as is_segment_right, wrong_segments as has_wrong_segments};
 ghost use Rattle.paper.specs.declared.Part.TheVariants.{SegmentTable};
 ghost use Rattle.laws.specs.Sound.{Sized};
 ghost use Rattle.laws.specs.Layout.{Ranged};
 
-use connectives::both;
 use paper::{
     BASE, CI_AT, CM_AT, CO_AT, Cell, ENTRY_WORDS, HEADER_WORDS, INPUT_BUFFERS_AT, LEAD_WORDS,
     LENGTH, MESSAGE_BUFFERS_AT, MOST_CAPACITY, MOST_SLICE, MOST_TASKS, MOST_WORDS, OFFSETS,
@@ -17,33 +16,20 @@ use paper::{
     SEGMENTS_AT, SLICE_AT, STATUS_TABLE_AT, STATUS_WORDS, Shape, TASK_TABLE_AT, TASK_WORDS,
     TASKS_AT, TOTAL_AT, Task,
 };
-use places::{start_of, wide, word_of};
-
-// What a is more than b, or 0.
-fn rest(a: usize, b: usize) -> usize
-    ensures { result ≡ a - b }
-{
-    if b <= a {
-        return a - b;
-    }
-    0
-}
+use places::{start_of, word_of};
 
 // A word of a list, and 0 past its end.
 pub fn word_or_zero(l: &[u16], k: usize) -> u16
     ensures { result ≡ get_or l.now k 0 }
 {
-    if k < l.len() {
-        return l[k];
-    }
-    0
+    l.get(k).copied().unwrap_or(0)
 }
 
 // A word of the header, and 0 past the end of a list that is too short for one.
 pub fn header_word(im: &[u16], k: usize) -> usize
     ensures { result ≡ word_of_header im.now k }
 {
-    wide(word_or_zero(im, k))
+    usize::from(word_or_zero(im, k))
 }
 
 // The nine offsets in the header.
@@ -51,32 +37,31 @@ fn starts_of(im: &[u16]) -> [usize; OFFSETS]
     ensures { result ≡ map (word_of_header im.now) offset_words }
 {
     [
-        header_word(im, TASK_TABLE_AT),
-        header_word(im, READY_QUEUE_AT),
-        header_word(im, STATUS_TABLE_AT),
-        header_word(im, INPUT_BUFFERS_AT),
-        header_word(im, OUTPUT_BUFFERS_AT),
-        header_word(im, MESSAGE_BUFFERS_AT),
-        header_word(im, PORTS_AT),
-        header_word(im, SEGMENT_TABLE_AT),
-        header_word(im, SEGMENTS_AT),
+        TASK_TABLE_AT,
+        READY_QUEUE_AT,
+        STATUS_TABLE_AT,
+        INPUT_BUFFERS_AT,
+        OUTPUT_BUFFERS_AT,
+        MESSAGE_BUFFERS_AT,
+        PORTS_AT,
+        SEGMENT_TABLE_AT,
+        SEGMENTS_AT,
     ]
+    .map(|k| header_word(im, k))
 }
 
 // The shape that the header gives.
 pub fn shape_of(im: &[u16]) -> Shape
     ensures { result ≡ shape_given im.now }
 {
-    let words = rest(header_word(im, TOTAL_AT), header_word(im, SEGMENTS_AT));
-    let starts = starts_of(im);
     Shape {
         n: header_word(im, TASKS_AT),
         slice: word_or_zero(im, SLICE_AT),
         ci: header_word(im, CI_AT),
         co: header_word(im, CO_AT),
         cm: header_word(im, CM_AT),
-        starts: starts,
-        words: words,
+        starts: starts_of(im),
+        words: header_word(im, TOTAL_AT).saturating_sub(header_word(im, SEGMENTS_AT)),
     }
 }
 
@@ -84,20 +69,18 @@ pub fn shape_of(im: &[u16]) -> Shape
 fn within(lo: usize, hi: usize, x: usize) -> bool
     ensures { result ≡ is_within lo hi x }
 {
-    both(lo <= x, x <= hi)
+    (lo <= x) & (x <= hi)
 }
 
 // Whether N, S or a capacity is out of range.
 pub fn out_of_range(s: Shape) -> bool
     ensures { result ≡ is_out_of_range s }
 {
-    let few = both(
-        within(1, MOST_TASKS, s.n),
-        within(1, MOST_SLICE, wide(s.slice)),
-    );
-    let inputs = both(few, within(1, MOST_CAPACITY, s.ci));
-    let outputs = both(inputs, within(1, MOST_CAPACITY, s.co));
-    !both(outputs, within(1, MOST_CAPACITY, s.cm))
+    !(within(1, MOST_TASKS, s.n)
+        & within(1, MOST_SLICE, usize::from(s.slice))
+        & within(1, MOST_CAPACITY, s.ci)
+        & within(1, MOST_CAPACITY, s.co)
+        & within(1, MOST_CAPACITY, s.cm))
 }
 
 // Where a part that starts at a place ends.
@@ -128,27 +111,12 @@ pub fn offsets(s: Shape) -> [usize; OFFSETS]
     ]
 }
 
-// Whether nine numbers are the same as nine others.
-fn same(a: [usize; OFFSETS], b: [usize; OFFSETS]) -> bool
-    ensures { result ≡ every 9 (λ k. eqb (get_or a k 0) (get_or b k 0)) }
-{
-    let mut k = 0;
-    while k < OFFSETS {
-        if a[k] != b[k] {
-            return false;
-        }
-        k += 1;
-    }
-    true
-}
-
 // Whether an offset is not the packed one.
 pub fn not_packed(s: Shape) -> bool
     requires { Ranged s }
     ensures { result ≡ is_not_packed s }
 {
-    let starts = s.starts;
-    !same(starts, offsets(s))
+    s.starts != offsets(s)
 }
 
 // A word of the entry of task i in the segment table.
@@ -162,8 +130,8 @@ fn entry_word(s: Shape, im: &[u16], i: Task, column: usize) -> u16
         im,
         Cell {
             part: Part::SegmentTable,
-            row: i.0 as usize,
-            column: column,
+            row: usize::from(i.0),
+            column,
         },
     )
 }
@@ -175,9 +143,9 @@ fn segment_right(s: Shape, im: &[u16], i: Task, start: Place) -> bool
     requires start_value { start.0 ≡ segment_start s im.now i.0 }
     ensures { result ≡ is_segment_right s im.now i }
 {
-    let base = wide(entry_word(s, im, i, BASE));
+    let base = usize::from(entry_word(s, im, i, BASE));
     let length = entry_word(s, im, i, LENGTH);
-    both(base == start.0, 1 <= length)
+    base == start.0 && 1 <= length
 }
 
 // Whether the segments follow one another in task order, and the last ends at T.
@@ -186,13 +154,12 @@ fn segments_right(s: Shape, im: &[u16]) -> bool
     ensures { result ≡ (every_task s (is_segment_right s im.now) && eqb (segment_start s im.now s.n) (total s)) }
 {
     let mut end = start_of(s, Part::Segments);
-    let mut i = Task(0);
-    while wide(i.0) < s.n {
+    for k in 0..s.n {
+        let i = Task(k as u16);
         if !segment_right(s, im, i, end) {
             return false;
         }
-        end = Place(end.0 + wide(entry_word(s, im, i, LENGTH)));
-        i = Task(i.0 + 1);
+        end = Place(end.0 + usize::from(entry_word(s, im, i, LENGTH)));
     }
     end.0 == im.len()
 }

@@ -1,18 +1,13 @@
 -- Cells and the places where they lie. Assumes nothing.
 use mathlib.Core.Path.{◌≡◌, ap}
 use mathlib.Core.List.{List}
-use Prim.Native.Nat.{ℕ, ◌+◌, ◌*◌, ◌<◌}
-use native.Mathlib.Nat.{mul-le-mul_right, le_of_lt}
+use Prim.Native.Nat.{ℕ, ◌<◌}
 use native.Mathlib.Omega.{arith}
 use lib.ListN.{length}
 use Rattle.paper.specs.Image.{Valid, word, place, at}
-use Rattle.paper.specs.Queues.{Has}
-use Rattle.paper.specs.Rules.{Fit}
-use Rattle.paper.specs.declared.Task.{Task}
 use Rattle.paper.specs.declared.Place.{Place}
 use Rattle.paper.specs.declared.Shape.{Shape}
 use Rattle.paper.specs.declared.Cell.{Cell}
-use Rattle.paper.specs.declared.Queue.{Queue}
 use Rattle.laws.specs.Places.{below}
 use Rattle.laws.specs.Sound.{Sized, sized_words}
 
@@ -24,10 +19,3 @@ module _ (s : Shape) (im : List ℕ) (c : Cell) (p : Place) (e : p ≡ place s c
   pub cell_word : (r : ℕ) → r ≡ word im p → r ≡ at s im c
   unfolding at
   cell_word r er = rw (er, e)
-
--- the row of a message buffer is a small number
-pub pair_small : (s : Shape) (q : Queue) {i j : Task} → q ≡ Queue.Message i j → Fit s → Has s q → i.0 * s.n + j.0 < 272
-pair_small s q {i} {j} e fit h =
-    let g : (i.0 < s.n) × (j.0 < s.n) = rw e at h in
-    let most = fit.tasks.1 in
-    omega (arith, mul-le-mul_right s.n (le_of_lt g.0), mul-le-mul_right s.n most)

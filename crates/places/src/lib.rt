@@ -13,31 +13,24 @@ use paper::{
     STATUS_TABLE, STATUS_WORDS, Shape, TASK_TABLE, TASK_WORDS,
 };
 
-// A word as a number of any size.
-pub fn wide(x: u16) -> usize
-    ensures { result ≡ x }
-{
-    x as usize
-}
-
 // Where a part starts: the header's offset becomes a place.
 pub fn start_of(s: Shape, p: Part) -> Place
     requires { Fit s }
     ensures { result.0 ≡ start s p }
 {
-    let starts = s.starts;
-    match p {
-        Part::Header => Place(0),
-        Part::TaskTable => Place(starts[TASK_TABLE]),
-        Part::ReadyQueue => Place(starts[READY_QUEUE]),
-        Part::StatusTable => Place(starts[STATUS_TABLE]),
-        Part::InputBuffers => Place(starts[INPUT_BUFFERS]),
-        Part::OutputBuffers => Place(starts[OUTPUT_BUFFERS]),
-        Part::MessageBuffers => Place(starts[MESSAGE_BUFFERS]),
-        Part::Ports => Place(starts[PORTS]),
-        Part::SegmentTable => Place(starts[SEGMENT_TABLE]),
-        Part::Segments => Place(starts[SEGMENTS]),
-    }
+    let start = match p {
+        Part::Header => 0,
+        Part::TaskTable => s.starts[TASK_TABLE],
+        Part::ReadyQueue => s.starts[READY_QUEUE],
+        Part::StatusTable => s.starts[STATUS_TABLE],
+        Part::InputBuffers => s.starts[INPUT_BUFFERS],
+        Part::OutputBuffers => s.starts[OUTPUT_BUFFERS],
+        Part::MessageBuffers => s.starts[MESSAGE_BUFFERS],
+        Part::Ports => s.starts[PORTS],
+        Part::SegmentTable => s.starts[SEGMENT_TABLE],
+        Part::Segments => s.starts[SEGMENTS],
+    };
+    Place(start)
 }
 
 // How many words a row of a part has.
@@ -74,8 +67,7 @@ pub fn load(im: &[u16], p: Place) -> u16
     requires { p.0 < length im.now }
     ensures { result ≡ word im.now p }
 {
-    let at = p.0;
-    im[at]
+    im[p.0]
 }
 
 // Writes the word at a place.
@@ -83,8 +75,7 @@ pub fn store(im: &mut [u16], p: Place, v: u16)
     requires { p.0 < length im.old }
     ensures { im.new ≡ set im.old p.0 v }
 {
-    let at = p.0;
-    im[at] = v;
+    im[p.0] = v;
 }
 
 // The word of a cell.
@@ -102,26 +93,18 @@ pub fn head_of(s: Shape, q: Queue) -> Cell
     requires has { Has s q }
     ensures { result ≡ head s q }
 {
-    match q {
-        Queue::Ready => Cell {
-            part: Part::ReadyQueue,
-            row: 0,
-            column: HEAD,
-        },
-        Queue::Input(t) => Cell {
-            part: Part::InputBuffers,
-            row: t.0 as usize,
-            column: HEAD,
-        },
-        Queue::Output(t) => Cell {
-            part: Part::OutputBuffers,
-            row: t.0 as usize,
-            column: HEAD,
-        },
-        Queue::Message(i, j) => Cell {
-            part: Part::MessageBuffers,
-            row: i.0 as usize * s.n + j.0 as usize,
-            column: HEAD,
-        },
+    let (part, row) = match q {
+        Queue::Ready => (Part::ReadyQueue, 0),
+        Queue::Input(t) => (Part::InputBuffers, usize::from(t.0)),
+        Queue::Output(t) => (Part::OutputBuffers, usize::from(t.0)),
+        Queue::Message(i, j) => (
+            Part::MessageBuffers,
+            usize::from(i.0) * s.n + usize::from(j.0),
+        ),
+    };
+    Cell {
+        part,
+        row,
+        column: HEAD,
     }
 }

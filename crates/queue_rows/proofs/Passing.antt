@@ -63,6 +63,10 @@ module _ (im : List ℕ) (from end : Place) (given : ℕ) (messages : Place) whe
         let one = every_more 0 (λ j. row_fine im (row_at at given j) given messages) (every_none _) (rw here right) in
         passed_both at _ p record { k = 1; here = omega arith; right = one; left = rows_after at end given p.left l }
 
+  -- past all rows is the end
+  pub passed_last : (at : Place) → RightUpTo im from end given messages at → end.0 ≤ at.0 → RightUpTo im from end given messages end
+  passed_last at p l = let e : end.0 ≡ at.0 = omega (arith, p.left.ends, l) in record { k = p.k; here = e ∙ p.here; right = p.right; left = record { rows = 0; ends = omega arith } }
+
   -- all rows, or one that is wrong
   module _ (at : Place) (p : RightUpTo im from end given messages at) where
     upto : (rows : ℕ) → end.0 ≡ (row_at from given rows).0 → p.k ≤ rows

@@ -192,34 +192,30 @@ gathered_typed im p given typed small r g n =
     let low = gathers_low im small (p.0 + lead) given r g in
     (λ e _ k l. omega (arith, low.0 (eqb-true _ 0 e) k l), λ f. eq-eqb _ 0 (low.1 (λ k l. omega (arith, f n k l))))
 
--- words below m, one after another: the next is in a slot, so many are left
-pub record Below (im : List ℕ) (first given from count m slot left : ℕ) : Type 0 where
-  pub done : ℕ
+-- words below m, one after another: so many are done, and the next is in a slot
+pub record Below (im : List ℕ) (first given from m slot done : ℕ) : Type 0 where
   pub here : slot ≡ steps from done given
-  pub rest : left + done ≡ count
   pub so_far : every done (λ i. ltb (get_or im (first + steps from i given) 0) m) ≡ true
 
-module _ (im : List ℕ) (first given from count m : ℕ) (start : from < given) where
-  pub below_none : Below im first given from count m from count
-  below_none = record { done = 0; here = refl; rest = omega arith; so_far = every_none _ }
+module _ (im : List ℕ) (first given from m : ℕ) (start : from < given) where
+  pub below_none : Below im first given from m from 0
+  below_none = record { here = refl; so_far = every_none _ }
 
-  module _ (slot left : ℕ) (b : Below im first given from count m slot left) where
+  module _ (slot done : ℕ) (b : Below im first given from m slot done) where
     pub slot_in : slot < given
-    slot_in = rw b.here (steps_below from b.done given start)
+    slot_in = rw b.here (steps_below from done given start)
 
-    pub below_wrong : (w v : ℕ) → 0 < left → w ≡ v → v ≡ get_or im (first + slot) 0 → m ≤ w → false ≡ every count (λ i. ltb (get_or im (first + steps from i given) 0) m)
-    below_wrong w v some ew ev high =
-        sym (every_fails count b.done _ (omega (arith, b.rest)) (le-ltb _ m (rw (← b.here) (omega (arith, ew, ev)))))
+    pub below_wrong : (count w v : ℕ) → done < count → w ≡ v → v ≡ get_or im (first + slot) 0 → m ≤ w → false ≡ every count (λ i. ltb (get_or im (first + steps from i given) 0) m)
+    below_wrong count w v some ew ev high =
+        sym (every_fails count done _ some (le-ltb _ m (rw (← b.here) (omega (arith, ew, ev)))))
 
-    pub below_more : (w v next : ℕ) → 0 < left → w ≡ v → v ≡ get_or im (first + slot) 0 → w < m → next ≡ (slot + 1) % given
-        → Below im first given from count m next (left - 1)
-    below_more w v next some ew ev low en =
+    pub below_more : (w v next : ℕ) → w ≡ v → v ≡ get_or im (first + slot) 0 → w < m → next ≡ (slot + 1) % given
+        → Below im first given from m next (done + 1)
+    below_more w v next ew ev low en =
         record {
-          done = b.done + 1;
-          here = en ∙ sym (step_mod slot given slot_in) ∙ ap (λ (x : ℕ). step x given) b.here ∙ sym (steps_on from b.done given) ∙ ap (λ (x : ℕ). steps from x given) (sym (add-one b.done));
-          rest = omega (arith, b.rest);
-          so_far = every_more b.done _ b.so_far (lt-ltb _ m (rw (← b.here) (omega (arith, ew, ev))));
+          here = en ∙ sym (step_mod slot given slot_in) ∙ ap (λ (x : ℕ). step x given) b.here ∙ sym (steps_on from done given) ∙ ap (λ (x : ℕ). steps from x given) (sym (add-one done));
+          so_far = every_more done _ b.so_far (lt-ltb _ m (rw (← b.here) (omega (arith, ew, ev))));
         }
 
-    pub below_done : left ≤ 0 → true ≡ every count (λ i. ltb (get_or im (first + steps from i given) 0) m)
-    below_done none = sym (every_done count b.done _ b.so_far (omega (arith, b.rest)) (omega (arith, b.rest)))
+    pub below_done : (count : ℕ) → count ≤ done → done ≤ count → true ≡ every count (λ i. ltb (get_or im (first + steps from i given) 0) m)
+    below_done count over under = sym (every_done count done _ b.so_far over under)

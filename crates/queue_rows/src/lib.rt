@@ -8,10 +8,8 @@ ghost use Rattle.paper.specs.declared.Place.{Place};
 ghost use Rattle.four_words.specs.FourWords.{Marks};
 ghost use Rattle.queue_rows.specs.BufferRows.{leads, row_queued, row_words_below, row_cleared, row_typed, SlotsTyped, row_right as is_right, Unused, RowsBetween, RightUpTo, AllRight};
 
-use connectives::either;
 use four_words::{MARKS, SIXTEEN, all_bits, four, mark, sixteen_free, slots_clear};
 use paper::{CAPACITY, COUNT, LEAD_WORDS, MOST_CAPACITY, MOST_CHARACTER, Place, TAIL, WORD_END};
-use places::wide;
 
 // Words of free slots are below this.
 pub const ABOVE_ZERO: usize = 1;
@@ -37,10 +35,10 @@ pub fn wrapped(slots: usize, capacity: usize) -> usize
 pub fn leads_right(given: usize, head: u16, tail: u16, count: u16, capacity: u16) -> bool
     ensures { result ≡ leads given head tail count capacity }
 {
-    let first = wide(head);
-    let end = wide(tail);
-    let words = wide(count);
-    if wide(capacity) != given {
+    let first = usize::from(head);
+    let end = usize::from(tail);
+    let words = usize::from(count);
+    if usize::from(capacity) != given {
         return false;
     }
     if given <= first {
@@ -52,7 +50,7 @@ pub fn leads_right(given: usize, head: u16, tail: u16, count: u16, capacity: u16
     if given < words {
         return false;
     }
-    either(first + words == end, first + words == end + given)
+    (first + words == end) | (first + words == end + given)
 }
 
 // Whether the row at a place is a queue of the capacity given, whatever its slots hold.
@@ -90,15 +88,12 @@ fn first_used(im: &[u16], from: Place, end: Place, given: usize) -> Place
     requires end_in_bounds { (end.0 ≤ length im.now) × (length im.now ≤ most_words) }
     ensures { (messages : Place) → RightUpTo im.now from end given messages result }
 {
-    let width = LEAD_WORDS + given;
-    let mut at = from;
-    while at.0 < end.0 {
-        if !row_unused(im, at, given) {
-            return at;
+    for at in (from.0..end.0).step_by(LEAD_WORDS + given) {
+        if !row_unused(im, Place(at), given) {
+            return Place(at);
         }
-        at = Place(at.0 + width);
     }
-    at
+    end
 }
 
 // Whether so many words of the row at a place are below m, from a slot on.
@@ -109,13 +104,11 @@ pub fn slots_below(im: &[u16], p: Place, given: usize, from: usize, count: usize
 {
     let first = p.0 + LEAD_WORDS;
     let mut slot = from;
-    let mut left = count;
-    while 0 < left {
-        if m <= wide(im[first + slot]) {
+    for _ in 0..count {
+        if m <= usize::from(im[first + slot]) {
             return false;
         }
         slot = wrapped(slot + 1, given);
-        left -= 1;
     }
     true
 }
@@ -131,7 +124,14 @@ fn words_typed(im: &[u16], p: Place, given: usize, typed: bool) -> bool
         return true;
     }
     let at = p.0;
-    slots_below(im, p, given, wide(im[at]), wide(im[at + COUNT]), CHARACTERS)
+    slots_below(
+        im,
+        p,
+        given,
+        usize::from(im[at]),
+        usize::from(im[at + COUNT]),
+        CHARACTERS,
+    )
 }
 
 // Whether the free slots of a row are 0.
@@ -142,8 +142,8 @@ fn free_zeros(im: &[u16], p: Place, given: usize) -> bool
     ensures { result ≡ row_cleared im.now p given }
 {
     let at = p.0;
-    let free = given - wide(im[at + COUNT]);
-    slots_below(im, p, given, wide(im[at + TAIL]), free, ABOVE_ZERO)
+    let free = given - usize::from(im[at + COUNT]);
+    slots_below(im, p, given, usize::from(im[at + TAIL]), free, ABOVE_ZERO)
 }
 
 // Whether the row at a place is right; where it is typed, its words are characters.
@@ -171,8 +171,8 @@ fn free_clear(im: &[u16], p: Place, given: usize, marks: &[u16; MARKS]) -> bool
 {
     let at = p.0;
     let first = at + LEAD_WORDS;
-    let b = MOST_CAPACITY - wide(im[at]);
-    let a = b + given - wide(im[at + COUNT]);
+    let b = MOST_CAPACITY - usize::from(im[at]);
+    let a = b + given - usize::from(im[at + COUNT]);
     let last = given - SIXTEEN;
     let bits = sixteen_free(im, first, marks, a, b)
         | sixteen_free(im, first + last, marks, a + last, b + last);
@@ -206,7 +206,7 @@ fn long_right(im: &[u16], p: Place, given: usize, typed: bool, marks: &[u16; MAR
         return false;
     }
     let at = p.0;
-    if wide(im[at + COUNT]) == given {
+    if usize::from(im[at + COUNT]) == given {
         return true;
     }
     free_clear(im, p, given, marks)
@@ -220,10 +220,8 @@ fn next_used(im: &[u16], from: Place, end: Place, given: usize) -> Place
     ensures { (messages : Place) → RightUpTo im.now from end given messages result }
 {
     let at = from.0;
-    if at < end.0 {
-        if im[at + COUNT] != 0 {
-            return from;
-        }
+    if at < end.0 && im[at + COUNT] != 0 {
+        return from;
     }
     first_used(im, from, end, given)
 }
@@ -245,6 +243,7 @@ fn marked_rows(
 {
     let width = LEAD_WORDS + given;
     let mut at = from;
+    // The next row is where `next_used` tells, any number of rows on.
     while at.0 < end.0 {
         if !long_right(im, at, given, at.0 < messages.0, marks) {
             return false;
@@ -274,13 +273,10 @@ fn short_rows(im: &[u16], from: Place, end: Place, given: usize, messages: Place
     requires end_in_bounds { (end.0 ≤ length im.now) × (length im.now ≤ most_words) }
     ensures { AllRight im.now from end given messages result }
 {
-    let width = LEAD_WORDS + given;
-    let mut at = from;
-    while at.0 < end.0 {
-        if !row_right(im, at, given, at.0 < messages.0) {
+    for at in (from.0..end.0).step_by(LEAD_WORDS + given) {
+        if !row_right(im, Place(at), given, at < messages.0) {
             return false;
         }
-        at = Place(at.0 + width);
     }
     true
 }

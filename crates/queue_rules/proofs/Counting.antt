@@ -82,8 +82,8 @@ module _ (s : Shape) (im : List ℕ) (z : Sized s im) (ok : queued s im Queue.Re
         rw (next_step s im Queue.Ready ok a inside s.n b refl eb, en)
         (found_more found n t some low small _ _ _ (sym (et ∙ ev)) (rw (held_next s im Queue.Ready a n some) at f))
 
-    pub next_small : (found : List ℕ) (t : ℕ) → t < s.n → Small found n → Small (set found t (get_or found t 0 + 1)) (n - 1)
-    next_small found t l small = small_more found n t some (omega (arith, sized_few s im z)) small
+    pub next_small : (found : List ℕ) (t n' : ℕ) → t < s.n → n' ≡ n - 1 → Small found n → Small (set found t (get_or found t 0 + 1)) n'
+    next_small found t n' l en small = rw en (small_more found n t some (omega (arith, sized_few s im z)) small)
 
 pub found_all : (s : Shape) (im found : List ℕ) (a n : ℕ) → n ≤ 0 → FoundSoFar found (words_from s im Queue.Ready a n) (held s im Queue.Ready)
     → AllFound found (held s im Queue.Ready)

@@ -9,9 +9,8 @@ ghost use Rattle.paper.specs.declared.Queue.TheVariants.{Ready};
 ghost use Rattle.laws.specs.Sound.{Sized};
 ghost use Rattle.queue_rules.specs.ReadyCounts.{NoneFound, AllFound};
 
-use connectives::both;
 use paper::{CAPACITY, COUNT, Cell, HEAD, LEAD_WORDS, MOST_TASKS, Part, Queue, Shape, TAIL};
-use places::{head_of, place_of, start_of, wide, word_of};
+use places::{head_of, place_of, start_of, word_of};
 use queue_rows::{ABOVE_ZERO, leads_right, row_right, rows_right, slots_below, wrapped};
 
 // The capacity that the header gives a queue.
@@ -33,15 +32,12 @@ pub fn queue_word(s: Shape, im: &[u16], q: Queue, k: usize) -> u16
     requires k_bound { k < lead + header_capacity s q }
     ensures { result ≡ word_at s im.now (queue_word s q k) }
 {
-    let c = head_of(s, q);
-    let part = c.part;
     word_of(
         s,
         im,
         Cell {
-            part: part,
-            row: c.row,
             column: k,
+            ..head_of(s, q)
         },
     )
 }
@@ -78,8 +74,8 @@ pub fn held_below(s: Shape, im: &[u16], q: Queue, m: usize) -> bool
     requires q_value { is_queued s im.now q ≡ true }
     ensures { result ≡ all_below m (held s im.now q) }
 {
-    let head = wide(queue_word(s, im, q, HEAD));
-    let count = wide(queue_word(s, im, q, COUNT));
+    let head = usize::from(queue_word(s, im, q, HEAD));
+    let count = usize::from(queue_word(s, im, q, COUNT));
     words_below(s, im, q, head, count, m)
 }
 
@@ -90,8 +86,8 @@ pub fn cleared(s: Shape, im: &[u16], q: Queue) -> bool
     requires q_value { is_queued s im.now q ≡ true }
     ensures { result ≡ is_cleared s im.now q }
 {
-    let tail = wide(queue_word(s, im, q, TAIL));
-    let count = wide(queue_word(s, im, q, COUNT));
+    let tail = usize::from(queue_word(s, im, q, TAIL));
+    let count = usize::from(queue_word(s, im, q, COUNT));
     words_below(s, im, q, tail, capacity_of(s, q) - count, ABOVE_ZERO)
 }
 
@@ -103,16 +99,15 @@ pub fn count_ready(s: Shape, im: &[u16], found: &mut [u8; MOST_TASKS]) -> bool
     ensures value { result ≡ all_below s.n (held s im.now Ready) }
     ensures all_found { result ≡ true → AllFound found.new (held s im.now Ready) }
 {
-    let mut slot = wide(queue_word(s, im, Queue::Ready, HEAD));
-    let mut left = queue_word(s, im, Queue::Ready, COUNT);
-    while 0 < left {
-        let task = wide(queue_word(s, im, Queue::Ready, LEAD_WORDS + slot));
+    let mut slot = usize::from(queue_word(s, im, Queue::Ready, HEAD));
+    let count = queue_word(s, im, Queue::Ready, COUNT);
+    for _ in 0..count {
+        let task = usize::from(queue_word(s, im, Queue::Ready, LEAD_WORDS + slot));
         if s.n <= task {
             return false;
         }
         found[task] += 1;
         slot = wrapped(slot + 1, s.n);
-        left -= 1;
     }
     true
 }
@@ -134,7 +129,7 @@ pub fn buffers_hold(s: Shape, im: &[u16]) -> bool
     let outputs = start_of(s, Part::OutputBuffers);
     let messages = start_of(s, Part::MessageBuffers);
     let end = start_of(s, Part::Ports);
-    if both(s.ci == s.cm, s.co == s.cm) {
+    if s.ci == s.cm && s.co == s.cm {
         return rows_right(im, inputs, end, s.cm, messages);
     }
     if !rows_right(im, inputs, outputs, s.ci, messages) {

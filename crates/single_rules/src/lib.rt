@@ -11,7 +11,6 @@ ghost use Rattle.paper.specs.Rules.{Fit};
 ghost use Rattle.laws.specs.Sound.{Sized};
 ghost use Rattle.single_rules.specs.Each.{clock_within, clock_idle, kind, queues, subjects, queue, holds as does_hold};
 
-use connectives::implies;
 use of_queues::{
     ends_inside, has_capacity, holds_characters, holds_tasks, length_inside, slots_cleared,
     tail_right,
@@ -63,27 +62,26 @@ pub fn kind_of(rule: Rule) -> Kind
     ensures { result ≡ kind rule }
 {
     match rule {
-        Rule::Flags => Kind::Task,
-        Rule::Both => Kind::Task,
-        Rule::Status => Kind::Task,
-        Rule::Capacity => Kind::Queue,
-        Rule::HeadTail => Kind::Queue,
-        Rule::Length => Kind::Queue,
-        Rule::Round => Kind::Queue,
-        Rule::Characters => Kind::Queue,
-        Rule::Tasks => Kind::Queue,
-        Rule::Readied => Kind::Task,
-        Rule::ClockRange => Kind::Clock,
-        Rule::ClockIdle => Kind::Clock,
-        Rule::Port => Kind::Task,
-        Rule::IdlePort => Kind::Task,
-        Rule::Sends => Kind::Task,
-        Rule::Receives => Kind::Task,
-        Rule::Inputs => Kind::Task,
-        Rule::Outputs => Kind::Task,
-        Rule::Stopped => Kind::Task,
-        Rule::Peerless => Kind::Task,
-        Rule::FreeSlots => Kind::Queue,
+        Rule::Capacity
+        | Rule::HeadTail
+        | Rule::Length
+        | Rule::Round
+        | Rule::Characters
+        | Rule::Tasks
+        | Rule::FreeSlots => Kind::Queue,
+        Rule::ClockRange | Rule::ClockIdle => Kind::Clock,
+        Rule::Flags
+        | Rule::Both
+        | Rule::Status
+        | Rule::Readied
+        | Rule::Port
+        | Rule::IdlePort
+        | Rule::Sends
+        | Rule::Receives
+        | Rule::Inputs
+        | Rule::Outputs
+        | Rule::Stopped
+        | Rule::Peerless => Kind::Task,
     }
 }
 
@@ -139,7 +137,7 @@ fn clock_rests(s: Shape, im: &[u16]) -> bool
     requires { Sized s im.now }
     ensures { result ≡ clock_idle s im.now }
 {
-    implies(is_empty(s, im, Queue::Ready), clock_of(s, im) == 0)
+    !is_empty(s, im, Queue::Ready) | (clock_of(s, im) == 0)
 }
 
 // Whether a rule holds of task k, of queue k or of the clock, whichever it is of.

@@ -4,9 +4,7 @@ ghost use Rattle.paper.specs.Queues.{Has};
 ghost use Rattle.laws.specs.Sound.{Sized};
 ghost use Rattle.single_rules.specs.Each.{headers_own, ends_below, length_within, round, below, only_characters, only_tasks, free_zeros};
 
-use connectives::both;
 use paper::{CAPACITY, COUNT, HEAD, Queue, Shape, TAIL};
-use places::wide;
 use queue_rows::CHARACTERS;
 use queue_rules::{capacity_of, cleared, held_below, queue_word, queued};
 
@@ -16,7 +14,7 @@ pub fn has_capacity(s: Shape, im: &[u16], q: Queue) -> bool
     requires has { Has s q }
     ensures { result ≡ headers_own s im.now q }
 {
-    wide(queue_word(s, im, q, CAPACITY)) == capacity_of(s, q)
+    usize::from(queue_word(s, im, q, CAPACITY)) == capacity_of(s, q)
 }
 
 // Whether head and tail are below the capacity.
@@ -26,10 +24,8 @@ pub fn ends_inside(s: Shape, im: &[u16], q: Queue) -> bool
     ensures { result ≡ ends_below s im.now q }
 {
     let capacity = capacity_of(s, q);
-    both(
-        wide(queue_word(s, im, q, HEAD)) < capacity,
-        wide(queue_word(s, im, q, TAIL)) < capacity,
-    )
+    (usize::from(queue_word(s, im, q, HEAD)) < capacity)
+        & (usize::from(queue_word(s, im, q, TAIL)) < capacity)
 }
 
 // Whether the length is at most the capacity.
@@ -38,7 +34,7 @@ pub fn length_inside(s: Shape, im: &[u16], q: Queue) -> bool
     requires has { Has s q }
     ensures { result ≡ length_within s im.now q }
 {
-    wide(queue_word(s, im, q, COUNT)) <= capacity_of(s, q)
+    usize::from(queue_word(s, im, q, COUNT)) <= capacity_of(s, q)
 }
 
 // Whether the tail is where head and length lead.
@@ -47,9 +43,9 @@ pub fn tail_right(s: Shape, im: &[u16], q: Queue) -> bool
     requires has { Has s q }
     ensures { result ≡ round s im.now q }
 {
-    let head = wide(queue_word(s, im, q, HEAD));
-    let count = wide(queue_word(s, im, q, COUNT));
-    (head + count) % capacity_of(s, q) == wide(queue_word(s, im, q, TAIL))
+    let head = usize::from(queue_word(s, im, q, HEAD));
+    let count = usize::from(queue_word(s, im, q, COUNT));
+    (head + count) % capacity_of(s, q) == usize::from(queue_word(s, im, q, TAIL))
 }
 
 // Whether each word that a queue holds is below m, where it obeys the rules of queues.
@@ -58,10 +54,7 @@ fn queued_below(s: Shape, im: &[u16], q: Queue, m: usize) -> bool
     requires has { Has s q }
     ensures { result ≡ below s im.now q m }
 {
-    if !queued(s, im, q) {
-        return true;
-    }
-    held_below(s, im, q, m)
+    !queued(s, im, q) || held_below(s, im, q, m)
 }
 
 // Whether an input or output buffer holds characters alone.
@@ -71,10 +64,8 @@ pub fn holds_characters(s: Shape, im: &[u16], q: Queue) -> bool
     ensures { result ≡ only_characters s im.now q }
 {
     match q {
-        Queue::Ready => true,
-        Queue::Input(_) => queued_below(s, im, q, CHARACTERS),
-        Queue::Output(_) => queued_below(s, im, q, CHARACTERS),
-        Queue::Message(_, _) => true,
+        Queue::Input(_) | Queue::Output(_) => queued_below(s, im, q, CHARACTERS),
+        Queue::Ready | Queue::Message(_, _) => true,
     }
 }
 
@@ -86,9 +77,7 @@ pub fn holds_tasks(s: Shape, im: &[u16], q: Queue) -> bool
 {
     match q {
         Queue::Ready => queued_below(s, im, q, s.n),
-        Queue::Input(_) => true,
-        Queue::Output(_) => true,
-        Queue::Message(_, _) => true,
+        Queue::Input(_) | Queue::Output(_) | Queue::Message(_, _) => true,
     }
 }
 
@@ -98,8 +87,5 @@ pub fn slots_cleared(s: Shape, im: &[u16], q: Queue) -> bool
     requires has { Has s q }
     ensures { result ≡ free_zeros s im.now q }
 {
-    if !queued(s, im, q) {
-        return true;
-    }
-    cleared(s, im, q)
+    !queued(s, im, q) || cleared(s, im, q)
 }

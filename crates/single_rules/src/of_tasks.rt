@@ -4,7 +4,6 @@ ghost use Rattle.paper.specs.declared.Service.TheVariants.{Send, Receive, Input,
 ghost use Rattle.laws.specs.Sound.{Sized};
 ghost use Rattle.single_rules.specs.Each.{fields_within, one_at_most, known, once_if_ready, port_within, port_idle, stands, stopped, no_peer};
 
-use connectives::{both, either, implies};
 use paper::{
     BUSY, IDLE, MOST_CHARACTER, MOST_TASKS, NO_ERROR, NO_PEER, Queue, STOPPED, Shape, Task,
     WAITS_FOR_INPUT, WAITS_FOR_OUTPUT, WAITS_TO_RECEIVE, WAITS_TO_SEND,
@@ -64,10 +63,7 @@ pub fn port_ranged(s: Shape, im: &[u16], i: Task) -> bool
     requires i_lt_n { i.0 < s.n }
     ensures { result ≡ port_within s im.now i }
 {
-    both(
-        busy(s, im, i) <= BUSY,
-        character(s, im, i) <= MOST_CHARACTER,
-    )
+    (busy(s, im, i) <= BUSY) & (character(s, im, i) <= MOST_CHARACTER)
 }
 
 // Whether a port that is idle has the character 0, and its output buffer is empty.
@@ -76,8 +72,8 @@ pub fn port_rests(s: Shape, im: &[u16], i: Task) -> bool
     requires i_lt_n { i.0 < s.n }
     ensures { result ≡ port_idle s im.now i }
 {
-    let rests = both(character(s, im, i) == 0, is_empty(s, im, Queue::Output(i)));
-    implies(busy(s, im, i) == IDLE, rests)
+    let rests = (character(s, im, i) == 0) & is_empty(s, im, Queue::Output(i));
+    (busy(s, im, i) != IDLE) | rests
 }
 
 // Whether a task that waits to send stands so.
@@ -86,7 +82,7 @@ pub fn stands_to_send(s: Shape, im: &[u16], i: Task) -> bool
     requires i_lt_n { i.0 < s.n }
     ensures { result ≡ stands Send s im.now i }
 {
-    implies(status(s, im, i) == WAITS_TO_SEND, may_send(s, im, i))
+    (status(s, im, i) != WAITS_TO_SEND) | may_send(s, im, i)
 }
 
 // Whether a task that waits to receive stands so.
@@ -95,7 +91,7 @@ pub fn stands_to_receive(s: Shape, im: &[u16], i: Task) -> bool
     requires i_lt_n { i.0 < s.n }
     ensures { result ≡ stands Receive s im.now i }
 {
-    implies(status(s, im, i) == WAITS_TO_RECEIVE, may_receive(s, im, i))
+    (status(s, im, i) != WAITS_TO_RECEIVE) | may_receive(s, im, i)
 }
 
 // Whether a task that waits for input stands so.
@@ -104,7 +100,7 @@ pub fn stands_for_input(s: Shape, im: &[u16], i: Task) -> bool
     requires i_lt_n { i.0 < s.n }
     ensures { result ≡ stands Input s im.now i }
 {
-    implies(status(s, im, i) == WAITS_FOR_INPUT, may_input(s, im, i))
+    (status(s, im, i) != WAITS_FOR_INPUT) | may_input(s, im, i)
 }
 
 // Whether a task that waits for output stands so.
@@ -113,7 +109,7 @@ pub fn stands_for_output(s: Shape, im: &[u16], i: Task) -> bool
     requires i_lt_n { i.0 < s.n }
     ensures { result ≡ stands Output s im.now i }
 {
-    implies(status(s, im, i) == WAITS_FOR_OUTPUT, may_output(s, im, i))
+    (status(s, im, i) != WAITS_FOR_OUTPUT) | may_output(s, im, i)
 }
 
 // Whether a task that is stopped has an error.
@@ -122,7 +118,7 @@ pub fn stopped_by_error(s: Shape, im: &[u16], i: Task) -> bool
     requires i_lt_n { i.0 < s.n }
     ensures { result ≡ stopped s im.now i }
 {
-    implies(status(s, im, i) == STOPPED, error(s, im, i) != NO_ERROR)
+    (status(s, im, i) != STOPPED) | (error(s, im, i) != NO_ERROR)
 }
 
 // Whether a task that waits for no other has the peer 0.
@@ -132,6 +128,5 @@ pub fn peerless(s: Shape, im: &[u16], i: Task) -> bool
     ensures { result ≡ no_peer s im.now i }
 {
     let k = status(s, im, i);
-    let waits = either(k == WAITS_TO_SEND, k == WAITS_TO_RECEIVE);
-    either(waits, peer(s, im, i) == NO_PEER)
+    (k == WAITS_TO_SEND) | (k == WAITS_TO_RECEIVE) | (peer(s, im, i) == NO_PEER)
 }

@@ -2,7 +2,7 @@
 #![tactic(auto)]
 
 ghost use Rattle.std.specs.Prelude.{◌≡◌, ◌&&◌, ◌||◌, ◌<◌, eqb, leb, length};
-ghost use Rattle.paper.specs.Image.{at as word_at, reg as reg_cell, flags as flags_cell, status as status_cell, peer as peer_cell, busy as busy_cell, character as character_cell};
+ghost use Rattle.paper.specs.Image.{Valid, cell, at as word_at, reg as reg_cell, flags as flags_cell, status as status_cell, peer as peer_cell, busy as busy_cell, character as character_cell};
 ghost use Rattle.paper.specs.Queues.{Has, held, empty as empty_of, full as full_of};
 ghost use Rattle.paper.specs.Flags.{cc_of, error_of, pending_of, most_cc, most_error, error as error_of_task, pending as pending_of_task};
 ghost use Rattle.paper.specs.Services.{services};
@@ -12,15 +12,31 @@ ghost use Rattle.paper.specs.declared.Service.TheVariants.{Send, Receive, Input,
 ghost use Rattle.laws.specs.Sound.{Sized};
 ghost use Rattle.queue_rules.specs.ReadyCounts.{AllFound};
 
-use connectives::{both, either, implies};
 use paper::{
     ASK_INPUT, ASK_OUTPUT, BUSY, CAPACITY, CHARACTER, COUNT, Cell, ERROR, ERROR_END, FLAGS, IDLE,
     MOST_CC, MOST_CHARACTER, MOST_ERROR, MOST_SERVICE, MOST_TASKS, NO_ERROR, NO_PEER,
     NOTHING_PENDING, OTHER, PEER, PENDING, PORT, Part, Queue, READY, RECEIVE, SEND, STATUS,
     STOPPED, Shape, Task, WAITS_FOR_INPUT, WAITS_FOR_OUTPUT, WAITS_TO_RECEIVE, WAITS_TO_SEND, WORD,
 };
-use places::{wide, word_of};
+use places::word_of;
 use queue_rules::queue_word;
+
+// A word of task i's row in a table that has a row for each task.
+fn task_word(s: Shape, im: &[u16], part: Part, i: Task, column: usize) -> u16
+    requires sized { Sized s im.now }
+    requires valid { Valid s (cell part i.0 column) }
+    ensures { result ≡ word_at s im.now (cell part i.0 column) }
+{
+    word_of(
+        s,
+        im,
+        Cell {
+            part,
+            row: usize::from(i.0),
+            column,
+        },
+    )
+}
 
 // A register of task i.
 fn register(s: Shape, im: &[u16], i: Task, r: usize) -> u16
@@ -28,15 +44,7 @@ fn register(s: Shape, im: &[u16], i: Task, r: usize) -> u16
     requires i_lt_n { (i.0 < s.n) × (r < 8) }
     ensures { result ≡ word_at s im.now (reg_cell i r) }
 {
-    word_of(
-        s,
-        im,
-        Cell {
-            part: Part::TaskTable,
-            row: i.0 as usize,
-            column: r,
-        },
-    )
+    task_word(s, im, Part::TaskTable, i, r)
 }
 
 // The flags of task i.
@@ -45,15 +53,7 @@ pub fn flags(s: Shape, im: &[u16], i: Task) -> u16
     requires i_lt_n { i.0 < s.n }
     ensures { result ≡ word_at s im.now (flags_cell i) }
 {
-    word_of(
-        s,
-        im,
-        Cell {
-            part: Part::TaskTable,
-            row: i.0 as usize,
-            column: FLAGS,
-        },
-    )
+    task_word(s, im, Part::TaskTable, i, FLAGS)
 }
 
 // The error of task i.
@@ -80,15 +80,7 @@ pub fn status(s: Shape, im: &[u16], i: Task) -> u16
     requires i_lt_n { i.0 < s.n }
     ensures { result ≡ word_at s im.now (status_cell i) }
 {
-    word_of(
-        s,
-        im,
-        Cell {
-            part: Part::StatusTable,
-            row: i.0 as usize,
-            column: STATUS,
-        },
-    )
+    task_word(s, im, Part::StatusTable, i, STATUS)
 }
 
 // The peer of task i.
@@ -97,15 +89,7 @@ pub fn peer(s: Shape, im: &[u16], i: Task) -> u16
     requires i_lt_n { i.0 < s.n }
     ensures { result ≡ word_at s im.now (peer_cell i) }
 {
-    word_of(
-        s,
-        im,
-        Cell {
-            part: Part::StatusTable,
-            row: i.0 as usize,
-            column: PEER,
-        },
-    )
+    task_word(s, im, Part::StatusTable, i, PEER)
 }
 
 // Whether a queue is full.
@@ -133,8 +117,7 @@ pub fn readied_once(s: Shape, im: &[u16], i: Task, found: &[u8; MOST_TASKS]) -> 
     requires all_found { AllFound found.now (held s im.now Ready) }
     ensures { result ≡ is_readied_once s im.now i }
 {
-    let k = i.0 as usize;
-    let times = found[k];
+    let times = found[usize::from(i.0)];
     if status(s, im, i) == READY {
         return times == 1;
     }
@@ -147,15 +130,7 @@ pub fn busy(s: Shape, im: &[u16], i: Task) -> u16
     requires i_lt_n { i.0 < s.n }
     ensures { result ≡ word_at s im.now (busy_cell i) }
 {
-    word_of(
-        s,
-        im,
-        Cell {
-            part: Part::Ports,
-            row: i.0 as usize,
-            column: PORT,
-        },
-    )
+    task_word(s, im, Part::Ports, i, PORT)
 }
 
 // The character of the port of task i.
@@ -164,15 +139,7 @@ pub fn character(s: Shape, im: &[u16], i: Task) -> u16
     requires i_lt_n { i.0 < s.n }
     ensures { result ≡ word_at s im.now (character_cell i) }
 {
-    word_of(
-        s,
-        im,
-        Cell {
-            part: Part::Ports,
-            row: i.0 as usize,
-            column: CHARACTER,
-        },
-    )
+    task_word(s, im, Part::Ports, i, CHARACTER)
 }
 
 // Whether the port of task i obeys its rules.
@@ -183,29 +150,22 @@ pub fn port_holds(s: Shape, im: &[u16], i: Task) -> bool
 {
     let b = busy(s, im, i);
     let c = character(s, im, i);
-    let idle = both(c == 0, is_empty(s, im, Queue::Output(i)));
-    both(
-        both(b <= BUSY, c <= MOST_CHARACTER),
-        implies(b == IDLE, idle),
-    )
+    let idle = (c == 0) & is_empty(s, im, Queue::Output(i));
+    (b <= BUSY) & (c <= MOST_CHARACTER) & ((b != IDLE) | idle)
 }
 
 // Whether the three fields of flags are in their ranges.
 pub fn in_ranges(f: u16) -> bool
     ensures { result ≡ (leb (cc_of f) most_cc && leb (error_of f) most_error && leb (pending_of f) (length services)) }
 {
-    let low = both(f % ERROR <= MOST_CC, f / ERROR % ERROR_END <= MOST_ERROR);
-    both(low, f / PENDING <= MOST_SERVICE)
+    (f % ERROR <= MOST_CC) & (f / ERROR % ERROR_END <= MOST_ERROR) & (f / PENDING <= MOST_SERVICE)
 }
 
 // Whether flags have not both an error and a pending service.
 pub fn not_both(f: u16) -> bool
     ensures { result ≡ (eqb (error_of f) 0 || eqb (pending_of f) 0) }
 {
-    either(
-        f / ERROR % ERROR_END == NO_ERROR,
-        f / PENDING == NOTHING_PENDING,
-    )
+    (f / ERROR % ERROR_END == NO_ERROR) | (f / PENDING == NOTHING_PENDING)
 }
 
 // Whether the flags of task i obey their rules.
@@ -215,7 +175,7 @@ pub fn flags_hold(s: Shape, im: &[u16], i: Task) -> bool
     ensures { result ≡ do_flags_hold s im.now i }
 {
     let f = flags(s, im, i);
-    both(in_ranges(f), not_both(f))
+    in_ranges(f) & not_both(f)
 }
 
 // Whether R2 = peer < N.
@@ -225,7 +185,7 @@ fn peered(s: Shape, im: &[u16], i: Task) -> bool
     ensures { result ≡ is_peered s im.now i }
 {
     let p = peer(s, im, i);
-    both(register(s, im, i, OTHER) == p, wide(p) < s.n)
+    (register(s, im, i, OTHER) == p) & (usize::from(p) < s.n)
 }
 
 // Whether task i stands as one that waits to send.
@@ -234,11 +194,8 @@ pub fn may_send(s: Shape, im: &[u16], i: Task) -> bool
     requires i_lt_n { i.0 < s.n }
     ensures { result ≡ is_standing s im.now i Send }
 {
-    let asked = both(pending(s, im, i) == SEND, peered(s, im, i));
-    if !asked {
-        return false;
-    }
-    is_full(s, im, Queue::Message(i, Task(peer(s, im, i))))
+    let asked = (pending(s, im, i) == SEND) & peered(s, im, i);
+    asked && is_full(s, im, Queue::Message(i, Task(peer(s, im, i))))
 }
 
 // Whether task i stands as one that waits to receive.
@@ -247,11 +204,8 @@ pub fn may_receive(s: Shape, im: &[u16], i: Task) -> bool
     requires i_lt_n { i.0 < s.n }
     ensures { result ≡ is_standing s im.now i Receive }
 {
-    let asked = both(pending(s, im, i) == RECEIVE, peered(s, im, i));
-    if !asked {
-        return false;
-    }
-    is_empty(s, im, Queue::Message(Task(peer(s, im, i)), i))
+    let asked = (pending(s, im, i) == RECEIVE) & peered(s, im, i);
+    asked && is_empty(s, im, Queue::Message(Task(peer(s, im, i)), i))
 }
 
 // Whether task i stands as one that waits for input.
@@ -260,10 +214,7 @@ pub fn may_input(s: Shape, im: &[u16], i: Task) -> bool
     requires i_lt_n { i.0 < s.n }
     ensures { result ≡ is_standing s im.now i Input }
 {
-    both(
-        pending(s, im, i) == ASK_INPUT,
-        is_empty(s, im, Queue::Input(i)),
-    )
+    (pending(s, im, i) == ASK_INPUT) & is_empty(s, im, Queue::Input(i))
 }
 
 // Whether task i stands as one that waits for output.
@@ -272,11 +223,9 @@ pub fn may_output(s: Shape, im: &[u16], i: Task) -> bool
     requires i_lt_n { i.0 < s.n }
     ensures { result ≡ is_standing s im.now i Output }
 {
-    let asked = both(
-        pending(s, im, i) == ASK_OUTPUT,
-        register(s, im, i, WORD) <= MOST_CHARACTER,
-    );
-    both(asked, is_full(s, im, Queue::Output(i)))
+    (pending(s, im, i) == ASK_OUTPUT)
+        & (register(s, im, i, WORD) <= MOST_CHARACTER)
+        & is_full(s, im, Queue::Output(i))
 }
 
 // Whether the status of task i obeys its rules.
@@ -285,24 +234,14 @@ pub fn status_holds(s: Shape, im: &[u16], i: Task) -> bool
     requires i_lt_n { i.0 < s.n }
     ensures { result ≡ does_status_hold s im.now i }
 {
-    let k = status(s, im, i);
-    if k == READY {
-        return peer(s, im, i) == NO_PEER;
+    let peerless = peer(s, im, i) == NO_PEER;
+    match status(s, im, i) {
+        READY => peerless,
+        WAITS_TO_SEND => may_send(s, im, i),
+        WAITS_TO_RECEIVE => may_receive(s, im, i),
+        WAITS_FOR_INPUT => peerless & may_input(s, im, i),
+        WAITS_FOR_OUTPUT => peerless & may_output(s, im, i),
+        STOPPED => peerless & (error(s, im, i) != NO_ERROR),
+        _ => false,
     }
-    if k == WAITS_TO_SEND {
-        return may_send(s, im, i);
-    }
-    if k == WAITS_TO_RECEIVE {
-        return may_receive(s, im, i);
-    }
-    if peer(s, im, i) != NO_PEER {
-        return false;
-    }
-    if k == WAITS_FOR_INPUT {
-        return may_input(s, im, i);
-    }
-    if k == WAITS_FOR_OUTPUT {
-        return may_output(s, im, i);
-    }
-    both(k == STOPPED, error(s, im, i) != NO_ERROR)
 }

@@ -12,7 +12,6 @@ use inspect::inspect;
 use paper::{
     CAPACITY, ERROR, FLAGS, HEAD, LEAD_WORDS, PENDING, Queue, REGISTERS, Refusal, Shape, Task,
 };
-use places::wide;
 use queue_rules::queue_word as word_of_queue;
 use results::error_of;
 use words::{Spot, count, get, own, row_of};
@@ -116,8 +115,8 @@ fn where_there(there: bool, q: Queue) -> Named
 fn queue_named(s: Shape, q: u16, i: u16, j: u16) -> Named
     ensures { result ≡ named_queue s q i j }
 {
-    let from = wide(i) < s.n;
-    let to = wide(j) < s.n;
+    let from = usize::from(i) < s.n;
+    let to = usize::from(j) < s.n;
     match q {
         READY_QUEUE => where_there(both(i == 0, j == 0), Queue::Ready),
         INPUT_BUFFER => where_there(both(from, j == 0), Queue::Input(Task(i))),
@@ -136,9 +135,9 @@ fn held_at(s: Shape, im: &[u16], q: Queue, at: u16) -> WordView
     if count(s, im, q) <= at {
         return WordView::NotThere;
     }
-    let head = wide(word_of_queue(s, im, q, HEAD));
-    let capacity = wide(word_of_queue(s, im, q, CAPACITY));
-    let slot = (head + wide(at)) % capacity;
+    let head = usize::from(word_of_queue(s, im, q, HEAD));
+    let capacity = usize::from(word_of_queue(s, im, q, CAPACITY));
+    let slot = (head + usize::from(at)) % capacity;
     WordView::Is(word_of_queue(s, im, q, LEAD_WORDS + slot))
 }
 
@@ -147,7 +146,7 @@ fn see_task(s: Shape, im: &[u16], t: u16) -> TaskView
     requires { Sound s im.now }
     ensures { result ≡ task_seen s im.now t }
 {
-    if wide(t) < s.n {
+    if usize::from(t) < s.n {
         return TaskView::Is(state_of(s, im, Task(t)));
     }
     TaskView::NotThere
@@ -158,7 +157,7 @@ fn see_port(s: Shape, im: &[u16], d: u16) -> PortView
     requires { Sound s im.now }
     ensures { result ≡ port_seen s im.now d }
 {
-    if wide(d) < s.n {
+    if usize::from(d) < s.n {
         return PortView::Is(port_of(s, im, Task(d)));
     }
     PortView::NotThere
@@ -169,8 +168,8 @@ fn see_register(s: Shape, im: &[u16], t: u16, r: u16) -> WordView
     requires { Sound s im.now }
     ensures { result ≡ register_seen s im.now t r }
 {
-    if both(wide(t) < s.n, r < REGISTERS) {
-        return WordView::Is(own(s, im, row_of(s, Task(t)), wide(r)));
+    if both(usize::from(t) < s.n, r < REGISTERS) {
+        return WordView::Is(own(s, im, row_of(s, Task(t)), usize::from(r)));
     }
     WordView::NotThere
 }

@@ -1,6 +1,7 @@
--- A shape is in range just where all five of its numbers are within their bounds.
-use Rattle.headers.proofs.Tested.{range_tested}
+use Rattle.std.proofs.Common.{rules}
+use Rattle.paper.specs.Numbers.{out_of_range}
 use Rattle.headers.proofs.out_of_range.Goals as goal
 
 pub returns : goal.returns
-returns c = search range_tested
+unfolding out_of_range
+returns c = search rules

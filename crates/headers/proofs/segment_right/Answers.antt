@@ -1,6 +1,11 @@
--- The base and the length are read from the task's entry, and tested as in the definition.
-use Rattle.headers.proofs.Tested.{segment_tested}
+use Rattle.std.proofs.Common.{rules}
+use Rattle.paper.specs.Numbers.{segment_right}
 use Rattle.headers.proofs.segment_right.Goals as goal
 
-pub returns : goal.returns
-returns c = search segment_tested
+pub returns-then-base-start : goal.returns-then-base-start
+unfolding segment_right
+returns-then-base-start c = search rules
+
+pub returns-else-base-start : goal.returns-else-base-start
+unfolding segment_right
+returns-else-base-start c = search rules

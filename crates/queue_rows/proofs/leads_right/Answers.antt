@@ -2,8 +2,8 @@
 use Rattle.queue_rows.proofs.Leads.{leads_other, leads_high, leads_past, leads_long, leads_done}
 use Rattle.queue_rows.proofs.leads_right.Goals as goal
 
-pub returns-then-wide-given : goal.returns-then-wide-given
-returns-then-wide-given c = search leads_other
+pub returns-then-from-given : goal.returns-then-from-given
+returns-then-from-given c = search leads_other
 
 pub returns-then-given-first : goal.returns-then-given-first
 returns-then-given-first c = search leads_high

@@ -13,14 +13,11 @@ row_right-requires c = record { given_le_most_capacity = c.requires.given_nonzer
 pub returns-then-not-row_right : goal.returns-then-not-row_right
 returns-then-not-row_right c = rows_wrong _ _ _ _ _ _ c.loop-at.invariant c.loop-at-test.true (sym c.row_right.ensures ∙ c.if-not-row_right.true)
 
-pub overflow_add-at : goal.overflow_add-at
-overflow_add-at c = omega (arith, row_fits _ _ _ c.loop-at.invariant.left c.loop-at-test.true, c.requires)
-
-pub loop-at-smaller : goal.loop-at-smaller
-loop-at-smaller c = omega (arith, row_fits _ _ _ c.loop-at.invariant.left c.loop-at-test.true)
-
 pub loop-at-preserved : goal.loop-at-preserved
 loop-at-preserved c = passed_one _ _ _ _ _ _ c.loop-at.invariant c.loop-at-test.true (sym c.row_right.ensures ∙ c.if-not-row_right.false)
+
+pub returns-else-not-row_right : goal.returns-else-not-row_right
+returns-else-not-row_right c = rows_right _ _ _ _ _ _ (passed_one _ _ _ _ _ _ c.loop-at.invariant c.loop-at-test.true (sym c.row_right.ensures ∙ c.if-not-row_right.false)) (omega arith)
 
 pub returns : goal.returns
 returns c = rows_right _ _ _ _ _ _ c.loop-at.invariant c.loop-at-test.false

@@ -1,6 +1,6 @@
 -- All rows at once, or those of input, then those of output, then those of messages.
 use Rattle.laws.specs.Sound.{sized_fit}
-use Rattle.queue_rules.proofs.Buffers.{both_same, inputs_fit, outputs_fit, messages_fit, inputs_wrong, outputs_wrong, messages_decide, joined_fit, joined_decide}
+use Rattle.queue_rules.proofs.Buffers.{inputs_fit, outputs_fit, messages_fit, inputs_wrong, outputs_wrong, messages_decide, joined_fit, joined_decide}
 use Rattle.queue_rules.proofs.buffers_hold.Goals as goal
 
 pub start_of-inputs-requires : goal.start_of-inputs-requires
@@ -17,14 +17,12 @@ start_of-end-requires c = search sized_fit
 
 pub rows_right-requires : goal.rows_right-requires
 rows_right-requires c =
-    let same = both_same _ _ _ _ c.both.ensures c.if-both.true in
-    let f = joined_fit _ _ c.requires _ _ _ _ c.start_of-inputs.ensures c.start_of-outputs.ensures c.start_of-messages.ensures c.start_of-end.ensures same.0 same.1 in
+    let f = joined_fit _ _ c.requires _ _ _ _ c.start_of-inputs.ensures c.start_of-outputs.ensures c.start_of-messages.ensures c.start_of-end.ensures c.if-s.true c.if-s-2.true in
     record { given_nonzero = f.0; rows_between = f.1.0; end_in_bounds = f.1.1 }
 
-pub returns-then-both : goal.returns-then-both
-returns-then-both c =
-    let same = both_same _ _ _ _ c.both.ensures c.if-both.true in
-    joined_decide _ _ c.requires _ _ _ _ c.start_of-inputs.ensures c.start_of-outputs.ensures c.start_of-messages.ensures c.start_of-end.ensures same.0 same.1 _ c.rows_right.ensures
+pub returns-then-s-2 : goal.returns-then-s-2
+returns-then-s-2 c =
+    joined_decide _ _ c.requires _ _ _ _ c.start_of-inputs.ensures c.start_of-outputs.ensures c.start_of-messages.ensures c.start_of-end.ensures c.if-s.true c.if-s-2.true _ c.rows_right.ensures
 
 pub rows_right-requires-2 : goal.rows_right-requires-2
 rows_right-requires-2 c =

@@ -1,7 +1,7 @@
 -- What was found and what is left to find are all.
 use mathlib.Core.Path.{◌≡◌}
 use mathlib.Core.List.{List}
-use Prim.Native.Nat.{ℕ, ◌<◌}
+use Prim.Native.Nat.{ℕ, ◌-◌, ◌<◌}
 use Rattle.paper.specs.Queues.{words_from, held}
 use Rattle.paper.specs.Tests.{all_below}
 use Rattle.paper.specs.declared.Shape.{Shape}
@@ -16,8 +16,5 @@ pub record Inv (s : Shape) (im found : List ℕ) (at left : ℕ) : Type 0 where
   pub small : Small found left
   pub inside : at < s.n
 
-abbrev pub invariant-loop-left : goal.invariant-loop-left
-invariant-loop-left l = Inv l.s l.im l.found l.slot l.left
-
-abbrev pub decreases-loop-left : goal.decreases-loop-left
-decreases-loop-left l = l.left
+abbrev pub invariant-loop : goal.invariant-loop
+invariant-loop l = Inv l.s l.im l.found l.slot (l.count - l.counter)

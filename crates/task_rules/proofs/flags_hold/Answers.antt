@@ -1,6 +1,8 @@
 -- The ranges and that error and pending are not both set are tested as in the definition.
-use Rattle.task_rules.proofs.Tested.{flags_tested}
+use Rattle.std.proofs.Common.{rules}
+use Rattle.paper.specs.Tests.{flags_hold}
 use Rattle.task_rules.proofs.flags_hold.Goals as goal
 
 pub returns : goal.returns
-returns c = search flags_tested
+unfolding flags_hold
+returns c = search rules

@@ -1,6 +1,8 @@
 -- A queue is full just where its count is its capacity.
-use Rattle.task_rules.proofs.Tested.{full_tested}
+use Rattle.std.proofs.Common.{rules}
+use Rattle.paper.specs.Queues.{full}
 use Rattle.task_rules.proofs.is_full.Goals as goal
 
 pub returns : goal.returns
-returns c = search full_tested
+unfolding full
+returns c = search rules

@@ -1,24 +1,32 @@
 -- The status tells which rule the task is under, and that rule is tested as in the definition.
-use Rattle.task_rules.proofs.Tested.{status_ready, status_sends, status_receives, status_peer, status_inputs, status_outputs, status_stops}
+use Rattle.std.proofs.Common.{rules}
+use Rattle.paper.specs.Tests.{status_holds}
 use Rattle.task_rules.proofs.status_holds.Goals as goal
 
-pub returns-then-k-eq-READY : goal.returns-then-k-eq-READY
-returns-then-k-eq-READY c = search status_ready
+pub returns-in-0 : goal.returns-in-0
+unfolding status_holds
+returns-in-0 c = search rules
 
-pub returns-then-k-eq-WAITS_TO_SEND : goal.returns-then-k-eq-WAITS_TO_SEND
-returns-then-k-eq-WAITS_TO_SEND c = search status_sends
+pub returns-in-1 : goal.returns-in-1
+unfolding status_holds
+returns-in-1 c = search rules
 
-pub returns-then-k-eq-WAITS_TO_RECEIVE : goal.returns-then-k-eq-WAITS_TO_RECEIVE
-returns-then-k-eq-WAITS_TO_RECEIVE c = search status_receives
+pub returns-in-2 : goal.returns-in-2
+unfolding status_holds
+returns-in-2 c = search rules
 
-pub returns-then-peer-ne-NO_PEER : goal.returns-then-peer-ne-NO_PEER
-returns-then-peer-ne-NO_PEER c = search status_peer
+pub returns-in-3 : goal.returns-in-3
+unfolding status_holds
+returns-in-3 c = search rules
 
-pub returns-then-k-eq-WAITS_FOR_INPUT : goal.returns-then-k-eq-WAITS_FOR_INPUT
-returns-then-k-eq-WAITS_FOR_INPUT c = search status_inputs
+pub returns-in-4 : goal.returns-in-4
+unfolding status_holds
+returns-in-4 c = search rules
 
-pub returns-then-k-eq-WAITS_FOR_OUTPUT : goal.returns-then-k-eq-WAITS_FOR_OUTPUT
-returns-then-k-eq-WAITS_FOR_OUTPUT c = search status_outputs
+pub returns-in-5 : goal.returns-in-5
+unfolding status_holds
+returns-in-5 c = search rules
 
-pub returns : goal.returns
-returns c = search status_stops
+pub returns-in_default : goal.returns-in_default
+unfolding status_holds
+returns-in_default c = search rules

@@ -18,10 +18,10 @@ pub nonzero_rem-slot : goal.nonzero_rem-slot
 nonzero_rem-slot c = search some_slots
 
 pub overflow_add-slot-2 : goal.overflow_add-slot-2
-overflow_add-slot-2 c = Fits-under _ _ 37 (slot_low _ _ c.args.q c.requires.sound c.requires.has _ _ c.queue_word-2.ensures c.wide-capacity.ensures _) tt
+overflow_add-slot-2 c = Fits-under _ _ 37 (slot_low _ _ c.args.q c.requires.sound c.requires.has _ _ c.queue_word-2.ensures c.from-capacity.ensures _) tt
 
 pub queue_word-requires-3 : goal.queue_word-requires-3
-queue_word-requires-3 c = record { sized = search sound_sized; has = search rules; k_bound = slot_there _ _ c.args.q c.requires.sound c.requires.has _ _ c.queue_word-2.ensures c.wide-capacity.ensures _ }
+queue_word-requires-3 c = record { sized = search sound_sized; has = search rules; k_bound = slot_there _ _ c.args.q c.requires.sound c.requires.has _ _ c.queue_word-2.ensures c.from-capacity.ensures _ }
 
 pub returns : goal.returns
 returns c = search word_held

@@ -1,6 +1,8 @@
--- The capacity is compared with the header's.
-use Rattle.single_rules.proofs.Tested.{capacity_tested}
+-- Tested as in the definition.
+use Rattle.std.proofs.Common.{rules}
+use Rattle.single_rules.specs.Each.{headers_own}
 use Rattle.single_rules.proofs.of_queues.has_capacity.Goals as goal
 
 pub returns : goal.returns
-returns c = search capacity_tested
+unfolding headers_own
+returns c = search rules

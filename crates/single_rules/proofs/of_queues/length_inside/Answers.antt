@@ -1,6 +1,8 @@
--- The length is compared with the header's capacity.
-use Rattle.single_rules.proofs.Tested.{length_tested}
+-- Tested as in the definition.
+use Rattle.std.proofs.Common.{rules}
+use Rattle.single_rules.specs.Each.{length_within}
 use Rattle.single_rules.proofs.of_queues.length_inside.Goals as goal
 
 pub returns : goal.returns
-returns c = search length_tested
+unfolding length_within
+returns c = search rules

@@ -1,6 +1,8 @@
--- The three fields of the flags are tested.
-use Rattle.single_rules.proofs.Tested.{fields_tested}
+-- Tested as in the definition.
+use Rattle.std.proofs.Common.{rules}
+use Rattle.single_rules.specs.Each.{fields_within}
 use Rattle.single_rules.proofs.of_tasks.fields_ranged.Goals as goal
 
 pub returns : goal.returns
-returns c = search fields_tested
+unfolding fields_within
+returns c = search rules

@@ -1,6 +1,8 @@
--- Error and pending are tested.
-use Rattle.single_rules.proofs.Tested.{one_tested}
+-- Tested as in the definition.
+use Rattle.std.proofs.Common.{rules}
+use Rattle.single_rules.specs.Each.{one_at_most}
 use Rattle.single_rules.proofs.of_tasks.never_both.Goals as goal
 
 pub returns : goal.returns
-returns c = search one_tested
+unfolding one_at_most
+returns c = search rules

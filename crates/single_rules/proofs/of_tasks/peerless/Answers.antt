@@ -1,6 +1,8 @@
--- The status is tested, and the peer.
-use Rattle.single_rules.proofs.Tested.{peer_tested}
+-- Tested as in the definition.
+use Rattle.std.proofs.Common.{rules}
+use Rattle.single_rules.specs.Each.{no_peer}
 use Rattle.single_rules.proofs.of_tasks.peerless.Goals as goal
 
 pub returns : goal.returns
-returns c = search peer_tested
+unfolding no_peer
+returns c = search rules

@@ -1,6 +1,8 @@
--- The port's two words are tested.
-use Rattle.single_rules.proofs.Tested.{port_tested}
+-- Tested as in the definition.
+use Rattle.std.proofs.Common.{rules}
+use Rattle.single_rules.specs.Each.{port_within}
 use Rattle.single_rules.proofs.of_tasks.port_ranged.Goals as goal
 
 pub returns : goal.returns
-returns c = search port_tested
+unfolding port_within
+returns c = search rules

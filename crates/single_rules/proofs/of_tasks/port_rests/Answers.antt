@@ -1,6 +1,8 @@
--- The port's two words and the output buffer are tested.
-use Rattle.single_rules.proofs.Tested.{idle_tested}
+-- Tested as in the definition.
+use Rattle.std.proofs.Common.{rules}
+use Rattle.single_rules.specs.Each.{port_idle}
 use Rattle.single_rules.proofs.of_tasks.port_rests.Goals as goal
 
 pub returns : goal.returns
-returns c = search idle_tested
+unfolding port_idle
+returns c = search rules

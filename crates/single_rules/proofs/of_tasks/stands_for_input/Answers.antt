@@ -1,6 +1,8 @@
--- The status is tested, and what it asks.
-use Rattle.single_rules.proofs.Tested.{inputs_tested}
+-- Tested as in the definition.
+use Rattle.std.proofs.Common.{rules}
+use Rattle.single_rules.specs.Each.{stands}
 use Rattle.single_rules.proofs.of_tasks.stands_for_input.Goals as goal
 
 pub returns : goal.returns
-returns c = search inputs_tested
+unfolding stands
+returns c = search rules

@@ -1,6 +1,8 @@
--- The status is tested, and what it asks.
-use Rattle.single_rules.proofs.Tested.{receives_tested}
+-- Tested as in the definition.
+use Rattle.std.proofs.Common.{rules}
+use Rattle.single_rules.specs.Each.{stands}
 use Rattle.single_rules.proofs.of_tasks.stands_to_receive.Goals as goal
 
 pub returns : goal.returns
-returns c = search receives_tested
+unfolding stands
+returns c = search rules

@@ -1,6 +1,8 @@
--- The status is tested, and the error.
-use Rattle.single_rules.proofs.Tested.{stopped_tested}
+-- Tested as in the definition.
+use Rattle.std.proofs.Common.{rules}
+use Rattle.single_rules.specs.Each.{stopped}
 use Rattle.single_rules.proofs.of_tasks.stopped_by_error.Goals as goal
 
 pub returns : goal.returns
-returns c = search stopped_tested
+unfolding stopped
+returns c = search rules
