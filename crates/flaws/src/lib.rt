@@ -7,7 +7,7 @@ ghost use Rattle.grammar.specs.Lines.{line_words};
 ghost use Rattle.grammar.specs.Texts.{number, kept_value, judged_as};
 ghost use Rattle.grammar.specs.Texts.{again_flaw as flaw_of_again, lower as lower_of, worked_flaw as flaw_of_worked, given_flaw as flaw_of_given, noted as noted_by};
 
-use grammar::{Fault, Flaw, Found, Given, Judged, Line, RANGE_END, Refusal, Worked};
+use grammar::{Fault, Given, Line, NoValue, RANGE_END, Refusal};
 
 // The numbers of the refusals.
 const OUTSIDE_GRAMMAR: u16 = 13;
@@ -34,13 +34,13 @@ pub fn number_of(r: Refusal) -> u16
 }
 
 // Of two flaws, the one with the lower number.
-pub fn lower(a: Flaw, b: Flaw) -> Flaw
+pub fn lower(a: Option<Refusal>, b: Option<Refusal>) -> Option<Refusal>
     ensures { result ≡ lower_of a b }
 {
-    let Flaw::Is(r) = a else {
+    let Some(r) = a else {
         return b;
     };
-    let Flaw::Is(q) = b else {
+    let Some(q) = b else {
         return a;
     };
     if number_of(q) < number_of(r) {
@@ -50,62 +50,62 @@ pub fn lower(a: Flaw, b: Flaw) -> Flaw
 }
 
 // The fault of the lines so far with one line more.
-pub fn noted(fault: Fault, flaw: Flaw, line: Line) -> Fault
+pub fn noted(fault: Option<Fault>, flaw: Option<Refusal>, line: Line) -> Option<Fault>
     ensures { result ≡ noted_by fault flaw line }
 {
-    let Flaw::Is(r) = flaw else {
+    let Some(r) = flaw else {
         return fault;
     };
-    let Fault::At(q, _) = fault else {
-        return Fault::At(r, line);
+    let Some((q, _)) = fault else {
+        return Some((r, line));
     };
     if number_of(r) < number_of(q) {
-        return Fault::At(r, line);
+        return Some((r, line));
     }
     fault
 }
 
 // What is wrong with a name or label by what was found of it before.
-pub fn again_flaw(f: Found) -> Flaw
+pub fn again_flaw(f: Option<u32>) -> Option<Refusal>
     ensures { result ≡ flaw_of_again f }
 {
     match f {
-        Found::Nothing => Flaw::Nothing,
-        Found::Value(_) => Flaw::Is(Refusal::NameFault),
+        None => None,
+        Some(_) => Some(Refusal::NameFault),
     }
 }
 
 // What is wrong with a value.
-pub fn worked_flaw(v: Worked) -> Flaw
+pub fn worked_flaw(v: Result<u16, NoValue>) -> Option<Refusal>
     ensures { result ≡ flaw_of_worked v }
 {
     match v {
-        Worked::Is(_) => Flaw::Nothing,
-        Worked::Missing => Flaw::Is(Refusal::NameFault),
-        Worked::Beyond => Flaw::Is(Refusal::OutOfRange),
+        Ok(_) => None,
+        Err(NoValue::Missing) => Some(Refusal::NameFault),
+        Err(NoValue::Beyond) => Some(Refusal::OutOfRange),
     }
 }
 
 // What is wrong with what a line gives.
-pub fn given_flaw(g: Given) -> Flaw
+pub fn given_flaw(g: Given) -> Option<Refusal>
     ensures { result ≡ flaw_of_given g }
 {
     match g {
-        Given::Outside => Flaw::Is(Refusal::OutsideGrammar),
-        Given::Nothing => Flaw::Nothing,
+        Given::Outside => Some(Refusal::OutsideGrammar),
+        Given::Nothing => None,
         Given::One(v) => worked_flaw(v),
         Given::Two(_, v) => worked_flaw(v),
     }
 }
 
 // The value that is kept of a name.
-pub fn value_kept(v: Worked) -> u32
+pub fn value_kept(v: Result<u16, NoValue>) -> u32
     ensures { result ≡ kept_value v }
 {
     match v {
-        Worked::Is(n) => n as u32,
-        Worked::Missing => RANGE_END,
-        Worked::Beyond => RANGE_END,
+        Ok(n) => n as u32,
+        Err(NoValue::Missing) => RANGE_END,
+        Err(NoValue::Beyond) => RANGE_END,
     }
 }
 
@@ -127,24 +127,24 @@ pub fn count_of(g: Given) -> usize
         Given::Outside => 0,
         Given::Nothing => 0,
         Given::One(v) => match v {
-            Worked::Is(_) => 1,
-            Worked::Missing => 0,
-            Worked::Beyond => 0,
+            Ok(_) => 1,
+            Err(NoValue::Missing) => 0,
+            Err(NoValue::Beyond) => 0,
         },
         Given::Two(_, v) => match v {
-            Worked::Is(_) => 2,
-            Worked::Missing => 0,
-            Worked::Beyond => 0,
+            Ok(_) => 2,
+            Err(NoValue::Missing) => 0,
+            Err(NoValue::Beyond) => 0,
         },
     }
 }
 
 // What a fault and a count of words come to.
-pub fn judge_by(fault: Fault, words: usize) -> Judged
+pub fn judge_by(fault: Option<Fault>, words: usize) -> Result<usize, Fault>
     ensures { result ≡ judged_as fault words }
 {
     match fault {
-        Fault::Nothing => Judged::Fine(words),
-        Fault::At(r, line) => Judged::Refused(r, line),
+        None => Ok(words),
+        Some((r, line)) => Err((r, line)),
     }
 }

@@ -1,4 +1,5 @@
 -- A name or label that is given: in a table with room, and in a full one. Assumes nothing.
+use Rattle.std.specs.Prelude.{Option, Some}
 use mathlib.Core.Path.{◌≡◌, refl}
 use mathlib.Core.List.{List, ◌∷◌}
 use Prim.Native.Nat.{ℕ, ◌+◌, ◌<◌, ◌≤◌}
@@ -9,19 +10,17 @@ use borrow.Author.Tests.{lt-ltb, le-ltb}
 use lib.ListN.{take, drop}
 use Rattle.grammar.specs.Sums.{Entry, find}
 use Rattle.grammar.specs.Texts.{again_flaw, give, give_flaw}
-use Rattle.grammar.specs.declared.Flaw.{Flaw}
-use Rattle.grammar.specs.declared.Found.{Found}
 use Rattle.grammar.specs.declared.Refusal.{Refusal}
 use Rattle.tables.specs.Tables.{Table, most, text_of, entry, entries, Chained, Headed, Added}
 use Rattle.tables.proofs.Laws.{entries_count}
 use Rattle.giving.specs.Passes.{GiveMade}
 
 -- a full table takes no more
-pub full_flaw : (t : Table) (n : ℕ) (w : List ℕ) → most ≤ n → Flaw.Is Refusal.OutsideGrammar ≡ give_flaw (entries t n) w
+pub full_flaw : (t : Table) (n : ℕ) (w : List ℕ) → most ≤ n → Some Refusal.OutsideGrammar ≡ give_flaw (entries t n) w
 full_flaw t n w h = rw (give_flaw, entries_count t n, le-ltb n most h)
 
 -- with room, what is wrong is what is found of the word
-pub found_flaw : (t : Table) (n : ℕ) (w : List ℕ) {f : Found} {r : Flaw} → n < most → f ≡ find (entries t n) w → r ≡ again_flaw f → r ≡ give_flaw (entries t n) w
+pub found_flaw : (t : Table) (n : ℕ) (w : List ℕ) {f : Option ℕ} {r : Option Refusal} → n < most → f ≡ find (entries t n) w → r ≡ again_flaw f → r ≡ give_flaw (entries t n) w
 found_flaw t n w h found is = rw (give_flaw, entries_count t n, lt-ltb n most h, is, found)
 
 -- the entries before the last one

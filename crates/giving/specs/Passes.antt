@@ -1,11 +1,10 @@
 -- What each pass over the lines leaves, as the definitions have it.
-use Rattle.std.specs.Prelude.{◌≡◌, true, false, List, [], ℕ, ◌+◌, ◌-◌, ◌<◌, ◌≤◌, ltb, length, take, drop}
+use Rattle.std.specs.Prelude.{◌≡◌, true, false, List, [], ℕ, ◌+◌, ◌-◌, ◌<◌, ◌≤◌, ltb, length, take, drop, None, Option, Result}
 use Rattle.grammar.specs.Tokens.{tokens, lines}
 use Rattle.grammar.specs.Lines.{Label, names_line, label_of, body_of, size_of, given, line_words}
 use Rattle.grammar.specs.Texts.{give, names_give, names_flaw, label_gives, script_flaw, noted, line, names_given, names_fault, labels_given, script_fault, script_words, last_line, nowhere, room_flaw, judged_as}
-use Rattle.grammar.specs.declared.Fault.{Fault}
-use Rattle.grammar.specs.declared.Judged.{Judged}
 use Rattle.grammar.specs.declared.Line.{Line}
+use Rattle.grammar.specs.declared.Refusal.{Refusal}
 use Rattle.grammar.specs.declared.Text.{Text}
 use Rattle.tables.specs.Tables.{Table, entries, entry_word, text_of, Chained, Headed, most}
 
@@ -18,16 +17,16 @@ pub record GiveMade (t u : Table) (n : ℕ) (heads : List ℕ) (from count value
   pub headed : Headed u r heads
 
 -- a line l of the names, which begins at a place
-pub record NameRead (t u : Table) (n : ℕ) (heads : List ℕ) (at : ℕ) (l : List ℕ) (before : Fault) (r : ℕ) (after : Fault) : Type 0 where
+pub record NameRead (t u : Table) (n : ℕ) (heads : List ℕ) (at : ℕ) (l : List ℕ) (before : Option (Refusal × Line)) (r : ℕ) (after : Option (Refusal × Line)) : Type 0 where
   pub given : entries u r ≡ names_give (entries t n) (names_line (entries t n) (tokens l))
   pub fault : after ≡ noted before (names_flaw (entries t n) (names_line (entries t n) (tokens l))) (line Text.Names at l)
   pub chained : Chained u r
   pub headed : Headed u r heads
 
 -- all lines of the names
-pub record NamesRead (u : Table) (heads names : List ℕ) (r : ℕ) (after : Fault) : Type 0 where
+pub record NamesRead (u : Table) (heads names : List ℕ) (r : ℕ) (after : Option (Refusal × Line)) : Type 0 where
   pub given : entries u r ≡ names_given [] (lines names)
-  pub fault : after ≡ names_fault [] Fault.Nothing 0 (lines names)
+  pub fault : after ≡ names_fault [] None 0 (lines names)
   pub chained : Chained u r
   pub headed : Headed u r heads
 
@@ -66,7 +65,7 @@ above_after m Label.none = m
 above_after m (Label.label w) = one_more m
 
 -- a line l of the script, judged with n entries given, m of them above it
-pub record LineJudged (t : Table) (n m at : ℕ) (l : List ℕ) (before : Fault) (words : ℕ) (above : ℕ) (after : Fault) (more : ℕ) : Type 0 where
+pub record LineJudged (t : Table) (n m at : ℕ) (l : List ℕ) (before : Option (Refusal × Line)) (words : ℕ) (above : ℕ) (after : Option (Refusal × Line)) (more : ℕ) : Type 0 where
   pub fault : after ≡ noted before (script_flaw (entries t n) (entries t m) l) (line Text.Script at l)
   pub counted : more ≡ words + length (line_words (given (entries t n) (body_of (tokens l))))
   pub few : more ≤ words + 2
@@ -81,10 +80,10 @@ abbrev pub line_at : ℕ → ℕ → Line
 line_at from end = record { text = Text.Script; from = from; count = end - from }
 
 -- the script, judged for a target of so many words
-abbrev pub script_judged : Table → ℕ → ℕ → List ℕ → Fault → ℕ → Judged
+abbrev pub script_judged : Table → ℕ → ℕ → List ℕ → Option (Refusal × Line) → ℕ → Result ℕ (Refusal × Line)
 script_judged t split n script before room =
     judged_as (noted (script_fault (entries t n) (entries t split) 0 before 0 (lines script)) (room_flaw (length (script_words (entries t n) (lines script))) room) (last_line nowhere 0 (lines script)))
     (length (script_words (entries t n) (lines script)))
 
-abbrev pub ScriptJudged : Table → ℕ → ℕ → List ℕ → Fault → ℕ → Judged → Type 0
+abbrev pub ScriptJudged : Table → ℕ → ℕ → List ℕ → Option (Refusal × Line) → ℕ → Result ℕ (Refusal × Line) → Type 0
 ScriptJudged t split n script before room r = r ≡ script_judged t split n script before room

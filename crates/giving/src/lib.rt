@@ -7,7 +7,7 @@ ghost use Rattle.tables.specs.Tables.{table, entries, Chained, Headed, most, tex
 ghost use Rattle.giving.specs.Passes.{GiveMade, Known};
 
 use flaws::again_flaw;
-use grammar::{Flaw, Refusal};
+use grammar::Refusal;
 use tables::{MOST_NAMES, insert, look, look_before};
 
 // What is wrong with a name that is given after all entries.
@@ -23,13 +23,13 @@ pub fn name_flaw<'a>(
     nexts: &[u16; MOST_NAMES],
     heads: &[u16; MOST_NAMES],
     word: &[u8],
-) -> Flaw
+) -> Option<Refusal>
     requires chained { Chained (table names.now script.now split froms.now counts.now values.now nexts.now) filled }
     requires headed { Headed (table names.now script.now split froms.now counts.now values.now nexts.now) filled heads.now }
     ensures { result ≡ give_flaw (entries (table names.now script.now split froms.now counts.now values.now nexts.now) filled) word.now }
 {
     if MOST_NAMES <= filled {
-        return Flaw::Is(Refusal::OutsideGrammar);
+        return Some(Refusal::OutsideGrammar);
     }
     again_flaw(look(
         names, script, split, filled, froms, counts, values, nexts, heads, word,
@@ -49,13 +49,13 @@ pub fn label_flaw<'a>(
     nexts: &[u16; MOST_NAMES],
     above: usize,
     word: &[u8],
-) -> Flaw
+) -> Option<Refusal>
     requires chained { Chained (table names.now script.now split froms.now counts.now values.now nexts.now) filled }
     requires known { Known (table names.now script.now split froms.now counts.now values.now nexts.now) filled above word.now }
     ensures { result ≡ give_flaw (entries (table names.now script.now split froms.now counts.now values.now nexts.now) above) word.now }
 {
     if MOST_NAMES <= above {
-        return Flaw::Is(Refusal::OutsideGrammar);
+        return Some(Refusal::OutsideGrammar);
     }
     again_flaw(look_before(
         names, script, split, filled, froms, counts, values, nexts, above, word,

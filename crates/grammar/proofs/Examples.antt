@@ -1,4 +1,5 @@
 -- The page's example, one small text for each kind of refusal, and small lists printed, as one statement. Assumes nothing.
+use Rattle.std.specs.Prelude.{Err, Ok, Result}
 use mathlib.Core.Path.{◌≡◌, refl}
 use mathlib.Core.List.{[], ◌∷◌}
 use Prim.Native.Nat.{ℕ}
@@ -10,8 +11,7 @@ use Rattle.grammar.specs.Sums.{find, decimal, sum, product, term, sum_of}
 use Rattle.grammar.specs.Lines.{names_line, label_of, size_of, register, given}
 use Rattle.grammar.specs.Texts.{names_given, names_fault, labels_given, script_fault, script_words, last_line, program, judged, stored}
 use Rattle.grammar.specs.Printing.{named_in, named_as, printed, measured, printing, inscribed}
-use Rattle.grammar.specs.declared.Judged.{Judged}
-use Rattle.grammar.specs.declared.Printing.{Printing}
+use Rattle.grammar.specs.declared.Line.{Line}
 use Rattle.grammar.specs.declared.Refusal.{Refusal}
 use Rattle.grammar.specs.declared.Text.{Text}
 
@@ -23,24 +23,24 @@ abbrev script : String
 script = "loop: input\n      store r3 r4\n      load r5 last\n      compare r3 r5\n      jumplt loop\ntable: size\n      loop + 2\n"
 
 -- what two texts come to, for a target of a thousand words
-abbrev comes : String → String → Judged
+abbrev comes : String → String → Result ℕ (Refusal × Line)
 comes n s = judged (bytes n) (bytes s) 1000
 
 -- a refusal that names a line of the names, and one that names a line of the script
-abbrev in_names : Refusal → ℕ → ℕ → Judged
-in_names r from count = Judged.Refused r (record { text = Text.Names; from = from; count = count })
+abbrev in_names : Refusal → ℕ → ℕ → Result ℕ (Refusal × Line)
+in_names r from count = Err (r, record { text = Text.Names; from = from; count = count })
 
-abbrev in_script : Refusal → ℕ → ℕ → Judged
-in_script r from count = Judged.Refused r (record { text = Text.Script; from = from; count = count })
+abbrev in_script : Refusal → ℕ → ℕ → Result ℕ (Refusal × Line)
+in_script r from count = Err (r, record { text = Text.Script; from = from; count = count })
 
 pub record Examples : Type 0 where
   -- the page's nine words, with room for just them; with room for eight, 16 names the last line
   pub words : program (bytes names) (bytes script) ≡ (4656 ∷ 1076 ∷ 336 ∷ 19 ∷ 3381 ∷ 3856 ∷ 0 ∷ 4 ∷ 2 ∷ [])
-  pub fits : judged (bytes names) (bytes script) 9 ≡ Judged.Fine 9
+  pub fits : judged (bytes names) (bytes script) 9 ≡ Ok 9
   pub no_room : judged (bytes names) (bytes script) 8 ≡ in_script Refusal.NoRoom 99 14
   -- 13: an operand that is missing; eight brackets are taken and a ninth is not; a capital; a kept word as a name; an order of a later edition; a lone `:`
   pub no_operand : comes "" "load r5" ≡ in_script Refusal.OutsideGrammar 0 7
-  pub eight : comes "" "((((((((1))))))))" ≡ Judged.Fine 1
+  pub eight : comes "" "((((((((1))))))))" ≡ Ok 1
   pub nine : comes "" "(((((((((1)))))))))" ≡ in_script Refusal.OutsideGrammar 0 19
   pub capital : comes "" "1\nA" ≡ in_script Refusal.OutsideGrammar 2 1
   pub kept : comes "r1 = 2" "" ≡ in_names Refusal.OutsideGrammar 0 6
@@ -52,15 +52,15 @@ pub record Examples : Type 0 where
   pub twice : comes "" "a:\na:\na:" ≡ in_script Refusal.NameFault 3 2
   -- 15: a partial result past the range or below 0, though the whole lies in it; a number past the range
   pub past : comes "" "65535 * 2 * 0" ≡ in_script Refusal.OutOfRange 0 13
-  pub not_past : comes "" "0 * 2 * 65535" ≡ Judged.Fine 1
+  pub not_past : comes "" "0 * 2 * 65535" ≡ Ok 1
   pub below : comes "" "1 - 2 + 1" ≡ in_script Refusal.OutOfRange 0 9
   pub number : comes "a = 65536 ; nobody uses it" "" ≡ in_names Refusal.OutOfRange 0 26
   -- 13 in the script goes before 14 in the names, 14 before 15
   pub first_13 : comes "a = b" "1\n(" ≡ in_script Refusal.OutsideGrammar 2 1
   pub first_14 : comes "a = 65536" "b" ≡ in_script Refusal.NameFault 0 1
   -- empty texts, blank lines and comments give no words; a label may stand alone and be used before its line
-  pub nothing : judged [] [] 0 ≡ Judged.Fine 0
-  pub blank : comes "\n ; =\n" "\n\t;\n" ≡ Judged.Fine 0
+  pub nothing : judged [] [] 0 ≡ Ok 0
+  pub blank : comes "\n ; =\n" "\n\t;\n" ≡ Ok 0
   pub forward : program [] (bytes "jump on\n5\non:") ≡ (3584 ∷ 3 ∷ 5 ∷ [])
   -- a refusal alters no word of the target, and words past the answer stay
   pub unaltered : stored (comes "" "1\n(") (program [] (bytes "1\n(")) (7 ∷ 8 ∷ []) ≡ (7 ∷ 8 ∷ [])
@@ -77,9 +77,9 @@ pub record Examples : Type 0 where
   pub second : printed (3584 ∷ 4352 ∷ []) ≡ bytes "jump 4352\n"
   pub no_words : printed [] ≡ []
   -- how many bytes it needs; a buffer that just fits, one that is a byte short, and the bytes past the text
-  pub needs : measured (4352 ∷ 7 ∷ []) ≡ Printing.Bytes 9
-  pub fits_buffer : printing (4352 ∷ 7 ∷ []) 9 ≡ Printing.Bytes 9
-  pub short : printing (4352 ∷ 7 ∷ []) 8 ≡ Printing.Refused Refusal.NoRoom
+  pub needs : measured (4352 ∷ 7 ∷ []) ≡ Ok 9
+  pub fits_buffer : printing (4352 ∷ 7 ∷ []) 9 ≡ Ok 9
+  pub short : printing (4352 ∷ 7 ∷ []) 8 ≡ Err Refusal.NoRoom
   pub none_altered : inscribed (printing (7 ∷ []) 1) (printed (7 ∷ [])) (1 ∷ []) ≡ (1 ∷ [])
   pub bytes_past : inscribed (printing (7 ∷ []) 3) (printed (7 ∷ [])) (1 ∷ 2 ∷ 3 ∷ []) ≡ (55 ∷ 10 ∷ 3 ∷ [])
 

@@ -1,18 +1,18 @@
 -- The rules of a line: a line of the names, and a line of the script, each by its tokens.
-use Rattle.std.specs.Prelude.{List, [], ◌∷◌, true, false, ℕ, ◌+◌, ◌*◌}
+use Rattle.std.specs.Prelude.{List, [], ◌∷◌, true, false, ℕ, ◌+◌, ◌*◌, Err, Ok, Result}
 use Rattle.grammar.specs.Tokens.{Token, label_mark, equals_mark, begins, rest}
 use Rattle.grammar.specs.Kept.{kept_as}
 use Rattle.grammar.specs.Sums.{Entry, Reading, sum_of}
 use Rattle.grammar.specs.declared.Given.{Given}
 use Rattle.grammar.specs.declared.Kept.{Kept}
+use Rattle.grammar.specs.declared.NoValue.{NoValue}
 use Rattle.grammar.specs.declared.Operands.{Operands}
-use Rattle.grammar.specs.declared.Worked.{Worked}
 
 -- names-line = [ name "=" sum ]
 pub data NamesLine : Type 0 where
   outside : NamesLine
   blank : NamesLine
-  gives : List ℕ → Worked → NamesLine
+  gives : List ℕ → Result ℕ NoValue → NamesLine
 
 abbrev pub gives_sum : List ℕ → Reading → NamesLine
 gives_sum w Reading.outside = NamesLine.outside
@@ -96,7 +96,7 @@ register (Token.stray ∷ ts) = Operand.missing
 
 -- order = order-name operands: its first word, with the registers a and b, and its second
 abbrev pub one : ℕ → List Token → Given
-one f [] = Given.One (Worked.Is f)
+one f [] = Given.One (Ok f)
 one f (t ∷ ts) = Given.Outside
 
 abbrev pub two : ℕ → Reading → Given
@@ -140,15 +140,13 @@ given es (Token.mark b ∷ ts) = sum_line (sum_of es (Token.mark b ∷ ts))
 given es (Token.stray ∷ ts) = Given.Outside
 
 -- the words that a line gives
-abbrev pub worked_word : ℕ → Worked → List ℕ
-worked_word f (Worked.Is v) = f ∷ v ∷ []
-worked_word f Worked.Missing = []
-worked_word f Worked.Beyond = []
+abbrev pub worked_word : ℕ → Result ℕ NoValue → List ℕ
+worked_word f (Ok v) = f ∷ v ∷ []
+worked_word f (Err e) = []
 
-abbrev pub one_word : Worked → List ℕ
-one_word (Worked.Is v) = v ∷ []
-one_word Worked.Missing = []
-one_word Worked.Beyond = []
+abbrev pub one_word : Result ℕ NoValue → List ℕ
+one_word (Ok v) = v ∷ []
+one_word (Err e) = []
 
 abbrev pub line_words : Given → List ℕ
 line_words Given.Outside = []

@@ -1,5 +1,5 @@
 -- "Printing": a list of words as the text of a script, and what the two public calls on it answer.
-use Rattle.std.specs.Prelude.{Bool, true, false, ◌&&◌, List, [], ◌∷◌, ◌++◌, ℕ, ◌+◌, ◌*◌, eqb, leb, ltb, length, drop}
+use Rattle.std.specs.Prelude.{Bool, true, false, ◌&&◌, List, [], ◌∷◌, ◌++◌, ℕ, ◌+◌, ◌*◌, eqb, leb, ltb, length, drop, Err, Ok, Result}
 use Rattle.paper.specs.Orders.{a_of, b_of}
 use Rattle.paper.specs.Runner.{decimal, space, newline}
 use Rattle.grammar.specs.Tokens.{bytes}
@@ -8,7 +8,6 @@ use Rattle.grammar.specs.Texts.{number}
 use Rattle.grammar.specs.declared.Kept.{Kept}
 use Rattle.grammar.specs.declared.Operands.{Operands}
 use Rattle.grammar.specs.declared.Refusal.{Refusal}
-use Rattle.grammar.specs.declared.Printing.{Printing}
 
 -- registers are 0 to 7
 abbrev pub is_register : ℕ → Bool
@@ -84,27 +83,27 @@ abbrev pub most_printed : ℕ
 most_printed = 32715
 
 -- how many bytes the text of a list needs; 16 where the list is too long
-unfoldable pub measured : List ℕ → Printing
-measured ws = elim (leb (length ws) most_printed) [ true ↦ Printing.Bytes (length (printed ws)) | false ↦ Printing.Refused Refusal.NoRoom ]
+unfoldable pub measured : List ℕ → Result ℕ Refusal
+measured ws = elim (leb (length ws) most_printed) [ true ↦ Ok (length (printed ws)) | false ↦ Err Refusal.NoRoom ]
 
 -- 16 as well where the text is longer than the buffer
-abbrev pub fitting : Printing → ℕ → Printing
-fitting (Printing.Bytes n) room = elim (leb n room) [ true ↦ Printing.Bytes n | false ↦ Printing.Refused Refusal.NoRoom ]
-fitting (Printing.Refused r) room = Printing.Refused r
+abbrev pub fitting : Result ℕ Refusal → ℕ → Result ℕ Refusal
+fitting (Ok n) room = elim (leb n room) [ true ↦ Ok n | false ↦ Err Refusal.NoRoom ]
+fitting (Err r) room = Err r
 
-unfoldable pub printing : List ℕ → ℕ → Printing
+unfoldable pub printing : List ℕ → ℕ → Result ℕ Refusal
 printing ws room = fitting (measured ws) room
 
 -- the answer in numbers
-abbrev pub printing_number : Printing → ℕ
-printing_number (Printing.Bytes n) = 0
-printing_number (Printing.Refused r) = number r
+abbrev pub printing_number : Result ℕ Refusal → ℕ
+printing_number (Ok n) = 0
+printing_number (Err r) = number r
 
-abbrev pub printing_bytes : Printing → ℕ
-printing_bytes (Printing.Bytes n) = n
-printing_bytes (Printing.Refused r) = 0
+abbrev pub printing_bytes : Result ℕ Refusal → ℕ
+printing_bytes (Ok n) = n
+printing_bytes (Err r) = 0
 
 -- the buffer after it: the text, and the bytes past it as they were; a refusal alters none
-abbrev pub inscribed : Printing → List ℕ → List ℕ → List ℕ
-inscribed (Printing.Bytes n) text buffer = text ++ drop (length text) buffer
-inscribed (Printing.Refused r) text buffer = buffer
+abbrev pub inscribed : Result ℕ Refusal → List ℕ → List ℕ → List ℕ
+inscribed (Ok n) text buffer = text ++ drop (length text) buffer
+inscribed (Err r) text buffer = buffer

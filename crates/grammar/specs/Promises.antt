@@ -1,15 +1,14 @@
 -- What the public calls on texts promise: the answer, what it is in numbers, and every word or byte that is lent to be written; and which part of which text is the refused line.
-use Rattle.std.specs.Prelude.{◌≡◌, List, ℕ, ◌+◌, length}
+use Rattle.std.specs.Prelude.{◌≡◌, List, ℕ, ◌+◌, length, Result}
 use Rattle.std.specs.Borrow.{Bor}
 use Rattle.grammar.specs.Texts.{program, judged, answered, translation_number, translation_words, translation_text, stored, named_line, part_of}
 use Rattle.grammar.specs.Printing.{printed, measured, printing, printing_number, printing_bytes, inscribed}
 use Rattle.grammar.specs.declared.Line.{Line}
-use Rattle.grammar.specs.declared.Printing.{Printing}
+use Rattle.grammar.specs.declared.Refusal.{Refusal}
 use Rattle.grammar.specs.declared.Text.{Text}
-use Rattle.grammar.specs.declared.Translation.{Translation}
 
 -- translating two texts
-pub record Translates (names script target : List ℕ) (answer : Translation) (after : List ℕ) : Type 0 where
+pub record Translates (names script target : List ℕ) (answer : Result ℕ (Refusal × Text)) (after : List ℕ) : Type 0 where
   pub answers : answer ≡ answered (judged names script (length target))
   pub numbered : translation_number answer ≡ translation_number (answered (judged names script (length target)))
   pub counted : translation_words answer ≡ translation_words (answered (judged names script (length target)))
@@ -36,14 +35,14 @@ pub record NamesLine (names script : Bor (List ℕ)) (room : ℕ) (part : Bor (L
   pub named : IsLine names script (named_line (judged names.now script.now room)) part
 
 -- printing a list of words
-pub record Prints (words buffer : List ℕ) (answer : Printing) (after : List ℕ) : Type 0 where
+pub record Prints (words buffer : List ℕ) (answer : Result ℕ Refusal) (after : List ℕ) : Type 0 where
   pub answers : answer ≡ printing words (length buffer)
   pub numbered : printing_number answer ≡ printing_number (printing words (length buffer))
   pub counted : printing_bytes answer ≡ printing_bytes (printing words (length buffer))
   pub left : after ≡ inscribed (printing words (length buffer)) (printed words) buffer
 
 -- how many bytes printing a list needs
-pub record MeasuresText (words : List ℕ) (answer : Printing) : Type 0 where
+pub record MeasuresText (words : List ℕ) (answer : Result ℕ Refusal) : Type 0 where
   pub answers : answer ≡ measured words
   pub numbered : printing_number answer ≡ printing_number (measured words)
   pub counted : printing_bytes answer ≡ printing_bytes (measured words)

@@ -1,10 +1,9 @@
 // The types that the definitions of the text form name, and the numbers of the grammar that stand in more than one crate.
 #![tactic(auto)]
 
-// What a sum, or a part of one, comes to: a value, or that a name in it is not given, or that a value in it lies out of range.
+// Why a sum, or a part of one, has no value: a name in it is not given, or a value in it lies out of range.
 #[derive(Clone, Copy)]
-pub enum Worked {
-    Is(u16),
+pub enum NoValue {
     Missing,
     Beyond,
 }
@@ -49,20 +48,13 @@ pub enum Kept {
     Later,
 }
 
-// What is found of a name: that it is not given, or its value, where 65536 stands for all past the range.
-#[derive(Clone, Copy)]
-pub enum Found {
-    Nothing,
-    Value(u32),
-}
-
 // What the order or the sum of a line gives: no word, a word, or a fixed word and one that is worked.
 #[derive(Clone, Copy)]
 pub enum Given {
     Outside,
     Nothing,
-    One(Worked),
-    Two(u16, Worked),
+    One(Result<u16, NoValue>),
+    Two(u16, Result<u16, NoValue>),
 }
 
 // Why a text is refused.
@@ -72,13 +64,6 @@ pub enum Refusal {
     NameFault,
     OutOfRange,
     NoRoom,
-}
-
-// What is wrong with a line.
-#[derive(Clone, Copy)]
-pub enum Flaw {
-    Nothing,
-    Is(Refusal),
 }
 
 // The two texts.
@@ -96,30 +81,5 @@ pub struct Line {
     pub count: usize,
 }
 
-// The fault that the texts are refused for, as far as they were read.
-#[derive(Clone, Copy)]
-pub enum Fault {
-    Nothing,
-    At(Refusal, Line),
-}
-
-// What two texts come to: a count of words, or a refusal with the line that it names.
-#[derive(Clone, Copy)]
-pub enum Judged {
-    Fine(usize),
-    Refused(Refusal, Line),
-}
-
-// What a translation answers: a count of words, or a refusal and the text that its line stands in.
-#[derive(Clone, Copy)]
-pub enum Translation {
-    Words(usize),
-    Refused(Refusal, Text),
-}
-
-// What printing a list of words answers: a count of bytes, or a refusal.
-#[derive(Clone, Copy)]
-pub enum Printing {
-    Bytes(usize),
-    Refused(Refusal),
-}
+// The fault that the texts are refused for: the refusal, and the line that it names.
+pub type Fault = (Refusal, Line);

@@ -3,7 +3,6 @@
 
 ghost use Rattle.joining.specs.Texts.{Begins};
 
-use grammar::Worked;
 use tokens::{LABEL, Token, next_token};
 use values::number;
 
@@ -31,7 +30,7 @@ fn leading(text: &[u8]) -> Task
     if from != 0 {
         return Task::Nothing;
     }
-    let Worked::Is(n) = number(&text[from..to]) else {
+    let Ok(n) = number(&text[from..to]) else {
         return Task::Nothing;
     };
     Task::Of(n, to)

@@ -1,4 +1,5 @@
 -- A line of the script judged, and what the lines so far come to. Assumes nothing.
+use Rattle.std.specs.Prelude.{Err, None, Ok, Option, Result, Some}
 use mathlib.Core.Path.{◌≡◌, refl, sym, ap, subst, ◌∙◌}
 use mathlib.Core.Bool.{Bool, true, false}
 use mathlib.Core.List.{List, [], ◌∷◌, ◌++◌, append_assoc}
@@ -15,13 +16,11 @@ use Rattle.grammar.specs.Sums.{Entry, end_of_range}
 use Rattle.grammar.specs.Lines as Lines
 use Rattle.grammar.specs.Lines.{label_of, body_of, size_of, given, line_words}
 use Rattle.grammar.specs.Texts.{give, label_gives, label_flaw, given_flaw, lower, noted, nowhere, room_flaw, judged_as, labels_given, script_fault, script_words, last_line}
-use Rattle.grammar.specs.declared.Fault.{Fault}
-use Rattle.grammar.specs.declared.Flaw.{Flaw}
 use Rattle.grammar.specs.declared.Given.{Given}
-use Rattle.grammar.specs.declared.Judged.{Judged}
+use Rattle.grammar.specs.declared.Line.{Line}
+use Rattle.grammar.specs.declared.NoValue.{NoValue}
 use Rattle.grammar.specs.declared.Refusal.{Refusal}
 use Rattle.grammar.specs.declared.Text.{Text}
-use Rattle.grammar.specs.declared.Worked.{Worked}
 use Rattle.tokens.specs.Shown.{part, shown}
 use Rattle.tokens.specs.declared.Token.{Token}
 use Rattle.phrases.specs.Phrases.{shown_label, LabelInside, Starts}
@@ -39,27 +38,27 @@ pub has_no_more : (m : ℕ) → most ≤ m → m ≡ one_more m
 has_no_more m h = rw (le-ltb m most h, one_more)
 
 -- the room of the target
-pub room_enough : (fault : Fault) (words room last stop : ℕ) → words ≤ room → fault ≡ noted fault (room_flaw words room) (line_at last stop)
+pub room_enough : (fault : Option (Refusal × Line)) (words room last stop : ℕ) → words ≤ room → fault ≡ noted fault (room_flaw words room) (line_at last stop)
 room_enough fault words room last stop h =
-    let e : room_flaw words room ≡ Flaw.Nothing = rw (le-leb words room h, room_flaw) in
-    ap (λ (f : Flaw). noted fault f (line_at last stop)) (sym e)
+    let e : room_flaw words room ≡ None = rw (le-leb words room h, room_flaw) in
+    ap (λ (f : Option Refusal). noted fault f (line_at last stop)) (sym e)
 
-pub room_short : (fault after : Fault) (words room last stop : ℕ) → room < words → after ≡ noted fault (Flaw.Is Refusal.NoRoom) (line_at last stop) →
+pub room_short : (fault after : Option (Refusal × Line)) (words room last stop : ℕ) → room < words → after ≡ noted fault (Some Refusal.NoRoom) (line_at last stop) →
     after ≡ noted fault (room_flaw words room) (line_at last stop)
 room_short fault after words room last stop h e =
-    let f : room_flaw words room ≡ Flaw.Is Refusal.NoRoom = rw (lt-leb words room h, room_flaw) in
-    e ∙ ap (λ (f : Flaw). noted fault f (line_at last stop)) (sym f)
+    let f : room_flaw words room ≡ Some Refusal.NoRoom = rw (lt-leb words room h, room_flaw) in
+    e ∙ ap (λ (f : Option Refusal). noted fault f (line_at last stop)) (sym f)
 
 -- a line gives at most two words
 few_words : (g : Given) → length (line_words g) ≤ 2
 few_words Given.Outside = omega arith
 few_words Given.Nothing = omega arith
-few_words (Given.One (Worked.Is v)) = omega arith
-few_words (Given.One Worked.Missing) = omega arith
-few_words (Given.One Worked.Beyond) = omega arith
-few_words (Given.Two f (Worked.Is v)) = omega arith
-few_words (Given.Two f Worked.Missing) = omega arith
-few_words (Given.Two f Worked.Beyond) = omega arith
+few_words (Given.One (Ok v)) = omega arith
+few_words (Given.One (Err NoValue.Missing)) = omega arith
+few_words (Given.One (Err NoValue.Beyond)) = omega arith
+few_words (Given.Two f (Ok v)) = omega arith
+few_words (Given.Two f (Err NoValue.Missing)) = omega arith
+few_words (Given.Two f (Err NoValue.Beyond)) = omega arith
 
 pub few_counted : (g : Given) (count : ℕ) → count ≡ length (line_words g) → count ≤ 2
 few_counted g count e = omega (arith, few_words g)
@@ -73,7 +72,7 @@ module _ (l : List ℕ) (label : Label) (body : Token) (from to : ℕ) (starts :
   label_known t n m known = subst (λ (x : Lines.Label). KnownLabel t n m x) (starts.labelled ∙ ap (shown_label l) is) known
 
 module _ (t : Table) (n m at end : ℕ) (script : List ℕ) (label : Label) (body : Token) (starts : Starts (part script at end) label body) where
-  module _ (before after : Fault) (words above count : ℕ) (g : Given) (gf : Flaw) (p : at ≤ end) (q : end ≤ length script)
+  module _ (before after : Option (Refusal × Line)) (words above count : ℕ) (g : Given) (gf : Option Refusal) (p : at ≤ end) (q : end ≤ length script)
       (gave : g ≡ given (entries t n) (shown (part script at end) body)) (counted : count ≡ length (line_words g)) (flaw : gf ≡ given_flaw g) where
     line_judged : (lab : Lines.Label) → label_of (tokens (part script at end)) ≡ lab →
         after ≡ noted before (lower (label_flaw (entries t m) lab) gf) (line_at at end) → above ≡ above_after m lab →
@@ -93,7 +92,7 @@ module _ (t : Table) (n m at end : ℕ) (script : List ℕ) (label : Label) (bod
         LineJudged t n m at (part script at end) before words above after (words + count)
     line_unlabelled e noting stands = line_judged Lines.Label.none (starts.labelled ∙ ap (shown_label (part script at end)) e) noting stands
 
-    pub line_labelled : (from to : ℕ) (flaws both : Flaw) → label ≡ Label.At from to →
+    pub line_labelled : (from to : ℕ) (flaws both : Option Refusal) → label ≡ Label.At from to →
         flaws ≡ label_flaw (entries t m) (Lines.Label.label (part (part script at end) from to)) → both ≡ lower flaws gf →
         after ≡ noted before both (line_at at end) → above ≡ one_more m → LineJudged t n m at (part script at end) before words above after (words + count)
     line_labelled from to flaws both e flawed lowered noting stands =
@@ -186,7 +185,7 @@ next_line script at count h e =
     rw e (line_splits script at h ∙ ap (λ (l : List ℕ). l ∷ lines (drop (at + length (first_line (drop at script)) + 1) script)) (sym (line_is_part script at _ refl)))
 
 -- what the lines before a place have left, where `place` words come before the labels from there on
-pub record SoFar (t : Table) (split n : ℕ) (script : List ℕ) (before fault : Fault) (above words at last stop : ℕ) : Type 0 where
+pub record SoFar (t : Table) (split n : ℕ) (script : List ℕ) (before fault : Option (Refusal × Line)) (above words at last stop : ℕ) : Type 0 where
   pub place : ℕ
   pub labels : labels_given (entries t above) place (lines (drop at script)) ≡ entries t n
   pub faults :
@@ -196,7 +195,7 @@ pub record SoFar (t : Table) (split n : ℕ) (script : List ℕ) (before fault :
   pub ordered : last ≤ stop
   pub few : words ≤ 2 * at
 
-module _ (t : Table) (split n : ℕ) (script : List ℕ) (before : Fault) where
+module _ (t : Table) (split n : ℕ) (script : List ℕ) (before : Option (Refusal × Line)) where
   pub none_so_far : Labelled t split n script → SoFar t split n script before before split 0 0 0 0
   none_so_far labelled =
       record {
@@ -209,7 +208,7 @@ module _ (t : Table) (split n : ℕ) (script : List ℕ) (before : Fault) where
         few = omega arith;
       }
 
-  module _ (fault : Fault) (above words at last stop : ℕ) (so : SoFar t split n script before fault above words at last stop) where
+  module _ (fault : Option (Refusal × Line)) (above words at last stop : ℕ) (so : SoFar t split n script before fault above words at last stop) where
     module _ (count : ℕ) (h : at < length script) (is : count ≡ length (first_line (drop at script))) where
       here : List ℕ
       here = part script at (at + count)
@@ -231,7 +230,7 @@ module _ (t : Table) (split n : ℕ) (script : List ℕ) (before : Fault) where
       unfolding here
       so_known = given_known t n above so.place (label_of (tokens here)) label_after
 
-      pub one_line_more : (after : Fault) (higher more : ℕ) → LineJudged t n above at (part script at (at + count)) fault words higher after more →
+      pub one_line_more : (after : Option (Refusal × Line)) (higher more : ℕ) → LineJudged t n above at (part script at (at + count)) fault words higher after more →
           SoFar t split n script before after higher more (at + count + 1) at (at + count)
       unfolding labels_given script_fault script_words last_line here rest
       one_line_more after higher more judged =
@@ -257,7 +256,7 @@ module _ (t : Table) (split n : ℕ) (script : List ℕ) (before : Fault) where
             few = omega (arith, judged.few, so.few);
           }
 
-    pub all_so_far : (room : ℕ) (after : Fault) (r : Judged) → lines (drop at script) ≡ [] → after ≡ noted fault (room_flaw words room) (line_at last stop) →
+    pub all_so_far : (room : ℕ) (after : Option (Refusal × Line)) (r : Result ℕ (Refusal × Line)) → lines (drop at script) ≡ [] → after ≡ noted fault (room_flaw words room) (line_at last stop) →
         r ≡ judged_as after words → ScriptJudged t split n script before room r
     unfolding script_fault script_words last_line
     all_so_far room after r ends noting judged =

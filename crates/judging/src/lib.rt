@@ -11,7 +11,7 @@ ghost use Rattle.giving.specs.Passes.{KnownLabel, LineJudged, Labelled, ScriptJu
 
 use flaws::{count_of, given_flaw, judge_by, lower, noted};
 use giving::label_flaw;
-use grammar::{Fault, Flaw, Judged, Line, Refusal, Text};
+use grammar::{Fault, Line, Refusal, Text};
 use phrases::{Label, given, start_of};
 use reader::line_count;
 use tables::MOST_NAMES;
@@ -20,7 +20,7 @@ use tables::MOST_NAMES;
 #[derive(Clone, Copy)]
 pub struct ScriptPast {
     pub above: usize,
-    pub fault: Fault,
+    pub fault: Option<Fault>,
     pub words: usize,
 }
 
@@ -48,7 +48,7 @@ fn judge_line<'a>(
     at: usize,
     end: usize,
     above: usize,
-    fault: Fault,
+    fault: Option<Fault>,
     words: usize,
 ) -> ScriptPast
     requires chained { Chained (table names.now script.now split froms.now counts.now values.now nexts.now) filled }
@@ -100,7 +100,7 @@ fn judge_line<'a>(
 }
 
 // The fault with the room of the target taken into account.
-fn with_room(fault: Fault, words: usize, room: usize, last: usize, stop: usize) -> Fault
+fn with_room(fault: Option<Fault>, words: usize, room: usize, last: usize, stop: usize) -> Option<Fault>
     requires { last ≤ stop }
     ensures { result ≡ noted_by fault (room_flaw words room) (line_at last stop) }
 {
@@ -109,7 +109,7 @@ fn with_room(fault: Fault, words: usize, room: usize, last: usize, stop: usize) 
     }
     noted(
         fault,
-        Flaw::Is(Refusal::NoRoom),
+        Some(Refusal::NoRoom),
         Line {
             text: Text::Script,
             from: last,
@@ -129,9 +129,9 @@ pub fn judge_script<'a>(
     values: &[u32; MOST_NAMES],
     nexts: &[u16; MOST_NAMES],
     heads: &[u16; MOST_NAMES],
-    before: Fault,
+    before: Option<Fault>,
     room: usize,
-) -> Judged
+) -> Result<usize, Fault>
     requires chained { Chained (table names.now script.now split froms.now counts.now values.now nexts.now) filled }
     requires headed { Headed (table names.now script.now split froms.now counts.now values.now nexts.now) filled heads.now }
     requires split_le_filled { split ≤ filled }

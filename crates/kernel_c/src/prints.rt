@@ -4,7 +4,7 @@ ghost use Rattle.grammar.specs.Printing.{printing_bytes, printing_number};
 ghost use Rattle.kernel_c.specs.Promises.{PrintsC, MeasuresTextC};
 
 use flaws::number_of;
-use grammar::Printing;
+use grammar::Refusal;
 use paper::NOT_REFUSED;
 use printing::{print, print_size};
 
@@ -17,16 +17,16 @@ pub struct Printed {
 }
 
 // What printing answers, in numbers.
-fn tell_printing(answer: Printing) -> Printed
+fn tell_printing(answer: Result<usize, Refusal>) -> Printed
     ensures bytes_value { result.bytes ≡ printing_bytes answer }
     ensures number_value { result.number ≡ printing_number answer }
 {
     match answer {
-        Printing::Bytes(bytes) => Printed {
+        Ok(bytes) => Printed {
             bytes: bytes as u64,
             number: NOT_REFUSED,
         },
-        Printing::Refused(r) => Printed {
+        Err(r) => Printed {
             bytes: 0,
             number: number_of(r),
         },

@@ -4,7 +4,7 @@ ghost use Rattle.grammar.specs.Texts.{text_number, translation_words, translatio
 ghost use Rattle.kernel_c.specs.Promises.{TranslatesC, NamesLineC};
 
 use flaws::number_of;
-use grammar::{Judged, Text, Translation};
+use grammar::{Fault, Refusal, Text};
 use paper::NOT_REFUSED;
 use texts::{judge, translate};
 
@@ -44,18 +44,18 @@ fn number_of_text(text: Text) -> u16
 }
 
 // A translation, in numbers.
-fn tell_translation(answer: Translation) -> Translated
+fn tell_translation(answer: Result<usize, (Refusal, Text)>) -> Translated
     ensures words_value { result.words ≡ translation_words answer }
     ensures number_value { result.number ≡ translation_number answer }
     ensures text_value { result.text ≡ translation_text answer }
 {
     match answer {
-        Translation::Words(words) => Translated {
+        Ok(words) => Translated {
             words: words as u64,
             number: NOT_REFUSED,
             text: NO_TEXT,
         },
-        Translation::Refused(r, text) => Translated {
+        Err((r, text)) => Translated {
             words: 0,
             number: number_of(r),
             text: number_of_text(text),
@@ -64,13 +64,13 @@ fn tell_translation(answer: Translation) -> Translated
 }
 
 // The line that is refused, in numbers.
-fn tell_line(judged: Judged) -> RefusedLine
+fn tell_line(judged: Result<usize, Fault>) -> RefusedLine
     ensures start_value { result.start ≡ (named_line judged).from }
     ensures bytes_value { result.bytes ≡ (named_line judged).count }
 {
     match judged {
-        Judged::Fine(_) => RefusedLine { start: 0, bytes: 0 },
-        Judged::Refused(_, line) => RefusedLine {
+        Ok(_) => RefusedLine { start: 0, bytes: 0 },
+        Err((_, line)) => RefusedLine {
             start: line.from as u64,
             bytes: line.count as u64,
         },

@@ -1,4 +1,5 @@
 -- The lines of the names: what one line gives, and what the lines so far do. Assumes nothing.
+use Rattle.std.specs.Prelude.{None, Option, Result, Some}
 use mathlib.Core.Path.{◌≡◌, refl, sym, ap, ◌∙◌}
 use mathlib.Core.Bool.{Bool, true, false}
 use mathlib.Core.List.{List, [], ◌∷◌}
@@ -11,12 +12,10 @@ use Rattle.grammar.specs.Tokens.{tokens, lines, first_line}
 use Rattle.grammar.specs.Sums.{Entry}
 use Rattle.grammar.specs.Lines.{names_line}
 use Rattle.grammar.specs.Texts.{give, give_flaw, worked_flaw, kept_value, lower, names_given, names_fault, noted, line}
-use Rattle.grammar.specs.declared.Fault.{Fault}
-use Rattle.grammar.specs.declared.Flaw.{Flaw}
 use Rattle.grammar.specs.declared.Line.{Line}
+use Rattle.grammar.specs.declared.NoValue.{NoValue}
 use Rattle.grammar.specs.declared.Refusal.{Refusal}
 use Rattle.grammar.specs.declared.Text.{Text}
-use Rattle.grammar.specs.declared.Worked.{Worked}
 use Rattle.tokens.specs.Shown.{part}
 use Rattle.tables.specs.Tables.{Table, table, entries, text_at, Chained, Headed, most}
 use Rattle.tables.proofs.Laws.{entries_count}
@@ -44,19 +43,19 @@ give_alike es w x v alike = go (ltb (length es) most) refl
 abbrev pub LineShown : Table → ℕ → List ℕ → NamesLine → Type 0
 LineShown t n l r = names_line (entries t n) (tokens l) ≡ shown_names l r
 
-pub outside_read : (t : Table) (n : ℕ) (heads names : List ℕ) (at end : ℕ) (before : Fault) → Chained t n → Headed t n heads → (at ≤ end) × (end ≤ length names) →
-    (r : NamesLine) → LineShown t n (part names at end) r → r ≡ NamesLine.Outside → (after : Fault) →
-    after ≡ noted before (Flaw.Is Refusal.OutsideGrammar) (here at end) → NameRead t t n heads at (part names at end) before n after
+pub outside_read : (t : Table) (n : ℕ) (heads names : List ℕ) (at end : ℕ) (before : Option (Refusal × Line)) → Chained t n → Headed t n heads → (at ≤ end) × (end ≤ length names) →
+    (r : NamesLine) → LineShown t n (part names at end) r → r ≡ NamesLine.Outside → (after : Option (Refusal × Line)) →
+    after ≡ noted before (Some Refusal.OutsideGrammar) (here at end) → NameRead t t n heads at (part names at end) before n after
 outside_read t n heads names at end before chained headed inside r shown e after noting =
     let is : LineShown t n (part names at end) NamesLine.Outside = shown ∙ ap (shown_names (part names at end)) e in
     record {
       given = rw is;
-      fault = rw is (noting ∙ ap (noted before (Flaw.Is Refusal.OutsideGrammar)) (same_line names at end inside.0 inside.1));
+      fault = rw is (noting ∙ ap (noted before (Some Refusal.OutsideGrammar)) (same_line names at end inside.0 inside.1));
       chained = chained;
       headed = headed;
     }
 
-pub blank_read : (t : Table) (n : ℕ) (heads names : List ℕ) (at end : ℕ) (before : Fault) → Chained t n → Headed t n heads →
+pub blank_read : (t : Table) (n : ℕ) (heads names : List ℕ) (at end : ℕ) (before : Option (Refusal × Line)) → Chained t n → Headed t n heads →
     (r : NamesLine) → LineShown t n (part names at end) r → r ≡ NamesLine.Blank → NameRead t t n heads at (part names at end) before n before
 blank_read t n heads names at end before chained headed r shown e =
     let is : LineShown t n (part names at end) NamesLine.Blank = shown ∙ ap (shown_names (part names at end)) e in
@@ -64,20 +63,20 @@ blank_read t n heads names at end before chained headed r shown e =
 
 -- a name that a line gives stands in the names, where an entry has it unless the table is full
 pub name_stands : (names : List ℕ) (at end : ℕ) → (at ≤ end) × (end ≤ length names) → (r : NamesLine) → NamesInside (part names at end) r →
-    {from to : ℕ} {v : Worked} → r ≡ NamesLine.Gives from to v → Stands names at end from to
+    {from to : ℕ} {v : Result ℕ NoValue} → r ≡ NamesLine.Gives from to v → Stands names at end from to
 name_stands names at end inside r stands {from} {to} e = word_stands names at end from to inside (rw e at stands)
 
 pub name_in_text : (names script : List ℕ) (n : ℕ) {at end from to : ℕ} → Stands names at end from to → n < most →
     at + from + (to - from) ≤ length (text_at names script most n)
 name_in_text names script n stands h = rw (lt-ltb n most h, text_at) (omega arith)
 
-pub name_read : (names script : List ℕ) (froms counts values nexts : List ℕ) (u : Table) (n : ℕ) (heads : List ℕ) (at end : ℕ) (before : Fault) →
+pub name_read : (names script : List ℕ) (froms counts values nexts : List ℕ) (u : Table) (n : ℕ) (heads : List ℕ) (at end : ℕ) (before : Option (Refusal × Line)) →
     (r : NamesLine) → LineShown (table names script most froms counts values nexts) n (part names at end) r →
-    {from to : ℕ} {v : Worked} → r ≡ NamesLine.Gives from to v → Stands names at end from to → (at ≤ end) × (end ≤ length names) →
-    (again worked flaw : Flaw) → again ≡ give_flaw (entries (table names script most froms counts values nexts) n) (part (part names at end) from to) →
+    {from to : ℕ} {v : Result ℕ NoValue} → r ≡ NamesLine.Gives from to v → Stands names at end from to → (at ≤ end) × (end ≤ length names) →
+    (again worked flaw : Option Refusal) → again ≡ give_flaw (entries (table names script most froms counts values nexts) n) (part (part names at end) from to) →
     worked ≡ worked_flaw v → flaw ≡ lower again worked → (value more : ℕ) → value ≡ kept_value v →
     GiveMade (table names script most froms counts values nexts) u n heads (at + from) (to - from) value more →
-    (after : Fault) → after ≡ noted before flaw (here at end) → NameRead (table names script most froms counts values nexts) u n heads at (part names at end) before more after
+    (after : Option (Refusal × Line)) → after ≡ noted before flaw (here at end) → NameRead (table names script most froms counts values nexts) u n heads at (part names at end) before more after
 name_read names script froms counts values nexts u n heads at end before r shown {from} {to} {v} e stands inside again worked flaw p q s value more k made after noting =
     let t : Table = table names script most froms counts values nexts in
     let is : LineShown t n (part names at end) (NamesLine.Gives from to v) = shown ∙ ap (shown_names (part names at end)) e in
@@ -89,23 +88,23 @@ name_read names script froms counts values nexts u n heads at end before r shown
           (λ h. rw (lt-ltb n most (omega (arith, entries_count t n)), text_at) (word_in_text names at end from to stands)));
       fault =
           rw is
-          (noting ∙ ap (λ (f : Flaw). noted before f (here at end)) (s ∙ ap (lower again) q ∙ ap (λ (f : Flaw). lower f (worked_flaw v)) p) ∙ ap (noted before (lower (give_flaw (entries t n) w) (worked_flaw v))) (same_line names at end inside.0 inside.1));
+          (noting ∙ ap (λ (f : Option Refusal). noted before f (here at end)) (s ∙ ap (lower again) q ∙ ap (λ (f : Option Refusal). lower f (worked_flaw v)) p) ∙ ap (noted before (lower (give_flaw (entries t n) w) (worked_flaw v))) (same_line names at end inside.0 inside.1));
       chained = made.chained;
       headed = made.headed;
     }
 
 -- the lines so far: with the lines from a place on they give what all lines do
-pub record NamesPassed (t : Table) (heads names : List ℕ) (n : ℕ) (before : Fault) (at : ℕ) : Type 0 where
+pub record NamesPassed (t : Table) (heads names : List ℕ) (n : ℕ) (before : Option (Refusal × Line)) (at : ℕ) : Type 0 where
   pub given : names_given (entries t n) (lines (drop at names)) ≡ names_given [] (lines names)
-  pub fault : names_fault (entries t n) before at (lines (drop at names)) ≡ names_fault [] Fault.Nothing 0 (lines names)
+  pub fault : names_fault (entries t n) before at (lines (drop at names)) ≡ names_fault [] None 0 (lines names)
   pub chained : Chained t n
   pub headed : Headed t n heads
 
-pub no_name_passed : (t : Table) (heads names : List ℕ) → Chained t 0 → Headed t 0 heads → NamesPassed t heads names 0 Fault.Nothing 0
+pub no_name_passed : (t : Table) (heads names : List ℕ) → Chained t 0 → Headed t 0 heads → NamesPassed t heads names 0 None 0
 unfolding entries
 no_name_passed t heads names chained headed = record { given = refl; fault = refl; chained = chained; headed = headed }
 
-pub name_passed : (t u : Table) (heads after names : List ℕ) (n r : ℕ) (f g : Fault) (at count : ℕ) → NamesPassed t heads names n f at → at < length names →
+pub name_passed : (t u : Table) (heads after names : List ℕ) (n r : ℕ) (f g : Option (Refusal × Line)) (at count : ℕ) → NamesPassed t heads names n f at → at < length names →
     count ≡ length (first_line (drop at names)) → NameRead t u n after at (part names at (at + count)) f r g → NamesPassed u after names r g (at + count + 1)
 unfolding names_given names_fault
 name_passed t u heads after names n r f g at count passed h e read =
@@ -119,7 +118,7 @@ name_passed t u heads after names n r f g at count passed h e read =
       headed = read.headed;
     }
 
-pub names_passed : (t : Table) (heads names : List ℕ) (n : ℕ) (f : Fault) (at : ℕ) → NamesPassed t heads names n f at → length names ≤ at → NamesRead t heads names n f
+pub names_passed : (t : Table) (heads names : List ℕ) (n : ℕ) (f : Option (Refusal × Line)) (at : ℕ) → NamesPassed t heads names n f at → length names ≤ at → NamesRead t heads names n f
 unfolding names_given names_fault
 names_passed t heads names n f at passed h =
     let none : lines (drop at names) ≡ [] = no_lines names at h in

@@ -6,7 +6,7 @@ ghost use Rattle.giving.specs.Passes.{NameRead, NamesRead};
 
 use flaws::{lower, noted, value_kept, worked_flaw};
 use giving::{give, name_flaw};
-use grammar::{Fault, Flaw, Line, Refusal, Text};
+use grammar::{Fault, Line, Refusal, Text};
 use phrases::{NamesLine, names_line};
 use reader::line_count;
 use tables::MOST_NAMES;
@@ -15,7 +15,7 @@ use tables::MOST_NAMES;
 #[derive(Clone, Copy)]
 pub struct NamesPast {
     pub filled: usize,
-    pub fault: Fault,
+    pub fault: Option<Fault>,
 }
 
 // A line of the names: it is read with the names above it, and gives its own.
@@ -30,7 +30,7 @@ fn read_name<'a>(
     heads: &mut [u16; MOST_NAMES],
     at: usize,
     end: usize,
-    fault: Fault,
+    fault: Option<Fault>,
 ) -> NamesPast
     requires chained { Chained (table names.now script.now most froms.old counts.old values.old nexts.old) filled }
     requires headed { Headed (table names.now script.now most froms.old counts.old values.old nexts.old) filled heads.old }
@@ -48,7 +48,7 @@ fn read_name<'a>(
     ) {
         NamesLine::Outside => NamesPast {
             filled: filled,
-            fault: noted(fault, Flaw::Is(Refusal::OutsideGrammar), here),
+            fault: noted(fault, Some(Refusal::OutsideGrammar), here),
         },
         NamesLine::Blank => NamesPast {
             filled: filled,
@@ -99,7 +99,7 @@ pub fn read_names<'a>(
     ensures { NamesRead (table names.now script.now most froms.new counts.new values.new nexts.new) heads.new names.now result.filled result.fault }
 {
     let mut filled: usize = 0;
-    let mut fault = Fault::Nothing;
+    let mut fault = None;
     let mut at: usize = 0;
     while at < names.len() {
         let end = at + line_count(names, at);

@@ -10,7 +10,7 @@ ghost use Rattle.tokens.specs.Shown.{shown, Inside};
 ghost use Rattle.tables.specs.Tables.{table, entries, Chained, Headed};
 ghost use Rattle.phrases.specs.Phrases.{is_name, shown_names, NamesInside, Starts, shown_operand, OperandInside, order_end};
 
-use grammar::{Given, Kept, Operands, Worked};
+use grammar::{Given, Kept, NoValue, Operands};
 use kept::kept;
 use sums::{Total, sum_of};
 use tables::MOST_NAMES;
@@ -22,7 +22,7 @@ use tokens::{EQUALS, LABEL, Token, ends, mark_of, next_token};
 pub enum NamesLine {
     Outside,
     Blank,
-    Gives(usize, usize, Worked),
+    Gives(usize, usize, Result<u16, NoValue>),
 }
 
 // A line's label, with its first byte and the place after it.
@@ -191,7 +191,7 @@ fn one(word: u16, t: Token) -> Given
     ensures { (l : List ℕ) → result ≡ one_of word (shown l t) }
 {
     if ends(t) {
-        return Given::One(Worked::Is(word));
+        return Given::One(Ok(word));
     }
     Given::Outside
 }

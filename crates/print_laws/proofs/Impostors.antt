@@ -1,4 +1,5 @@
 -- Wrong printers, each ruled out by what is promised, on a small list by computation. Assumes nothing.
+use Rattle.std.specs.Prelude.{Err, Ok, Result}
 use mathlib.Core.Path.{◌≡◌, refl}
 use mathlib.Core.List.{List, [], ◌∷◌, ◌++◌}
 use Prim.Native.Nat.{ℕ}
@@ -9,22 +10,21 @@ use Rattle.grammar.specs.Tokens.{bytes}
 use Rattle.grammar.specs.Kept.{kept_words}
 use Rattle.grammar.specs.Printing.{named_in, named_as, printed, measured, fitting, printing, inscribed}
 use Rattle.grammar.specs.Promises.{Prints}
-use Rattle.grammar.specs.declared.Printing.{Printing}
 use Rattle.grammar.specs.declared.Refusal.{Refusal}
 
 -- a printer, and that it does what is promised for all lists and buffers
 abbrev pub Printer : Type 0
-Printer = List ℕ → List ℕ → Printing × List ℕ
+Printer = List ℕ → List ℕ → (Result ℕ Refusal) × List ℕ
 
 abbrev pub Keeps : Printer → Type 0
 Keeps f = (words buffer : List ℕ) → Prints words buffer (f words buffer).0 (f words buffer).1
 
 -- what two small lists come to: `return`, and 7 with and without room
 pub record Small : Type 0 where
-  pub order : printing (4352 ∷ []) 7 ≡ Printing.Bytes 7
-  pub number : printing (7 ∷ []) 2 ≡ Printing.Bytes 2
+  pub order : printing (4352 ∷ []) 7 ≡ Ok 7
+  pub number : printing (7 ∷ []) 2 ≡ Ok 2
   pub number_text : printed (7 ∷ []) ≡ 55 ∷ 10 ∷ []
-  pub no_room : printing (7 ∷ []) 1 ≡ Printing.Refused Refusal.NoRoom
+  pub no_room : printing (7 ∷ []) 1 ≡ Err Refusal.NoRoom
 
 small : Small
 unfolding bytes kept_words decimal named_in named_as printed measured printing
@@ -37,7 +37,7 @@ in_digits (w ∷ ws) = decimal w ++ (newline ++ in_digits ws)
 
 abbrev pub numbering : Printer
 numbering words buffer =
-    let answer = fitting (Printing.Bytes (length (in_digits words))) (length buffer) in
+    let answer = fitting (Ok (length (in_digits words))) (length buffer) in
     (answer, inscribed answer (in_digits words) buffer)
 
 pub not_numbering : Keeps numbering → ⊥

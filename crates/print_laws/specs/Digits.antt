@@ -1,12 +1,11 @@
 -- The decimal digits of a number are read as that number. Assumes nothing.
-use Rattle.std.specs.Prelude.{◌≡◌, refl, Bool, true, false, cond, ◌&&◌, List, [], ◌∷◌, ◌++◌, ℕ, zero, suc, ◌+◌, ◌-◌, ◌*◌, ◌/◌, ◌%◌, ◌<◌, ◌≤◌, leb, ltb, eqb, length}
+use Rattle.std.specs.Prelude.{◌≡◌, refl, Bool, true, false, cond, ◌&&◌, List, [], ◌∷◌, ◌++◌, ℕ, zero, suc, ◌+◌, ◌-◌, ◌*◌, ◌/◌, ◌%◌, ◌<◌, ◌≤◌, leb, ltb, eqb, length, Ok}
 use Rattle.std.proofs.Common.{ap, ◌∙◌, append_assoc, append-nil, arith, ltb-true, ltb-false, leb-true, le-leb, lt-ltb, ne_eqb, length-append}
 use Rattle.std.proofs.Math.Bool.{and-eq-true_iff}
 use Rattle.std.proofs.lemmas.Bool.{lt-leb}
 use Rattle.paper.specs.Runner.{digit as digit_of, last_digits, decimal}
 use Rattle.grammar.specs.Tokens.{comment, letter, digit, Token, Open, begun, alone, tokens_on, tokens}
 use Rattle.grammar.specs.Sums.{Reading, in_range, end_of_range, sum, product, term, sum_of, decimal as value}
-use Rattle.grammar.specs.declared.Worked.{Worked}
 
 -- what a test says of each byte
 abbrev pub each : (ℕ → Bool) → List ℕ → Bool
@@ -101,16 +100,16 @@ unfolding decimal
 value_back n = last_value (suc n) n (omega arith)
 
 -- a number in range as a sum
-sum_of_number : (ds : List ℕ) (n : ℕ) → value 0 ds ≡ n → n < end_of_range → sum_of [] (Token.number ds ∷ []) ≡ Reading.read (Worked.Is n) []
+sum_of_number : (ds : List ℕ) (n : ℕ) → value 0 ds ≡ n → n < end_of_range → sum_of [] (Token.number ds ∷ []) ≡ Reading.read (Ok n) []
 unfolding sum_of sum product term
 sum_of_number ds n e h =
     let t : ltb n end_of_range ≡ true = lt-ltb n end_of_range h in
     let once : 1 * n ≡ n = omega arith in
     let nought : 0 + n ≡ n = omega arith in
-    let is : in_range n ≡ Worked.Is n = rw (t, in_range) in
+    let is : in_range n ≡ Ok n = rw (t, in_range) in
     rw (e, is, once, is, nought, is)
 
-pub sum_back : (n : ℕ) → n < end_of_range → sum_of [] (Token.number (decimal n) ∷ []) ≡ Reading.read (Worked.Is n) []
+pub sum_back : (n : ℕ) → n < end_of_range → sum_of [] (Token.number (decimal n) ∷ []) ≡ Reading.read (Ok n) []
 sum_back n h = sum_of_number (decimal n) n (value_back n) h
 
 pub token_back : (n : ℕ) → tokens (decimal n) ≡ Token.number (decimal n) ∷ []

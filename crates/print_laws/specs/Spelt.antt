@@ -1,5 +1,5 @@
 -- Each line of a printed text is read as the words that it was printed for. Assumes nothing.
-use Rattle.std.specs.Prelude.{◌≡◌, refl, Bool, true, false, not, ◌&&◌, ℕ, ◌+◌, ◌*◌, ◌<◌, ◌≤◌, eqb, leb, length}
+use Rattle.std.specs.Prelude.{◌≡◌, refl, Bool, true, false, not, ◌&&◌, ℕ, ◌+◌, ◌*◌, ◌<◌, ◌≤◌, eqb, leb, length, Err, Ok}
 use Rattle.std.proofs.Common.{ap, sym, ◌∙◌, true≢false, arith, eqb-true, leb-true, ne_eqb}
 use Rattle.std.proofs.Math.Bool.{and-eq-true_iff}
 use mathlib.Core.List.{List, [], ◌∷◌, ◌++◌, append_assoc}
@@ -12,8 +12,8 @@ use Rattle.grammar.specs.Lines.{Label, label_of, Operand, register, register_as,
 use Rattle.grammar.specs.Printing.{Spelling, number_text}
 use Rattle.grammar.specs.declared.Given.{Given}
 use Rattle.grammar.specs.declared.Kept.{Kept}
+use Rattle.grammar.specs.declared.NoValue.{NoValue}
 use Rattle.grammar.specs.declared.Operands.{Operands}
-use Rattle.grammar.specs.declared.Worked.{Worked}
 use Rattle.print_laws.specs.Digits.{each, each_first, each_both, each_so, digit_low, digit_high, are_digits, sum_back, token_back}
 
 -- a byte that ends no line and begins no comment
@@ -70,7 +70,7 @@ pub record Line (l : List ℕ) (g : Given) : Type 0 where
   pub gives : given [] (tokens l) ≡ g
 
 -- a number
-pub number_line : (n : ℕ) → n < end_of_range → Line (decimal n) (Given.One (Worked.Is n))
+pub number_line : (n : ℕ) → n < end_of_range → Line (decimal n) (Given.One (Ok n))
 unfolding label_of given
 number_line n h =
     record {
@@ -83,9 +83,9 @@ number_line n h =
 abbrev is_one : ℕ → Given → Bool
 is_one w Given.Outside = false
 is_one w Given.Nothing = false
-is_one w (Given.One (Worked.Is v)) = eqb v w
-is_one w (Given.One Worked.Missing) = false
-is_one w (Given.One Worked.Beyond) = false
+is_one w (Given.One (Ok v)) = eqb v w
+is_one w (Given.One (Err NoValue.Missing)) = false
+is_one w (Given.One (Err NoValue.Beyond)) = false
 is_one w (Given.Two f v) = false
 
 abbrev no_label : Label → Bool
@@ -131,19 +131,19 @@ short_parts l t e =
     let two = (and-eq-true_iff (each calm l) (leb (length l) 15)).0 both.0 in
     (two.0, leb-true (length l) 15 two.1, both.1)
 
-one_is : (w : ℕ) (g : Given) → is_one w g ≡ true → g ≡ Given.One (Worked.Is w)
+one_is : (w : ℕ) (g : Given) → is_one w g ≡ true → g ≡ Given.One (Ok w)
 one_is w Given.Outside e = absurd (true≢false (sym e))
 one_is w Given.Nothing e = absurd (true≢false (sym e))
-one_is w (Given.One (Worked.Is v)) e = ap (λ x. Given.One (Worked.Is x)) (eqb-true v w e)
-one_is w (Given.One Worked.Missing) e = absurd (true≢false (sym e))
-one_is w (Given.One Worked.Beyond) e = absurd (true≢false (sym e))
+one_is w (Given.One (Ok v)) e = ap (λ x. Given.One (Ok x)) (eqb-true v w e)
+one_is w (Given.One (Err NoValue.Missing)) e = absurd (true≢false (sym e))
+one_is w (Given.One (Err NoValue.Beyond)) e = absurd (true≢false (sym e))
 one_is w (Given.Two f v) e = absurd (true≢false (sym e))
 
 label_is : (x : Label) → no_label x ≡ true → x ≡ Label.none
 label_is Label.none e = refl
 label_is (Label.label w) e = absurd (true≢false (sym e))
 
-pub one_line : (w : ℕ) (l : List ℕ) → passes w (Spelling.one l) ≡ true → Line l (Given.One (Worked.Is w)) × (length l ≤ 15)
+pub one_line : (w : ℕ) (l : List ℕ) → passes w (Spelling.one l) ≡ true → Line l (Given.One (Ok w)) × (length l ≤ 15)
 one_line w l e =
     let h = short_parts l (no_label (label_of (tokens l)) && is_one w (given [] (tokens l))) e in
     let both = (and-eq-true_iff (no_label (label_of (tokens l))) (is_one w (given [] (tokens l)))).0 h.2 in (
@@ -202,7 +202,7 @@ module _ (w : ℕ) (ds : List ℕ) where
   opened (Token.stray ∷ ts) e = absurd (true≢false (sym e))
 
 pub two_line : (w n : ℕ) (l : List ℕ) → passes w (Spelling.two l) ≡ true → n < end_of_range
-    → Line (l ++ number_text n) (Given.Two w (Worked.Is n)) × (length l ≤ 15)
+    → Line (l ++ number_text n) (Given.Two w (Ok n)) × (length l ≤ 15)
 two_line w n l e r =
     let h = short_parts l (opens w (tokens l)) e in
     let ts : tokens (l ++ number_text n) ≡ tokens l ++ (Token.number (decimal n) ∷ []) = parted l (decimal n) h.0 ∙ rw (token_back n) in

@@ -1,5 +1,5 @@
 -- A text that is printed lies in its buffer, and an image that is not refused is sound. Assumes nothing.
-use Rattle.std.specs.Prelude.{Ok, Result, ⊤}
+use Rattle.std.specs.Prelude.{Ok, Result, ⊤, Err}
 use mathlib.Core.Path.{◌≡◌, sym, ◌∙◌}
 use mathlib.Core.Bool.{Bool, true, false}
 use mathlib.Core.List.{List}
@@ -15,24 +15,23 @@ use Rattle.laws.specs.Events.{good, inspected_lawful}
 use Rattle.laws.specs.Sound.{Sound}
 use Rattle.grammar.specs.Printing.{printed, most_printed, measured, fitting, printing, inscribed}
 use Rattle.grammar.specs.Promises.{Prints}
-use Rattle.grammar.specs.declared.Printing.{Printing}
 use Rattle.grammar.specs.declared.Refusal.{Refusal}
 
 -- a text of so many bytes by a test, or 16
-abbrev bytes_if : Bool → ℕ → Printing
-bytes_if t n = elim t [ true ↦ Printing.Bytes n | false ↦ Printing.Refused Refusal.NoRoom ]
+abbrev bytes_if : Bool → ℕ → Result ℕ Refusal
+bytes_if t n = elim t [ true ↦ Ok n | false ↦ Err Refusal.NoRoom ]
 
 module _ (text buffer : List ℕ) (n : ℕ) where
-  fits : (t : Bool) → bytes_if t (length text) ≡ Printing.Bytes n → n ≤ length (inscribed (bytes_if t (length text)) text buffer)
+  fits : (t : Bool) → bytes_if t (length text) ≡ Ok n → n ≤ length (inscribed (bytes_if t (length text)) text buffer)
   fits true e = let k : length text ≡ n = cc in rw length-append (omega (arith, k))
   fits false e = absurd (let z : ◌≡◌ {A = ℕ} 0 1 = cc in omega arith)
 
-  fits_by : (t : Bool) → fitting (bytes_if t (length text)) (length buffer) ≡ Printing.Bytes n
+  fits_by : (t : Bool) → fitting (bytes_if t (length text)) (length buffer) ≡ Ok n
       → n ≤ length (inscribed (fitting (bytes_if t (length text)) (length buffer)) text buffer)
   fits_by true e = fits (leb (length text) (length buffer)) e
   fits_by false e = absurd (let z : ◌≡◌ {A = ℕ} 0 1 = cc in omega arith)
 
-pub bytes_in : (ws buffer after : List ℕ) (told : Printing) (n : ℕ) → Prints ws buffer told after → told ≡ Printing.Bytes n → n ≤ length after
+pub bytes_in : (ws buffer after : List ℕ) (told : Result ℕ Refusal) (n : ℕ) → Prints ws buffer told after → told ≡ Ok n → n ≤ length after
 unfolding printing measured
 bytes_in ws buffer after told n p e = rw p.left (fits_by (printed ws) buffer n (leb (length ws) most_printed) (sym p.answers ∙ e))
 

@@ -10,7 +10,6 @@ use disk::{
     misused, put_text, say, short_arg, standard_error, standard_output, tell,
 };
 use flaws::number_of;
-use grammar::Printing;
 use inspect::inspect;
 use joining::{Asked, read_word};
 use paper::{Shape, Task};
@@ -41,8 +40,8 @@ const FILE_WORDS: usize = 262144;
 fn print_words(rt: &HostRuntime, path: &[u8], words: &[u16]) -> Outcome {
     let mut text = blank_bytes::<TEXT_BYTES>();
     match print(words, &mut text) {
-        Printing::Bytes(bytes) => ended(rt, put_text(standard_output(rt), &text[..bytes])),
-        Printing::Refused(r) => {
+        Ok(bytes) => ended(rt, put_text(standard_output(rt), &text[..bytes])),
+        Err(r) => {
             let named = put_text(standard_error(rt), path);
             let numbered = put_refused(named, number_of(r));
             put_text(numbered, b"more than 32715 words\n");

@@ -8,7 +8,7 @@ ghost use Rattle.packing.specs.Packed.{Placed};
 ghost use Rattle.rows.specs.Rows.{rows_end, RowTable, FormTable, NameTable, TailTable, PlaceTable};
 ghost use Rattle.printing.specs.Pieces.{piece, row_first, is_order, most_piece, RowFor, Inscribed};
 
-use grammar::{Printing, Refusal};
+use grammar::Refusal;
 use packing::{digits, number, put_packed};
 use rows::{ROWS, SIXTEENTHS, form_table, name_table, place_table, row_table, tail_table};
 use spelling::{front_of, row_bytes, row_of, seconds, tail_of};
@@ -138,27 +138,27 @@ fn put_words(words: &[u16], text: &mut [u8], end: usize)
 }
 
 // How many bytes the text of a list needs.
-pub fn print_size(words: &[u16]) -> Printing
+pub fn print_size(words: &[u16]) -> Result<usize, Refusal>
     ensures { MeasuresText words.now result }
 {
     if MOST_PRINTED < words.len() {
-        return Printing::Refused(Refusal::NoRoom);
+        return Err(Refusal::NoRoom);
     }
-    Printing::Bytes(text_bytes(words))
+    Ok(text_bytes(words))
 }
 
 // Prints a list of words into a buffer; a refusal alters none of its bytes.
-pub fn print(words: &[u16], text: &mut [u8]) -> Printing
+pub fn print(words: &[u16], text: &mut [u8]) -> Result<usize, Refusal>
     ensures { Prints words.now text.old result text.new }
 {
     match print_size(words) {
-        Printing::Refused(r) => Printing::Refused(r),
-        Printing::Bytes(bytes) => {
+        Err(r) => Err(r),
+        Ok(bytes) => {
             if text.len() < bytes {
-                return Printing::Refused(Refusal::NoRoom);
+                return Err(Refusal::NoRoom);
             }
             put_words(words, text, bytes);
-            Printing::Bytes(bytes)
+            Ok(bytes)
         }
     }
 }

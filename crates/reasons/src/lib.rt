@@ -9,7 +9,7 @@ ghost use Rattle.texts.specs.Reads.{Within};
 ghost use Rattle.outside.specs.Reasons.{Fits, left};
 ghost use Rattle.reasons.specs.UsedNames.{most_text, Held, Steps};
 
-use grammar::{Found, Kept, LINE_END, Line, Refusal, Text};
+use grammar::{Kept, LINE_END, Line, Refusal, Text};
 use kept::kept;
 use outside::{Reason, names_reason, script_reason};
 use phrases::{Label, start_of};
@@ -73,7 +73,7 @@ fn missing_step<'a>(
             let Kept::Free = kept(word) else {
                 return Step::Past(to);
             };
-            let Found::Nothing = look(
+            let None = look(
                 names, script, split, filled, froms, counts, values, nexts, heads, word,
             ) else {
                 return Step::Past(to);

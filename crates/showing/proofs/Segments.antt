@@ -1,4 +1,5 @@
 -- The segments of a sound image and their texts. Assumes nothing.
+use Rattle.std.specs.Prelude.{Err, Ok, Result}
 use mathlib.Core.Path.{◌≡◌, sym, ◌∙◌}
 use mathlib.Core.List.{List, ◌++◌}
 use Prim.Native.Nat.{ℕ, ◌+◌, ◌-◌, ◌*◌, ◌<◌, ◌≤◌}
@@ -15,7 +16,6 @@ use Rattle.laws.specs.Segments.{segment_from, segment_upto}
 use Rattle.laws.specs.Sound.{Sound, sound, sound_fit}
 use Rattle.grammar.specs.Printing.{printed, most_printed}
 use Rattle.grammar.specs.Promises.{Prints}
-use Rattle.grammar.specs.declared.Printing.{Printing}
 use Rattle.grammar.specs.declared.Refusal.{Refusal}
 use Rattle.print_laws.specs.RoundTrip.{Words}
 use Rattle.print_laws.proofs.Proved.{request_3}
@@ -54,24 +54,24 @@ module _ (s : Shape) (im : List ℕ) (i : Task) (h : Sound s im) (hi : i.0 < s.n
   segment_few from count e = omega (arith, length-take (from + count - from) (drop from im), min-le_left (from + count - from) (length (drop from im)), segment_short)
 
 -- the text of a segment fits its buffer
-module _ (ws buffer after : List ℕ) (told : Printing) (w : Words ws) (few : length ws ≤ most_printed) (room : length buffer ≡ text_bytes) (p : Prints ws buffer told after) where
-  segment_told : told ≡ Printing.Bytes (length (printed ws))
+module _ (ws buffer after : List ℕ) (told : Result ℕ Refusal) (w : Words ws) (few : length ws ≤ most_printed) (room : length buffer ≡ text_bytes) (p : Prints ws buffer told after) where
+  segment_told : told ≡ Ok (length (printed ws))
   segment_told = (request_3.accepted_print ws buffer after told p).1 (few, omega (arith, (printed_spells ws w).short))
 
   left_is : after ≡ printed ws ++ drop (length (printed ws)) buffer
   left_is = rw (p.left, ← p.answers, segment_told)
 
   -- so it is never refused, and the buffer holds it
-  pub segment_text : (n : ℕ) → told ≡ Printing.Bytes n → (n ≤ length after) × (take n after ≡ printed ws)
+  pub segment_text : (n : ℕ) → told ≡ Ok n → (n ≤ length after) × (take n after ≡ printed ws)
   segment_text n e =
-      let q : Printing.Bytes n ≡ Printing.Bytes (length (printed ws)) = sym e ∙ segment_told in
+      let q : Ok n ≡ Ok (length (printed ws)) = sym e ∙ segment_told in
       let k : n ≡ length (printed ws) = cc in
       (rw (left_is, length-append) (omega (arith, k)), rw left_is (take_at (printed ws) (drop (length (printed ws)) buffer) n (sym k)))
 
-  pub segment_refused : (r : Refusal) → told ≡ Printing.Refused r → (0 ≤ length after) × (take 0 after ≡ printed ws)
+  pub segment_refused : (r : Refusal) → told ≡ Err r → (0 ≤ length after) × (take 0 after ≡ printed ws)
   segment_refused r e = absurd (let z : ◌≡◌ {A = ℕ} 0 1 = never (sym e ∙ segment_told) in omega arith)
     where
-      never : Printing.Refused r ≡ Printing.Bytes (length (printed ws)) → ◌≡◌ {A = ℕ} 0 1
+      never : Err r ≡ Ok (length (printed ws)) → ◌≡◌ {A = ℕ} 0 1
       never q = cc
 
 -- what is left of a text without its lines `0` lies in the buffer

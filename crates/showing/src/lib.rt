@@ -9,7 +9,6 @@ ghost use Rattle.laws.specs.Sound.{Sound};
 ghost use Rattle.showing.specs.Zeros.{text_bytes};
 
 use disk::{Output, blank_bytes, put_number, put_text};
-use grammar::Printing;
 use paper::{BASE, FLAGS, LENGTH, NEXT_ORDER, Shape, Task};
 use printing::print;
 use results::error_of;
@@ -66,8 +65,8 @@ fn print_segment(words: &[u16], text: &mut [u8; TEXT_BYTES]) -> usize
     ensures { (result ≤ length text.new) × (take result text.new ≡ printed words.now) }
 {
     match print(words, text) {
-        Printing::Bytes(bytes) => bytes,
-        Printing::Refused(_) => 0,
+        Ok(bytes) => bytes,
+        Err(_) => 0,
     }
 }
 

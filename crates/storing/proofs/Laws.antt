@@ -1,4 +1,5 @@
 -- What a line stores, and what the lines so far have stored. Assumes nothing.
+use Rattle.std.specs.Prelude.{Err, Ok, Result}
 use mathlib.Core.Path.{◌≡◌, refl, sym, ap, subst, ◌∙◌}
 use mathlib.Core.List.{List, [], ◌∷◌, ◌++◌}
 use Prim.Native.Nat.{ℕ, ◌+◌, ◌<◌, ◌≤◌}
@@ -10,7 +11,7 @@ use Rattle.grammar.specs.Sums.{Entry}
 use Rattle.grammar.specs.Lines.{body_of, given, line_words}
 use Rattle.grammar.specs.Texts.{script_words}
 use Rattle.grammar.specs.declared.Given.{Given}
-use Rattle.grammar.specs.declared.Worked.{Worked}
+use Rattle.grammar.specs.declared.NoValue.{NoValue}
 use Rattle.tokens.specs.Shown.{part, shown}
 use Rattle.tokens.specs.declared.Token.{Token}
 use Rattle.phrases.specs.Phrases.{Starts}
@@ -23,23 +24,23 @@ pub nothing_stored : (g : Given) (k : ℕ) (target : List ℕ) → line_words g 
 nothing_stored g k target e = rw e (omega arith, sym (written_none target k))
 
 -- a value that is missing or out of range gives no word
-pub one_lacks : (g : Given) (v : Worked) → g ≡ Given.One v → ((n : ℕ) → v ≡ Worked.Is n → ⊥) → line_words g ≡ []
+pub one_lacks : (g : Given) (v : Result ℕ NoValue) → g ≡ Given.One v → ((n : ℕ) → v ≡ Ok n → ⊥) → line_words g ≡ []
 one_lacks g v e lacks = ap line_words e ∙ go v lacks
   where
-    go : (v : Worked) → ((n : ℕ) → v ≡ Worked.Is n → ⊥) → line_words (Given.One v) ≡ []
-    go (Worked.Is n) none = absurd (none n refl)
-    go Worked.Missing none = refl
-    go Worked.Beyond none = refl
+    go : (v : Result ℕ NoValue) → ((n : ℕ) → v ≡ Ok n → ⊥) → line_words (Given.One v) ≡ []
+    go (Ok n) none = absurd (none n refl)
+    go (Err NoValue.Missing) none = refl
+    go (Err NoValue.Beyond) none = refl
 
-pub two_lacks : (g : Given) (first : ℕ) (v : Worked) → g ≡ Given.Two first v → ((n : ℕ) → v ≡ Worked.Is n → ⊥) → line_words g ≡ []
+pub two_lacks : (g : Given) (first : ℕ) (v : Result ℕ NoValue) → g ≡ Given.Two first v → ((n : ℕ) → v ≡ Ok n → ⊥) → line_words g ≡ []
 two_lacks g first v e lacks = ap line_words e ∙ go v lacks
   where
-    go : (v : Worked) → ((n : ℕ) → v ≡ Worked.Is n → ⊥) → line_words (Given.Two first v) ≡ []
-    go (Worked.Is n) none = absurd (none n refl)
-    go Worked.Missing none = refl
-    go Worked.Beyond none = refl
+    go : (v : Result ℕ NoValue) → ((n : ℕ) → v ≡ Ok n → ⊥) → line_words (Given.Two first v) ≡ []
+    go (Ok n) none = absurd (none n refl)
+    go (Err NoValue.Missing) none = refl
+    go (Err NoValue.Beyond) none = refl
 
-module _ (g : Given) (v : Worked) (n k : ℕ) (target : List ℕ) (value : v ≡ Worked.Is n) where
+module _ (g : Given) (v : Result ℕ NoValue) (n k : ℕ) (target : List ℕ) (value : v ≡ Ok n) where
   one_is : g ≡ Given.One v → line_words g ≡ n ∷ []
   one_is e = ap line_words (e ∙ ap Given.One value)
 

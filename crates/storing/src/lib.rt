@@ -9,7 +9,7 @@ ghost use Rattle.tokens.specs.Shown.{part};
 ghost use Rattle.tables.specs.Tables.{table, entries, Chained, Headed};
 ghost use Rattle.writes.specs.Written.{written};
 
-use grammar::{Given, Worked};
+use grammar::Given;
 use phrases::{given, start_of};
 use reader::line_count;
 use tables::MOST_NAMES;
@@ -25,13 +25,13 @@ fn store_given(g: Given, k: usize, target: &mut [u16]) -> usize
         Given::Outside => k,
         Given::Nothing => k,
         Given::One(v) => {
-            let Worked::Is(n) = v else {
+            let Ok(n) = v else {
                 return k;
             };
             put_word(target, k, n)
         }
         Given::Two(first, v) => {
-            let Worked::Is(n) = v else {
+            let Ok(n) = v else {
                 return k;
             };
             let second = put_word(target, k, first);

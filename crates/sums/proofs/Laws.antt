@@ -1,8 +1,8 @@
 -- The three readers, a step at a time, for any count of steps that is enough. Assumes nothing.
+use Rattle.std.specs.Prelude.{None, Ok, Option, Result, Some}
 use mathlib.Core.Path.{◌≡◌, refl, ap}
 use mathlib.Core.Bool.{Bool, true, false}
 use mathlib.Core.List.{List, [], ◌∷◌}
-use Rattle.std.specs.Prelude.{Option, Some, None}
 use Prim.Native.Nat.{ℕ, zero, suc, ◌+◌, ◌*◌, ◌<◌, ◌≤◌}
 use native.Mathlib.Omega.{arith}
 use borrow.Author.Tests.{ne_eqb}
@@ -13,8 +13,8 @@ use Rattle.grammar.specs.Kept.{kept_as}
 use Rattle.grammar.specs.Sums as Sums
 use Rattle.grammar.specs.Sums.{Entry, outside, read, sum, product, term, joins, both, times, value_of, in_range, decimal}
 use Rattle.grammar.specs.declared.Kept.{Kept}
+use Rattle.grammar.specs.declared.NoValue.{NoValue}
 use Rattle.grammar.specs.declared.Sign.{Sign}
-use Rattle.grammar.specs.declared.Worked.{Worked}
 use Rattle.tokens.specs.Shown.{shown, marks}
 use Rattle.tokens.specs.declared.Token.{Token}
 use Rattle.sums.specs.declared.Reading.{Reading}
@@ -59,13 +59,13 @@ abbrev pub Enough : ℕ → (ℕ → Sums.Reading) → Sums.Reading → Type 0
 Enough least f r = (n : ℕ) → least ≤ n → f n ≡ r
 
 -- a sum: its product, and how it goes on
-module _ (es : List Entry) (d : ℕ) (s : Sign) (v : Worked) (ts : List Tokens.Token) where
-  pub sum_outside : Enough (3 * length ts + 2) (λ n. product n es d (Worked.Is 1) ts) outside → Enough (3 * length ts + 3) (λ n. sum n es d s v ts) outside
+module _ (es : List Entry) (d : ℕ) (s : Sign) (v : Result ℕ NoValue) (ts : List Tokens.Token) where
+  pub sum_outside : Enough (3 * length ts + 2) (λ n. product n es d (Ok 1) ts) outside → Enough (3 * length ts + 3) (λ n. sum n es d s v ts) outside
   unfolding sum
   sum_outside h zero k = refl
   sum_outside h (suc n) k = rw (h n (omega arith))
 
-  module _ (p : Worked) (us : List Tokens.Token) (h : Enough (3 * length ts + 2) (λ n. product n es d (Worked.Is 1) ts) (read p us)) where
+  module _ (p : Result ℕ NoValue) (us : List Tokens.Token) (h : Enough (3 * length ts + 2) (λ n. product n es d (Ok 1) ts) (read p us)) where
     pub sum_ends : begins plus_mark us ≡ false → begins minus_mark us ≡ false → Enough (3 * length ts + 3) (λ n. sum n es d s v ts) (read (joins s v p) us)
     unfolding sum
     sum_ends e f zero k = absurd (omega arith)
@@ -85,13 +85,13 @@ module _ (es : List Entry) (d : ℕ) (s : Sign) (v : Worked) (ts : List Tokens.T
       sum_minus e f g (suc n) k = rw (h n (omega arith)) (rw (e, Sums.sum_goes) (rw f (rw left (g n (omega arith)))))
 
 -- a product: its term, and how it goes on
-module _ (es : List Entry) (d : ℕ) (v : Worked) (ts : List Tokens.Token) where
+module _ (es : List Entry) (d : ℕ) (v : Result ℕ NoValue) (ts : List Tokens.Token) where
   pub product_outside : Enough (3 * length ts + 1) (λ n. term n es d ts) outside → Enough (3 * length ts + 2) (λ n. product n es d v ts) outside
   unfolding product
   product_outside h zero k = refl
   product_outside h (suc n) k = rw (h n (omega arith))
 
-  module _ (p : Worked) (us : List Tokens.Token) (h : Enough (3 * length ts + 1) (λ n. term n es d ts) (read p us)) where
+  module _ (p : Result ℕ NoValue) (us : List Tokens.Token) (h : Enough (3 * length ts + 1) (λ n. term n es d ts) (read p us)) where
     pub product_ends : begins times_mark us ≡ false → Enough (3 * length ts + 2) (λ n. product n es d v ts) (read (both times v p) us)
     unfolding product
     product_ends e zero k = absurd (omega arith)
@@ -131,7 +131,7 @@ module _ (es : List Entry) (d : ℕ) (ts : List Tokens.Token) where
   term_mark b h zero k = refl
   term_mark b h (suc n) k = rw (ne_eqb b 40 h, Sums.term_goes) refl
 
-kept_outside : (k : Kept) (v : Worked) (ts : List Tokens.Token) → (k ≡ Kept.Free → ⊥) → Sums.named k v ts ≡ outside
+kept_outside : (k : Kept) (v : Result ℕ NoValue) (ts : List Tokens.Token) → (k ≡ Kept.Free → ⊥) → Sums.named k v ts ≡ outside
 kept_outside Kept.Free v ts h = absurd (h refl)
 kept_outside (Kept.Register a) v ts h = refl
 kept_outside (Kept.Order o f) v ts h = refl
@@ -150,13 +150,13 @@ bracket_deep es d ts b e z zero k = refl
 bracket_deep es d ts b e z (suc n) k = rw (e, z)
 
 module _ (es : List Entry) (d c : ℕ) (ts : List Tokens.Token) (b : ℕ) (e : b ≡ 40) (z : d ≡ suc c) where
-  pub bracket_outside : Enough (3 * length ts + 3) (λ n. sum n es c Sign.Plus (Worked.Is 0) ts) outside
+  pub bracket_outside : Enough (3 * length ts + 3) (λ n. sum n es c Sign.Plus (Ok 0) ts) outside
       → Enough (3 * suc (length ts) + 1) (λ n. term n es d (Tokens.Token.mark b ∷ ts)) outside
   unfolding term
   bracket_outside h zero k = refl
   bracket_outside h (suc n) k = rw (e, z, h n (omega arith))
 
-  module _ (v : Worked) (us : List Tokens.Token) (h : Enough (3 * length ts + 3) (λ n. sum n es c Sign.Plus (Worked.Is 0) ts) (read v us)) where
+  module _ (v : Result ℕ NoValue) (us : List Tokens.Token) (h : Enough (3 * length ts + 3) (λ n. sum n es c Sign.Plus (Ok 0) ts) (read v us)) where
     pub bracket_open : begins close_mark us ≡ false → Enough (3 * suc (length ts) + 1) (λ n. term n es d (Tokens.Token.mark b ∷ ts)) outside
     unfolding term
     bracket_open f zero k = refl

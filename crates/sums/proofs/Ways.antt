@@ -1,8 +1,8 @@
 -- The ways through the readers' code, each from what its calls come to. Assumes nothing.
+use Rattle.std.specs.Prelude.{Err, None, Ok, Option, Result, Some}
 use mathlib.Core.Path.{◌≡◌, refl, sym, ap, ◌∙◌}
 use mathlib.Core.Bool.{Bool, true, false}
 use mathlib.Core.List.{List, []}
-use Rattle.std.specs.Prelude.{Option, Some, None}
 use Prim.Native.Nat.{ℕ, suc, ◌+◌, ◌-◌, ◌*◌, ◌<◌, ◌≤◌}
 use native.Mathlib.Omega.{arith}
 use lib.ListN.{length, drop}
@@ -10,10 +10,9 @@ use Rattle.grammar.specs.Tokens.{tokens, begins, rest, plus_mark, minus_mark, ti
 use Rattle.grammar.specs.Kept.{kept_as}
 use Rattle.grammar.specs.Sums as Sums
 use Rattle.grammar.specs.Sums.{Entry, outside, read, sum, product, term, joins, both, times, sum_of, whole, deepest, value_of, in_range, decimal, found_as, find}
-use Rattle.grammar.specs.declared.Found.{Found}
 use Rattle.grammar.specs.declared.Kept.{Kept}
+use Rattle.grammar.specs.declared.NoValue.{NoValue}
 use Rattle.grammar.specs.declared.Sign.{Sign}
-use Rattle.grammar.specs.declared.Worked.{Worked}
 use Rattle.tokens.specs.Shown.{shown, part, Inside, marks, is_end}
 use Rattle.tokens.specs.declared.Token.{Token}
 use Rattle.sums.specs.declared.Reading.{Reading}
@@ -22,10 +21,10 @@ use Rattle.sums.specs.Told.{told, total, ToldInside}
 use Rattle.sums.proofs.Laws.{sum_ends, sum_plus, sum_minus, product_ends, product_times, bracket_open, bracket_closed, Enough, marked_at, not_marked, still_inside, sum_outside, product_outside, term_end, term_number, term_name, term_stray, term_mark, term_kept, bracket_deep, bracket_outside}
 
 -- the value of a word that was looked up
-pub value_missing : (es : List Entry) (w : List ℕ) (f : Found) → f ≡ find es w → f ≡ Found.Nothing → Worked.Missing ≡ value_of es w
+pub value_missing : (es : List Entry) (w : List ℕ) (f : Option ℕ) → f ≡ find es w → f ≡ None → Err NoValue.Missing ≡ value_of es w
 value_missing es w f e k = ap found_as (sym k ∙ e)
 
-pub value_found : (es : List Entry) (w : List ℕ) (f : Found) (n : ℕ) (v : Worked) → f ≡ find es w → f ≡ Found.Value n → v ≡ in_range n → v ≡ value_of es w
+pub value_found : (es : List Entry) (w : List ℕ) (f : Option ℕ) (n : ℕ) (v : Result ℕ NoValue) → f ≡ find es w → f ≡ Some n → v ≡ in_range n → v ≡ value_of es w
 value_found es w f n v e k i = i ∙ ap found_as (sym k ∙ e)
 
 -- a token that stands in a line, by what it is
@@ -43,7 +42,7 @@ after b to l t u m f o g =
     let h = marked_at b to l t (sym f ∙ o) in
     (h.0, (h.1.0 ∙ g, rw g at h.1.1))
 
-pub fewer : (b to : ℕ) (l : List ℕ) (next t u : Token) (v : Worked) (r : Reading) (m : Option ℕ) → r ≡ Reading.Read v t → ToldInside l next r
+pub fewer : (b to : ℕ) (l : List ℕ) (next t u : Token) (v : Result ℕ NoValue) (r : Reading) (m : Option ℕ) → r ≡ Reading.Read v t → ToldInside l next r
     → m ≡ marks b t → m ≡ Some to → tokens (drop to l) ≡ shown l u → suc (length (shown l u)) < length (shown l next)
 fewer b to l next t u v r m e h f o g =
     let i : ToldInside l next (Reading.Read v t) = rw e at h in
@@ -54,11 +53,11 @@ inner_fewer b to l next u e g = rw (e, ← g) refl
 
 module _ (es : List Entry) (d : ℕ) (l : List ℕ) (next : Token) where
   -- a product: its term, and what stands after it
-  module _ (v : Worked) (r : Reading) (h : Reads (3 * length (shown l next) + 1) (λ n. term n es d (shown l next)) l next r) where
+  module _ (v : Result ℕ NoValue) (r : Reading) (h : Reads (3 * length (shown l next) + 1) (λ n. term n es d (shown l next)) l next r) where
     pub product_fails : r ≡ Reading.Outside → Reads (3 * length (shown l next) + 2) (λ n. product n es d v (shown l next)) l next Reading.Outside
     product_fails e = (product_outside es d v (shown l next) (rw e at h.0), tt)
 
-    module _ (p w : Worked) (t : Token) (m : Option ℕ) (e : r ≡ Reading.Read p t) (k : w ≡ both times v p) (f : m ≡ marks times_mark t) where
+    module _ (p w : Result ℕ NoValue) (t : Token) (m : Option ℕ) (e : r ≡ Reading.Read p t) (k : w ≡ both times v p) (f : m ≡ marks times_mark t) where
       pub product_stops : m ≡ None → Reads (3 * length (shown l next) + 2) (λ n. product n es d v (shown l next)) l next (Reading.Read w t)
       product_stops o = (rw k (product_ends es d v (shown l next) p (shown l t) (rw e at h.0) (not_marked times_mark l t (sym f ∙ o))), rw e at h.1)
 
@@ -73,11 +72,11 @@ module _ (es : List Entry) (d : ℕ) (l : List ℕ) (next : Token) where
           )
 
   -- a sum: its product, and what stands after it
-  module _ (s : Sign) (v : Worked) (r : Reading) (h : Reads (3 * length (shown l next) + 2) (λ n. product n es d (Worked.Is 1) (shown l next)) l next r) where
+  module _ (s : Sign) (v : Result ℕ NoValue) (r : Reading) (h : Reads (3 * length (shown l next) + 2) (λ n. product n es d (Ok 1) (shown l next)) l next r) where
     pub sum_fails : r ≡ Reading.Outside → Reads (3 * length (shown l next) + 3) (λ n. sum n es d s v (shown l next)) l next Reading.Outside
     sum_fails e = (sum_outside es d s v (shown l next) (rw e at h.0), tt)
 
-    module _ (p w : Worked) (t : Token) (m : Option ℕ) (e : r ≡ Reading.Read p t) (k : w ≡ joins s v p) (f : m ≡ marks plus_mark t) where
+    module _ (p w : Result ℕ NoValue) (t : Token) (m : Option ℕ) (e : r ≡ Reading.Read p t) (k : w ≡ joins s v p) (f : m ≡ marks plus_mark t) where
       pub sum_goes_up : (to : ℕ) (u : Token) (q : Reading) → m ≡ Some to → tokens (drop to l) ≡ shown l u
           → Reads (3 * length (shown l u) + 3) (λ n. sum n es d Sign.Plus w (shown l u)) l u q
           → Reads (3 * length (shown l next) + 3) (λ n. sum n es d s v (shown l next)) l next q
@@ -115,24 +114,24 @@ On k f g l a b =
 pub starts_on : (k : ℕ) (f : ℕ → Sums.Reading) (l : List ℕ) (a : Token) → Inside l a → On k f f l a a
 starts_on k f l a i = (i, (omega arith, λ q h. h))
 
-abbrev pub ProductOn : List Entry → ℕ → List ℕ → Worked → Token → Worked → Token → Type 0
+abbrev pub ProductOn : List Entry → ℕ → List ℕ → Result ℕ NoValue → Token → Result ℕ NoValue → Token → Type 0
 ProductOn es d l v a w b = On 2 (λ n. product n es d v (shown l a)) (λ n. product n es d w (shown l b)) l a b
 
-abbrev pub SumOn : List Entry → ℕ → List ℕ → Sign → Worked → Token → Sign → Worked → Token → Type 0
+abbrev pub SumOn : List Entry → ℕ → List ℕ → Sign → Result ℕ NoValue → Token → Sign → Result ℕ NoValue → Token → Type 0
 SumOn es d l s v a t w b = On 3 (λ n. sum n es d s v (shown l a)) (λ n. sum n es d t w (shown l b)) l a b
 
-module _ (es : List Entry) (d : ℕ) (l : List ℕ) (b to : ℕ) (first t u : Token) (p : Worked) (r : Reading) (m : Option ℕ) (e : r ≡ Reading.Read p t)
+module _ (es : List Entry) (d : ℕ) (l : List ℕ) (b to : ℕ) (first t u : Token) (p : Result ℕ NoValue) (r : Reading) (m : Option ℕ) (e : r ≡ Reading.Read p t)
     (f : m ≡ marks b t) (o : m ≡ Some to) (g : tokens (drop to l) ≡ shown l u) (i : Inside l u) where
   -- one term more
-  pub product_on : (a : Token) (v₀ v w : Worked) → b ≡ times_mark → ProductOn es d l v₀ a v first
+  pub product_on : (a : Token) (v₀ v w : Result ℕ NoValue) → b ≡ times_mark → ProductOn es d l v₀ a v first
       → Reads (3 * length (shown l first) + 1) (λ n. term n es d (shown l first)) l first r → w ≡ both times v p → ProductOn es d l v₀ a w u
   product_on a v₀ v w z on h k =
       let c = fewer b to l first t u p r m e h.1 f o g in
       (i, (omega (arith, on.1.0), λ q x. on.1.1 q (product_goes_on es d l first v r h p w t m e k (rw z at f) to u q o g x)))
 
   -- one product more
-  module _ (a : Token) (s₀ s : Sign) (v₀ v w : Worked) (on : SumOn es d l s₀ v₀ a s v first)
-      (h : Reads (3 * length (shown l first) + 2) (λ n. product n es d (Worked.Is 1) (shown l first)) l first r) (k : w ≡ joins s v p) where
+  module _ (a : Token) (s₀ s : Sign) (v₀ v w : Result ℕ NoValue) (on : SumOn es d l s₀ v₀ a s v first)
+      (h : Reads (3 * length (shown l first) + 2) (λ n. product n es d (Ok 1) (shown l first)) l first r) (k : w ≡ joins s v p) where
     pub sum_on_up : b ≡ plus_mark → SumOn es d l s₀ v₀ a Sign.Plus w u
     sum_on_up z =
         let c = fewer b to l first t u p r m e h.1 f o g in
@@ -145,13 +144,13 @@ module _ (es : List Entry) (d : ℕ) (l : List ℕ) (b to : ℕ) (first t u : To
 
 -- the last term, and the last product
 module _ (es : List Entry) (d : ℕ) (l : List ℕ) (a first : Token) where
-  pub product_done : (v₀ v w p : Worked) (t : Token) (r : Reading) (m : Option ℕ) → ProductOn es d l v₀ a v first
+  pub product_done : (v₀ v w p : Result ℕ NoValue) (t : Token) (r : Reading) (m : Option ℕ) → ProductOn es d l v₀ a v first
       → Reads (3 * length (shown l first) + 1) (λ n. term n es d (shown l first)) l first r → r ≡ Reading.Read p t → w ≡ both times v p
       → m ≡ marks times_mark t → m ≡ None → Reads (3 * length (shown l a) + 2) (λ n. product n es d v₀ (shown l a)) l a (Reading.Read w t)
   product_done v₀ v w p t r m on h e k f o = on.1.1 (Reading.Read w t) (product_stops es d l first v r h p w t m e k f o)
 
-  pub sum_done : (s₀ s : Sign) (v₀ v w p : Worked) (t : Token) (r : Reading) (m j : Option ℕ) → SumOn es d l s₀ v₀ a s v first
-      → Reads (3 * length (shown l first) + 2) (λ n. product n es d (Worked.Is 1) (shown l first)) l first r → r ≡ Reading.Read p t → w ≡ joins s v p
+  pub sum_done : (s₀ s : Sign) (v₀ v w p : Result ℕ NoValue) (t : Token) (r : Reading) (m j : Option ℕ) → SumOn es d l s₀ v₀ a s v first
+      → Reads (3 * length (shown l first) + 2) (λ n. product n es d (Ok 1) (shown l first)) l first r → r ≡ Reading.Read p t → w ≡ joins s v p
       → m ≡ marks plus_mark t → m ≡ None → j ≡ marks minus_mark t → j ≡ None
       → Reads (3 * length (shown l a) + 3) (λ n. sum n es d s₀ v₀ (shown l a)) l a (Reading.Read w t)
   sum_done s₀ s v₀ v w p t r m j on h e k f o b z = on.1.1 (Reading.Read w t) (sum_stops es d l first s v r h p w t m e k f j o b z)
@@ -167,7 +166,7 @@ module _ (es : List Entry) (d : ℕ) (l : List ℕ) (next : Token) where
   pub stray_read : (to : ℕ) → next ≡ Token.Stray to → Term es d l next Reading.Outside
   stray_read to e = rw e ((λ n k. term_stray es d (tokens (drop to l)) n (omega arith)), tt)
 
-  module _ (from to : ℕ) (v : Worked) (u : Token) (g : tokens (drop to l) ≡ shown l u) (i : Inside l u) where
+  module _ (from to : ℕ) (v : Result ℕ NoValue) (u : Token) (g : tokens (drop to l) ≡ shown l u) (i : Inside l u) where
     pub number_read : next ≡ Token.Number from to → v ≡ in_range (decimal 0 (part l from to)) → Term es d l next (Reading.Read v u)
     number_read e k = rw (e, k, ← g) ((λ n h. term_number es d (tokens (drop to l)) (part l from to) n (omega arith)), (i, omega arith))
 
@@ -189,11 +188,11 @@ module _ (es : List Entry) (d : ℕ) (l : List ℕ) (next : Token) where
     deep_read o z = rw e ((λ n h. bracket_deep es d (tokens (drop to l)) b o z n (omega arith)), tt)
 
     module _ (u : Token) (g : tokens (drop to l) ≡ shown l u) where
-      module _ (o : b ≡ 40) (z : d ≡ 0 → ⊥) (r : Reading) (h : Reads (3 * length (shown l u) + 3) (λ n. sum n es (d - 1) Sign.Plus (Worked.Is 0) (shown l u)) l u r) where
+      module _ (o : b ≡ 40) (z : d ≡ 0 → ⊥) (r : Reading) (h : Reads (3 * length (shown l u) + 3) (λ n. sum n es (d - 1) Sign.Plus (Ok 0) (shown l u)) l u r) where
         pub bracket_fails : r ≡ Reading.Outside → Term es d l next Reading.Outside
         bracket_fails f = rw (e, g) (bracket_outside es d (d - 1) (shown l u) b o (omega arith) (rw f at h.0), tt)
 
-        module _ (v : Worked) (t : Token) (m : Option ℕ) (f : r ≡ Reading.Read v t) (c : m ≡ marks close_mark t) where
+        module _ (v : Result ℕ NoValue) (t : Token) (m : Option ℕ) (f : r ≡ Reading.Read v t) (c : m ≡ marks close_mark t) where
           pub bracket_unclosed : m ≡ None → Term es d l next Reading.Outside
           bracket_unclosed k =
               rw (e, g) (bracket_open es d (d - 1) (shown l u) b o (omega arith) v (shown l t) (rw f at h.0) (not_marked close_mark l t (sym c ∙ k)), tt)
@@ -205,21 +204,21 @@ module _ (es : List Entry) (d : ℕ) (l : List ℕ) (next : Token) where
               rw (e, g) (bracket_closed es d (d - 1) (shown l u) b o (omega arith) v (shown l t) (rw f at h.0) (shown l x) a.0 a.1.0, (i, omega arith))
 
 -- a sum to the end of the line
-ended : (l : List ℕ) (v : Worked) (t : Token) → is_end t ≡ true → whole (read v (shown l t)) ≡ read v []
+ended : (l : List ℕ) (v : Result ℕ NoValue) (t : Token) → is_end t ≡ true → whole (read v (shown l t)) ≡ read v []
 ended l v Token.End e = refl
 ended l v (Token.Number x y) e = absurd (let z : ◌≡◌ {A = ℕ} 0 1 = cc in omega arith)
 ended l v (Token.Word x y) e = absurd (let z : ◌≡◌ {A = ℕ} 0 1 = cc in omega arith)
 ended l v (Token.Mark b x) e = absurd (let z : ◌≡◌ {A = ℕ} 0 1 = cc in omega arith)
 ended l v (Token.Stray x) e = absurd (let z : ◌≡◌ {A = ℕ} 0 1 = cc in omega arith)
 
-more_left : (l : List ℕ) (v : Worked) (t : Token) → is_end t ≡ false → whole (read v (shown l t)) ≡ outside
+more_left : (l : List ℕ) (v : Result ℕ NoValue) (t : Token) → is_end t ≡ false → whole (read v (shown l t)) ≡ outside
 more_left l v Token.End e = absurd (let z : ◌≡◌ {A = ℕ} 0 1 = cc in omega arith)
 more_left l v (Token.Number x y) e = refl
 more_left l v (Token.Word x y) e = refl
 more_left l v (Token.Mark b x) e = refl
 more_left l v (Token.Stray x) e = refl
 
-module _ (es : List Entry) (l : List ℕ) (next : Token) (r : Reading) (h : Reads (3 * length (shown l next) + 3) (λ n. sum n es deepest Sign.Plus (Worked.Is 0) (shown l next)) l next r) where
+module _ (es : List Entry) (l : List ℕ) (next : Token) (r : Reading) (h : Reads (3 * length (shown l next) + 3) (λ n. sum n es deepest Sign.Plus (Ok 0) (shown l next)) l next r) where
   whole_told : sum_of es (shown l next) ≡ whole (told l r)
   unfolding sum_of
   whole_told = ap whole (h.0 (3 * length (shown l next) + 3) (omega arith))
@@ -227,7 +226,7 @@ module _ (es : List Entry) (l : List ℕ) (next : Token) (r : Reading) (h : Read
   pub total_fails : r ≡ Reading.Outside → sum_of es (shown l next) ≡ total Total.Outside
   total_fails e = whole_told ∙ ap (λ (x : Reading). whole (told l x)) e
 
-  module _ (v : Worked) (t : Token) (b : Bool) (e : r ≡ Reading.Read v t) (f : b ≡ is_end t) where
+  module _ (v : Result ℕ NoValue) (t : Token) (b : Bool) (e : r ≡ Reading.Read v t) (f : b ≡ is_end t) where
     pub total_comes : b ≡ true → sum_of es (shown l next) ≡ total (Total.Comes v)
     total_comes k = whole_told ∙ ap (λ (x : Reading). whole (told l x)) e ∙ ended l v t (sym f ∙ k)
 

@@ -1,15 +1,14 @@
 // Sums, products and terms: three readers that call one another.
 #![tactic(auto)]
 
-ghost use Rattle.std.specs.Prelude.{◌≡◌, ℕ, ◌+◌, ◌*◌, ◌≤◌, length};
+ghost use Rattle.std.specs.Prelude.{◌≡◌, ℕ, ◌+◌, ◌*◌, ◌≤◌, length, Ok};
 ghost use Rattle.grammar.specs.Sums.{value_of, sum_of, sum as sum_by, product as product_by, term as term_by};
 ghost use Rattle.grammar.specs.declared.Sign.{Sign};
-ghost use Rattle.grammar.specs.declared.Worked.{Worked};
 ghost use Rattle.tokens.specs.Shown.{shown, Inside};
 ghost use Rattle.tables.specs.Tables.{table, entries, Chained, Headed};
 ghost use Rattle.sums.specs.Told.{told, total, ToldInside};
 
-use grammar::{DEEPEST, Found, Kept, Sign, Worked};
+use grammar::{DEEPEST, Kept, NoValue, Sign};
 use kept::kept;
 use tables::{MOST_NAMES, look};
 use tokens::{CLOSE, MINUS, OPEN, PLUS, TIMES, Token, ends, mark_of, next_token};
@@ -19,14 +18,14 @@ use values::{in_range, joined, number, times};
 #[derive(Clone, Copy)]
 pub enum Reading {
     Outside,
-    Read(Worked, Token),
+    Read(Result<u16, NoValue>, Token),
 }
 
 // What a sum to the end of a line comes to.
 #[derive(Clone, Copy)]
 pub enum Total {
     Outside,
-    Comes(Worked),
+    Comes(Result<u16, NoValue>),
 }
 
 // The value of a name or label.
@@ -41,7 +40,7 @@ fn value<'a>(
     nexts: &[u16; MOST_NAMES],
     heads: &[u16; MOST_NAMES],
     word: &[u8],
-) -> Worked
+) -> Result<u16, NoValue>
     requires chained { Chained (table names.now script.now split froms.now counts.now values.now nexts.now) filled }
     requires headed { Headed (table names.now script.now split froms.now counts.now values.now nexts.now) filled heads.now }
     ensures { result ≡ value_of (entries (table names.now script.now split froms.now counts.now values.now nexts.now) filled) word.now }
@@ -49,8 +48,8 @@ fn value<'a>(
     match look(
         names, script, split, filled, froms, counts, values, nexts, heads, word,
     ) {
-        Found::Nothing => Worked::Missing,
-        Found::Value(v) => in_range(v),
+        None => Err(NoValue::Missing),
+        Some(v) => in_range(v),
     }
 }
 
@@ -73,12 +72,12 @@ fn sum<'a>(
     requires chained { Chained (table names.now script.now split froms.now counts.now values.now nexts.now) filled }
     requires headed { Headed (table names.now script.now split froms.now counts.now values.now nexts.now) filled heads.now }
     requires inside { Inside line.now next }
-    ensures by_index { (n : ℕ) → 3 * length (shown line.now next) + 3 ≤ n → sum_by n (entries (table names.now script.now split froms.now counts.now values.now nexts.now) filled) depth Sign.Plus (Worked.Is 0) (shown line.now next) ≡ told line.now result }
+    ensures by_index { (n : ℕ) → 3 * length (shown line.now next) + 3 ≤ n → sum_by n (entries (table names.now script.now split froms.now counts.now values.now nexts.now) filled) depth Sign.Plus (Ok 0) (shown line.now next) ≡ told line.now result }
     ensures told_inside { ToldInside line.now next result }
 {
     let mut first = next;
     let mut sign = Sign::Plus;
-    let mut value = Worked::Is(0);
+    let mut value = Ok(0);
     loop {
         let Reading::Read(p, then) = product(
             names, script, split, filled, froms, counts, values, nexts, heads, line, first, depth,
@@ -118,11 +117,11 @@ fn product<'a>(
     requires chained { Chained (table names.now script.now split froms.now counts.now values.now nexts.now) filled }
     requires headed { Headed (table names.now script.now split froms.now counts.now values.now nexts.now) filled heads.now }
     requires inside { Inside line.now next }
-    ensures by_index { (n : ℕ) → 3 * length (shown line.now next) + 2 ≤ n → product_by n (entries (table names.now script.now split froms.now counts.now values.now nexts.now) filled) depth (Worked.Is 1) (shown line.now next) ≡ told line.now result }
+    ensures by_index { (n : ℕ) → 3 * length (shown line.now next) + 2 ≤ n → product_by n (entries (table names.now script.now split froms.now counts.now values.now nexts.now) filled) depth (Ok 1) (shown line.now next) ≡ told line.now result }
     ensures told_inside { ToldInside line.now next result }
 {
     let mut first = next;
-    let mut value = Worked::Is(1);
+    let mut value = Ok(1);
     loop {
         let Reading::Read(t, then) = term(
             names, script, split, filled, froms, counts, values, nexts, heads, line, first, depth,

@@ -1,4 +1,5 @@
 -- What a search along a chain finds, and what an entry more leaves as it was. Assumes nothing.
+use Rattle.std.specs.Prelude.{None, Some}
 use mathlib.Core.Path.{◌≡◌, refl, sym, ap, ◌∙◌}
 use mathlib.Core.Bool.{Bool, true, false, false≢true}
 use mathlib.Core.List.{List, [], ◌∷◌}
@@ -13,7 +14,6 @@ use lib.ListN.{length, get_or, set, take, drop, replicate, length-set, length-re
 use lib.Seq.{drop-cons, drop-length, get_or-set_same, get_or-set_other}
 use Rattle.grammar.specs.Tokens.{same}
 use Rattle.grammar.specs.Sums.{find}
-use Rattle.grammar.specs.declared.Found.{Found}
 use Rattle.tables.specs.Tables.{Table, table, most, text_at, text_of, entry_word, entry, entries, mixed, bucket, latest, Long, Chained, Headed, Links, above, Added}
 
 -- a word is the same as itself, and as no other
@@ -72,7 +72,7 @@ text_in_range names script split k m p q = go (ltb k split) refl
     go false e = rw (e, text_at) q
 
 -- an entry of the word is taken, and any other is passed over
-entry_taken : (t : Table) (k : ℕ) (w : List ℕ) → entry_word t k ≡ w → find (entries t (suc k)) w ≡ Found.Value (get_or t.values k 0)
+entry_taken : (t : Table) (k : ℕ) (w : List ℕ) → entry_word t k ≡ w → find (entries t (suc k)) w ≡ Some (get_or t.values k 0)
 unfolding entries find
 entry_taken t k w e = rw (ap (λ (a : List ℕ). same a w) e ∙ same_as_itself w, find)
 
@@ -173,10 +173,10 @@ next_leads t n k w chained h at = chain_begins t n k w (get_or t.nexts k 0) chai
 
 -- a search is over where the word stands, and where the chain ends
 pub search_finds : (t : Table) (n m : ℕ) (w : List ℕ) (k : ℕ) → Leads t n m w k → k < n → entry_word t k ≡ w →
-    Found.Value (get_or t.values k 0) ≡ find (entries t m) w
+    Some (get_or t.values k 0) ≡ find (entries t m) w
 search_finds t n m w k leads h e = sym (entry_taken t k w e) ∙ rw (above_one n k h) at leads.kept
 
-pub search_ends : (t : Table) (n m : ℕ) (w : List ℕ) (k : ℕ) → Leads t n m w k → n ≤ k → Found.Nothing ≡ find (entries t m) w
+pub search_ends : (t : Table) (n m : ℕ) (w : List ℕ) (k : ℕ) → Leads t n m w k → n ≤ k → None ≡ find (entries t m) w
 unfolding entries find
 search_ends t n m w k leads h = rw (above_none n k h) at leads.kept
 

@@ -6,8 +6,6 @@ ghost use Rattle.std.specs.Prelude.{◌≡◌, ◌+◌, ◌<◌, ◌≤◌, leng
 ghost use Rattle.grammar.specs.Sums.{find as found_in};
 ghost use Rattle.tables.specs.Tables.{table, text_at, entry_word, entries, bucket, Chained, Headed, Links, above, Added, most};
 
-use grammar::Found;
-
 // The most names and labels of two texts.
 pub const MOST_NAMES: usize = 8192;
 
@@ -67,7 +65,7 @@ fn find<'a>(
     nexts: &[u16; MOST_NAMES],
     link: u16,
     word: &[u8],
-) -> Found
+) -> Option<u32>
     requires chained { Chained (table names.now script.now split froms.now counts.now values.now nexts.now) filled }
     requires links { Links (table names.now script.now split froms.now counts.now values.now nexts.now) filled word.now link }
     ensures { result ≡ found_in (entries (table names.now script.now split froms.now counts.now values.now nexts.now) (above filled link)) word.now }
@@ -76,11 +74,11 @@ fn find<'a>(
     while k < filled {
         let entry = word_of(names, script, split, k, froms[k], counts[k]);
         if check::same(entry, word) {
-            return Found::Value(values[k]);
+            return Some(values[k]);
         }
         k = nexts[k] as usize;
     }
-    Found::Nothing
+    None
 }
 
 // What is found of a word among all entries.
@@ -95,7 +93,7 @@ pub fn look<'a>(
     nexts: &[u16; MOST_NAMES],
     heads: &[u16; MOST_NAMES],
     word: &[u8],
-) -> Found
+) -> Option<u32>
     requires chained { Chained (table names.now script.now split froms.now counts.now values.now nexts.now) filled }
     requires headed { Headed (table names.now script.now split froms.now counts.now values.now nexts.now) filled heads.now }
     ensures { result ≡ found_in (entries (table names.now script.now split froms.now counts.now values.now nexts.now) filled) word.now }
@@ -127,7 +125,7 @@ pub fn look_before<'a>(
     nexts: &[u16; MOST_NAMES],
     k: usize,
     word: &[u8],
-) -> Found
+) -> Option<u32>
     requires chained { Chained (table names.now script.now split froms.now counts.now values.now nexts.now) filled }
     requires k_lt_filled { k < filled }
     requires word_value { word.now ≡ entry_word (table names.now script.now split froms.now counts.now values.now nexts.now) k }

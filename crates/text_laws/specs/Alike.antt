@@ -1,5 +1,5 @@
 -- What two texts come to depends only on the tokens of their lines. Assumes nothing.
-use Rattle.std.specs.Prelude.{◌≡◌, refl, Bool, true, false, leb, ltb, length, get_or}
+use Rattle.std.specs.Prelude.{◌≡◌, refl, Bool, true, false, leb, ltb, length, get_or, Err, None, Ok, Option, Result, Some}
 use Rattle.std.proofs.Common.{ap, sym, ◌∙◌, arith, leb-false}
 use mathlib.Core.List.{List, [], ◌∷◌, ◌++◌, map}
 use Prim.Native.Nat.{ℕ, zero, suc, ◌+◌, ◌<◌}
@@ -9,12 +9,8 @@ use Rattle.grammar.specs.Lines.{names_line, label_of, body_of, size_of, given, l
 use Rattle.grammar.specs.Texts.{number, lower, names_flaw, names_give, label_gives, label_flaw, given_flaw, noted, next, names_given, labels_given, script_words, last_line, nowhere, judged_as, judged, answered, stored, program, given_names, given_all, text_of}
 use Rattle.grammar.specs.Promises.{Translates}
 use Rattle.grammar.specs.declared.Refusal.{Refusal}
-use Rattle.grammar.specs.declared.Flaw.{Flaw}
-use Rattle.grammar.specs.declared.Fault.{Fault}
-use Rattle.grammar.specs.declared.Judged.{Judged}
 use Rattle.grammar.specs.declared.Line.{Line}
 use Rattle.grammar.specs.declared.Text.{Text}
-use Rattle.grammar.specs.declared.Translation.{Translation}
 use Rattle.text_laws.specs.Lined.{Judgement, judgement, names_lines, script_lines, all_lines, placed, count, last, noted_all, Alike, SameLine, SameJudged}
 use Rattle.text_laws.specs.Refused.{lines_fault, room_if, judged_is, last_placed, program_needs_lines}
 
@@ -56,7 +52,7 @@ same_words all (more {l} {m} {ls} {ms} e s) =
 -- lines with the same flaw, one by one, where R holds of where they stand
 data Related (R : Line → Line → Type 0) : List Judgement → List Judgement → Type 0 where
   none : Related R [] []
-  more : {w v : Flaw} {l m : Line} {js ks : List Judgement} → w ≡ v → R l m → Related R js ks → Related R (judgement w l ∷ js) (judgement v m ∷ ks)
+  more : {w v : Option Refusal} {l m : Line} {js ks : List Judgement} → w ≡ v → R l m → Related R js ks → Related R (judgement w l ∷ js) (judgement v m ∷ ks)
 
 module _ (R : Line → Line → Type 0) where
   related_both : {xs ys js ks : List Judgement} → Related R xs ys → Related R js ks → Related R (xs ++ js) (ys ++ ks)
@@ -95,34 +91,34 @@ module _ (R : Line → Line → Type 0) where
       rw (last_placed k at l ls, last_placed k' to m ms, ← same_length s) (h (length ls) (omega arith))
 
   -- the same fault, at lines of which R holds
-  abbrev SameFault : Fault → Fault → Type 0
-  SameFault Fault.Nothing Fault.Nothing = Unit {0}
-  SameFault Fault.Nothing (Fault.At q k) = ⊥
-  SameFault (Fault.At r l) Fault.Nothing = ⊥
-  SameFault (Fault.At r l) (Fault.At q k) = (r ≡ q) × R l k
+  abbrev SameFault : Option (Refusal × Line) → Option (Refusal × Line) → Type 0
+  SameFault None None = Unit {0}
+  SameFault None (Some (q, k)) = ⊥
+  SameFault (Some (r, l)) None = ⊥
+  SameFault (Some (r, l)) (Some (q, k)) = (r ≡ q) × R l k
 
-  same_noted : (f g : Fault) (w : Flaw) (l m : Line) → SameFault f g → R l m → SameFault (noted f w l) (noted g w m)
-  same_noted f g Flaw.Nothing l m h x = h
-  same_noted Fault.Nothing Fault.Nothing (Flaw.Is p) l m h x = (refl, x)
-  same_noted Fault.Nothing (Fault.At q k) (Flaw.Is p) l m h x = absurd h
-  same_noted (Fault.At q k) Fault.Nothing (Flaw.Is p) l m h x = absurd h
-  same_noted (Fault.At q k) (Fault.At q' k') (Flaw.Is p) l m h x =
+  same_noted : (f g : Option (Refusal × Line)) (w : Option Refusal) (l m : Line) → SameFault f g → R l m → SameFault (noted f w l) (noted g w m)
+  same_noted f g None l m h x = h
+  same_noted None None (Some p) l m h x = (refl, x)
+  same_noted None (Some (q, k)) (Some p) l m h x = absurd h
+  same_noted (Some (q, k)) None (Some p) l m h x = absurd h
+  same_noted (Some (q, k)) (Some (q', k')) (Some p) l m h x =
       rw h.0 (either (ltb (number p) (number q')))
     where
-      either : (t : Bool) → SameFault (elim t as (λ _. Fault) [ true ↦ Fault.At p l | false ↦ Fault.At q' k ]) (elim t as (λ _. Fault) [ true ↦ Fault.At p m | false ↦ Fault.At q' k' ])
+      either : (t : Bool) → SameFault (elim t as (λ _. Option (Refusal × Line)) [ true ↦ Some (p, l) | false ↦ Some (q', k) ]) (elim t as (λ _. Option (Refusal × Line)) [ true ↦ Some (p, m) | false ↦ Some (q', k') ])
       either true = (refl, x)
       either false = (refl, h.1)
 
-  same_noted_all : {js ks : List Judgement} (f g : Fault) → Related R js ks → SameFault f g → SameFault (noted_all f js) (noted_all g ks)
+  same_noted_all : {js ks : List Judgement} (f g : Option (Refusal × Line)) → Related R js ks → SameFault f g → SameFault (noted_all f js) (noted_all g ks)
   same_noted_all f g none h = h
   same_noted_all f g (more {w} {v} {l} {m} e x a) h =
       same_noted_all (noted f w l) (noted g v m) a (rw (← e) (same_noted f g w l m h x))
 
-  same_judged_as : (f g : Fault) (n : ℕ) → SameFault f g → SameJudged R (judged_as f n) (judged_as g n)
-  same_judged_as Fault.Nothing Fault.Nothing n h = refl
-  same_judged_as Fault.Nothing (Fault.At q k) n h = h
-  same_judged_as (Fault.At r l) Fault.Nothing n h = h
-  same_judged_as (Fault.At r l) (Fault.At q k) n h = h
+  same_judged_as : (f g : Option (Refusal × Line)) (n : ℕ) → SameFault f g → SameJudged R (judged_as f n) (judged_as g n)
+  same_judged_as None None n h = refl
+  same_judged_as None (Some (q, k)) n h = h
+  same_judged_as (Some (r, l)) None n h = h
+  same_judged_as (Some (r, l)) (Some (q, k)) n h = h
 
 -- a line of a text stands in that text
 pub placed_text : (t : Text) (at : ℕ) (ls : List (List ℕ)) (i : ℕ) → i < length ls → (get_or (placed t at ls) i nowhere).text ≡ t
@@ -174,15 +170,15 @@ module _ (names script names' script' : List ℕ) (a : Alike names script names'
   alike_flaws = same_flaws Same related
 
   lines_same : SameFault Same (lines_fault names script) (lines_fault names' script')
-  lines_same = same_noted_all Same Fault.Nothing Fault.Nothing related tt
+  lines_same = same_noted_all Same None None related tt
 
-  abbrev noted_room : List ℕ → List ℕ → Bool → Fault
+  abbrev noted_room : List ℕ → List ℕ → Bool → Option (Refusal × Line)
   noted_room ns ss t = noted (lines_fault ns ss) (room_if t) (last ss)
 
   room_same : (room : ℕ) (t : Bool) → leb (count names script) room ≡ t → SameFault Same (noted_room names script t) (noted_room names' script' t)
   room_same room true e = lines_same
   room_same room false e =
-      same_noted Same (lines_fault names script) (lines_fault names' script') (Flaw.Is Refusal.NoRoom) (last script) (last script') lines_same
+      same_noted Same (lines_fault names script) (lines_fault names' script') (Some Refusal.NoRoom) (last script) (last script') lines_same
       (related_last Same nowhere nowhere 0 0 in_script (program_needs_lines names script (omega (arith, leb-false (count names script) room e))) script_stand)
 
   -- they come to the same: the same count of words, or the same number for the same line of the same text
@@ -192,26 +188,26 @@ module _ (names script names' script' : List ℕ) (a : Alike names script names'
       rw (judged_is names script room, judged_is names' script' room, ← alike_program)
       (same_judged_as Same (noted_room names script t) (noted_room names' script' t) (count names script) (room_same room t refl))
 
-  same_answer : (j k : Judged) → SameJudged Same j k → answered j ≡ answered k
-  same_answer (Judged.Fine n) (Judged.Fine m) h = ap Translation.Words h
-  same_answer (Judged.Fine n) (Judged.Refused q k) h = absurd h
-  same_answer (Judged.Refused r l) (Judged.Fine m) h = absurd h
-  same_answer (Judged.Refused r l) (Judged.Refused q k) h =
+  same_answer : (j k : Result ℕ (Refusal × Line)) → SameJudged Same j k → answered j ≡ answered k
+  same_answer (Ok n) (Ok m) h = ap Ok h
+  same_answer (Ok n) (Err (q, k)) h = absurd h
+  same_answer (Err (r, l)) (Ok m) h = absurd h
+  same_answer (Err (r, l)) (Err (q, k)) h =
       let e : l.text ≡ k.text = same_text names script names' script' l k h.1 in
       cc h.0
 
-  same_stored : (j k : Judged) (words target : List ℕ) → SameJudged Same j k → stored j words target ≡ stored k words target
-  same_stored (Judged.Fine n) (Judged.Fine m) words target h = refl
-  same_stored (Judged.Fine n) (Judged.Refused q k) words target h = absurd h
-  same_stored (Judged.Refused r l) (Judged.Fine m) words target h = absurd h
-  same_stored (Judged.Refused r l) (Judged.Refused q k) words target h = refl
+  same_stored : (j k : Result ℕ (Refusal × Line)) (words target : List ℕ) → SameJudged Same j k → stored j words target ≡ stored k words target
+  same_stored (Ok n) (Ok m) words target h = refl
+  same_stored (Ok n) (Err (q, k)) words target h = absurd h
+  same_stored (Err (r, l)) (Ok m) words target h = absurd h
+  same_stored (Err (r, l)) (Err (q, k)) words target h = refl
 
   -- they have the same answer, and leave the same target
-  pub alike_translates : (target : List ℕ) (answer answer' : Translation) (after after' : List ℕ)
+  pub alike_translates : (target : List ℕ) (answer answer' : Result ℕ (Refusal × Text)) (after after' : List ℕ)
       → Translates names script target answer after → Translates names' script' target answer' after' → (answer ≡ answer') × (after ≡ after')
   alike_translates target answer answer' after after' x y =
-      let j : Judged = judged names script (length target) in
-      let k : Judged = judged names' script' (length target) in (
+      let j : (Result ℕ (Refusal × Line)) = judged names script (length target) in
+      let k : (Result ℕ (Refusal × Line)) = judged names' script' (length target) in (
         x.answers ∙ same_answer j k (alike_judged (length target)) ∙ sym y.answers,
         x.left ∙ rw alike_program (same_stored j k (program names' script') target (alike_judged (length target))) ∙ sym y.left,
       )

@@ -1,22 +1,19 @@
 -- What the laws of the text form name: the lines of both texts, each with what is wrong with it, and the first of those with the lowest number.
-use Rattle.std.specs.Prelude.{◌≡◌, List, [], ◌∷◌, ◌++◌, map, ℕ, suc, ◌+◌, ◌<◌, ◌≤◌, length, get_or}
+use Rattle.std.specs.Prelude.{◌≡◌, List, [], ◌∷◌, ◌++◌, map, ℕ, suc, ◌+◌, ◌<◌, ◌≤◌, length, get_or, Err, None, Ok, Option, Result, Some}
 use Rattle.grammar.specs.Tokens.{lines, tokens}
 use Rattle.grammar.specs.Sums.{Entry}
 use Rattle.grammar.specs.Lines.{names_line, label_of, body_of, size_of}
 use Rattle.grammar.specs.Texts.{number, names_flaw, names_give, label_gives, script_flaw, noted, line, next, given_names, given_all, program, last_line, nowhere, text_of}
-use Rattle.grammar.specs.declared.Refusal.{Refusal}
-use Rattle.grammar.specs.declared.Flaw.{Flaw}
-use Rattle.grammar.specs.declared.Fault.{Fault}
-use Rattle.grammar.specs.declared.Judged.{Judged}
-use Rattle.grammar.specs.declared.Text.{Text}
 use Rattle.grammar.specs.declared.Line.{Line}
+use Rattle.grammar.specs.declared.Refusal.{Refusal}
+use Rattle.grammar.specs.declared.Text.{Text}
 
 -- a line, and what is wrong with it
 pub record Judgement : Type 0 where
-  pub flaw : Flaw
+  pub flaw : Option Refusal
   pub line : Line
 
-abbrev pub judgement : Flaw → Line → Judgement
+abbrev pub judgement : Option Refusal → Line → Judgement
 judgement w l = record { flaw = w; line = l }
 
 -- the lines of the names, after names that are given
@@ -52,29 +49,29 @@ abbrev pub last : List ℕ → Line
 last script = last_line nowhere 0 (lines script)
 
 -- the fault that is named after more lines
-abbrev pub noted_all : Fault → List Judgement → Fault
+abbrev pub noted_all : Option (Refusal × Line) → List Judgement → Option (Refusal × Line)
 noted_all f [] = f
 noted_all f (j ∷ js) = noted_all (noted f j.flaw j.line) js
 
 -- nothing that is wrong with a line has a number below n
-abbrev pub NoneBelow : ℕ → Flaw → Type 0
-NoneBelow n Flaw.Nothing = Unit {0}
-NoneBelow n (Flaw.Is r) = n ≤ number r
+abbrev pub NoneBelow : ℕ → Option Refusal → Type 0
+NoneBelow n None = Unit {0}
+NoneBelow n (Some r) = n ≤ number r
 
 -- what holds of the flaw of each line
-abbrev pub Each : (Flaw → Type 0) → List Judgement → Type 0
+abbrev pub Each : ((Option Refusal) → Type 0) → List Judgement → Type 0
 Each P [] = Unit {0}
 Each P (j ∷ js) = P j.flaw × Each P js
 
 -- nothing is wrong with any line
 abbrev pub Clean : List Judgement → Type 0
-Clean js = Each (λ w. w ≡ Flaw.Nothing) js
+Clean js = Each (λ w. w ≡ None) js
 
 -- a line has the number of r, none before it has that number or a lower one, and none after it a lower one
 pub record First (r : Refusal) (l : Line) (js : List Judgement) : Type 0 where
   pub before : List Judgement
   pub after : List Judgement
-  pub stands : js ≡ before ++ (judgement (Flaw.Is r) l ∷ after)
+  pub stands : js ≡ before ++ (judgement (Some r) l ∷ after)
   pub none_before : Each (NoneBelow (suc (number r))) before
   pub none_after : Each (NoneBelow (number r)) after
 
@@ -93,8 +90,8 @@ pub record SameLine (names script names' script' : List ℕ) (l l' : Line) : Typ
   pub is' : l' ≡ numbered names' script' text number
 
 -- two pairs of texts come to the same: the same count of words, or the same number for the same line
-abbrev pub SameJudged : (Line → Line → Type 0) → Judged → Judged → Type 0
-SameJudged R (Judged.Fine n) (Judged.Fine m) = n ≡ m
-SameJudged R (Judged.Fine n) (Judged.Refused q k) = ⊥
-SameJudged R (Judged.Refused r l) (Judged.Fine m) = ⊥
-SameJudged R (Judged.Refused r l) (Judged.Refused q k) = (r ≡ q) × R l k
+abbrev pub SameJudged : (Line → Line → Type 0) → Result ℕ (Refusal × Line) → Result ℕ (Refusal × Line) → Type 0
+SameJudged R (Ok n) (Ok m) = n ≡ m
+SameJudged R (Ok n) (Err (q, k)) = ⊥
+SameJudged R (Err (r, l)) (Ok m) = ⊥
+SameJudged R (Err (r, l)) (Err (q, k)) = (r ≡ q) × R l k

@@ -1,5 +1,5 @@
 -- The part of a text where a line stands is that line. Assumes nothing.
-use Rattle.std.specs.Prelude.{◌≡◌, Bool, eqb, get_or}
+use Rattle.std.specs.Prelude.{◌≡◌, Bool, eqb, get_or, Err}
 use Rattle.std.proofs.Math.Path.{refl}
 use Rattle.std.proofs.Common.{ap, sym, ◌∙◌, drop_at}
 use Rattle.std.proofs.Math.Bool.{true, false}
@@ -9,7 +9,6 @@ use native.Mathlib.Omega.{arith}
 use Rattle.std.proofs.Math.ListN.{length, take, drop, length-append}
 use Rattle.grammar.specs.Tokens.{lines, line_end, joined}
 use Rattle.grammar.specs.Texts.{next, nowhere, text_of, part_of, judged}
-use Rattle.grammar.specs.declared.Judged.{Judged}
 use Rattle.grammar.specs.declared.Line.{Line}
 use Rattle.grammar.specs.declared.Refusal.{Refusal}
 use Rattle.grammar.specs.declared.Text.{Text}
@@ -53,7 +52,7 @@ line_is_its_bytes names script t i h =
     ∙ all_stand t [] (text_of t names script) 0 refl i h
 
 -- a refused line is one of the lines of its text
-pub refused_is_a_line : (names script : List ℕ) (room : ℕ) (r : Refusal) (l : Line) → judged names script room ≡ Judged.Refused r l
+pub refused_is_a_line : (names script : List ℕ) (room : ℕ) (r : Refusal) (l : Line) → judged names script room ≡ Err (r, l)
     → (i : ℕ) × (i < length (lines (text_of l.text names script))) × (l ≡ numbered names script l.text i) × (part_of l names script ≡ get_or (lines (text_of l.text names script)) i [])
 refused_is_a_line names script room r l e =
     let x : SameLine names script names script l l = (rw e at (alike_judged names script names script (record { in_names = refl; in_script = refl }) room)).1 in

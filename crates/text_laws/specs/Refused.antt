@@ -1,41 +1,38 @@
 -- Which texts are accepted, and what a refusal comes from. Assumes nothing.
-use Rattle.std.specs.Prelude.{◌≡◌, refl, Bool, true, false, List, [], ◌∷◌, ◌++◌, map, ◌⊎◌, ◌↔◌, ℕ, ◌+◌, ◌<◌, ◌≤◌, leb, ltb, length, get_or}
+use Rattle.std.specs.Prelude.{◌≡◌, refl, Bool, true, false, List, [], ◌∷◌, ◌++◌, map, ◌⊎◌, ◌↔◌, ℕ, ◌+◌, ◌<◌, ◌≤◌, leb, ltb, length, get_or, Err, None, Ok, Option, Result, Some}
 use Rattle.std.proofs.Math.Path.{ap}
 use Rattle.std.proofs.Common.{sym, ◌∙◌, inl, inr, arith, ltb-true, ltb-false, leb-true, le-leb}
+use Rattle.std.proofs.lemmas.Option.{some_pair_parts}
 use Rattle.grammar.specs.Tokens.{lines, tokens}
 use Rattle.grammar.specs.Sums.{Entry, find}
 use Rattle.grammar.specs.Lines.{NamesLine, names_line, Label, label_of, body_of, size_of, given}
 use Rattle.grammar.specs.Texts.{number, most_names, again_flaw, give_flaw, worked_flaw, lower, names_flaw, names_give, label_gives, label_flaw, given_flaw, script_flaw, noted, line, next, names_fault, script_fault, script_words, last_line, nowhere, texts_fault, room_flaw, judged_as, judged, program, given_names, given_all}
+use Rattle.grammar.specs.declared.NoValue.{NoValue}
 use Rattle.grammar.specs.declared.Refusal.{Refusal}
-use Rattle.grammar.specs.declared.Flaw.{Flaw}
-use Rattle.grammar.specs.declared.Fault.{Fault}
-use Rattle.grammar.specs.declared.Found.{Found}
 use Rattle.grammar.specs.declared.Given.{Given}
-use Rattle.grammar.specs.declared.Judged.{Judged}
 use Rattle.grammar.specs.declared.Line.{Line}
 use Rattle.grammar.specs.declared.Text.{Text}
-use Rattle.grammar.specs.declared.Worked.{Worked}
 use Rattle.text_laws.specs.Lined.{Judgement, judgement, names_lines, script_lines, all_lines, placed, count, last, noted_all, NoneBelow, Each, Clean, First}
 use Rattle.text_laws.specs.First.{noted_kept, noted_clean, clean_noted, noted_more, each_both, each_at}
 
 -- the fault of the texts is noted over their lines
-names_noted : (es : List Entry) (f : Fault) (at : ℕ) (ls : List (List ℕ)) → names_fault es f at ls ≡ noted_all f (names_lines es at ls)
+names_noted : (es : List Entry) (f : Option (Refusal × Line)) (at : ℕ) (ls : List (List ℕ)) → names_fault es f at ls ≡ noted_all f (names_lines es at ls)
 unfolding names_fault names_lines
 names_noted es f at [] = refl
 names_noted es f at (l ∷ ls) =
     names_noted (names_give es (names_line es (tokens l))) (noted f (names_flaw es (names_line es (tokens l))) (line Text.Names at l)) (next at l) ls
 
-script_noted : (all above : List Entry) (p : ℕ) (f : Fault) (at : ℕ) (ls : List (List ℕ)) → script_fault all above p f at ls ≡ noted_all f (script_lines all above p at ls)
+script_noted : (all above : List Entry) (p : ℕ) (f : Option (Refusal × Line)) (at : ℕ) (ls : List (List ℕ)) → script_fault all above p f at ls ≡ noted_all f (script_lines all above p at ls)
 unfolding script_fault script_lines
 script_noted all above p f at [] = refl
 script_noted all above p f at (l ∷ ls) =
     script_noted all (label_gives above p (label_of (tokens l))) (p + size_of (body_of (tokens l))) (noted f (script_flaw all above l) (line Text.Script at l)) (next at l) ls
 
-pub texts_noted : (names script : List ℕ) → texts_fault names script ≡ noted_all Fault.Nothing (all_lines names script)
+pub texts_noted : (names script : List ℕ) → texts_fault names script ≡ noted_all None (all_lines names script)
 texts_noted names script =
-    script_noted (given_all names script) (given_names names) 0 (names_fault [] Fault.Nothing 0 (lines names)) 0 (lines script)
-    ∙ ap (λ f. noted_all f (script_lines (given_all names script) (given_names names) 0 0 (lines script))) (names_noted [] Fault.Nothing 0 (lines names))
-    ∙ sym (noted_more Fault.Nothing (names_lines [] 0 (lines names)) (script_lines (given_all names script) (given_names names) 0 0 (lines script)))
+    script_noted (given_all names script) (given_names names) 0 (names_fault [] None 0 (lines names)) 0 (lines script)
+    ∙ ap (λ f. noted_all f (script_lines (given_all names script) (given_names names) 0 0 (lines script))) (names_noted [] None 0 (lines names))
+    ∙ sym (noted_more None (names_lines [] 0 (lines names)) (script_lines (given_all names script) (given_names names) 0 0 (lines script)))
 
 -- the lines of the texts are all of them, where they stand
 names_placed : (es : List Entry) (at : ℕ) (ls : List (List ℕ)) → map (λ (j : Judgement). j.line) (names_lines es at ls) ≡ placed Text.Names at ls
@@ -60,40 +57,40 @@ all_placed names script =
     ∙ rw (names_placed [] 0 (lines names), script_placed (given_all names script) (given_names names) 0 0 (lines script))
 
 -- of two things that may be wrong with a line neither has a number lower than what is wrong with it
-pub lower_none : (n : ℕ) (x y : Flaw) → NoneBelow n (lower x y) → NoneBelow n x × NoneBelow n y
-lower_none n Flaw.Nothing y h = (tt, h)
-lower_none n (Flaw.Is r) Flaw.Nothing h = (h, tt)
-lower_none n (Flaw.Is r) (Flaw.Is q) h = either (ltb (number q) (number r)) refl h
+pub lower_none : (n : ℕ) (x y : Option Refusal) → NoneBelow n (lower x y) → NoneBelow n x × NoneBelow n y
+lower_none n None y h = (tt, h)
+lower_none n (Some r) None h = (h, tt)
+lower_none n (Some r) (Some q) h = either (ltb (number q) (number r)) refl h
   where
-    either : (t : Bool) → ltb (number q) (number r) ≡ t → NoneBelow n (elim t as (λ _. Flaw) [ true ↦ Flaw.Is q | false ↦ Flaw.Is r ]) → (n ≤ number r) × (n ≤ number q)
+    either : (t : Bool) → ltb (number q) (number r) ≡ t → NoneBelow n (elim t as (λ _. Option Refusal) [ true ↦ Some q | false ↦ Some r ]) → (n ≤ number r) × (n ≤ number q)
     either true e g = (omega (arith, ltb-true (number q) (number r) e), g)
     either false e g = (g, omega (arith, ltb-false (number q) (number r) e))
 
 -- no line has the number 16
-abbrev OfLine : Flaw → Type 0
-OfLine Flaw.Nothing = Unit {0}
-OfLine (Flaw.Is r) = number r < 16
+abbrev OfLine : Option Refusal → Type 0
+OfLine None = Unit {0}
+OfLine (Some r) = number r < 16
 
-lower_of_line : (x y : Flaw) → OfLine x → OfLine y → OfLine (lower x y)
-lower_of_line Flaw.Nothing y h g = g
-lower_of_line (Flaw.Is r) Flaw.Nothing h g = h
-lower_of_line (Flaw.Is r) (Flaw.Is q) h g = either (ltb (number q) (number r))
+lower_of_line : (x y : Option Refusal) → OfLine x → OfLine y → OfLine (lower x y)
+lower_of_line None y h g = g
+lower_of_line (Some r) None h g = h
+lower_of_line (Some r) (Some q) h g = either (ltb (number q) (number r))
   where
-    either : (t : Bool) → OfLine (elim t as (λ _. Flaw) [ true ↦ Flaw.Is q | false ↦ Flaw.Is r ])
+    either : (t : Bool) → OfLine (elim t as (λ _. Option Refusal) [ true ↦ Some q | false ↦ Some r ])
     either true = g
     either false = h
 
-worked_of_line : (v : Worked) → OfLine (worked_flaw v)
-worked_of_line (Worked.Is v) = tt
-worked_of_line Worked.Missing = omega arith
-worked_of_line Worked.Beyond = omega arith
+worked_of_line : (v : Result ℕ NoValue) → OfLine (worked_flaw v)
+worked_of_line (Ok v) = tt
+worked_of_line (Err NoValue.Missing) = omega arith
+worked_of_line (Err NoValue.Beyond) = omega arith
 
 give_of_line : (es : List Entry) (w : List ℕ) → OfLine (give_flaw es w)
 give_of_line es w = either (ltb (length es) most_names) (find es w)
   where
-    either : (t : Bool) (x : Found) → OfLine (elim t as (λ _. Flaw) [ true ↦ again_flaw x | false ↦ Flaw.Is Refusal.OutsideGrammar ])
-    either true Found.Nothing = tt
-    either true (Found.Value v) = omega arith
+    either : (t : Bool) (x : Option ℕ) → OfLine (elim t as (λ _. Option Refusal) [ true ↦ again_flaw x | false ↦ Some Refusal.OutsideGrammar ])
+    either true None = tt
+    either true (Some v) = omega arith
     either false x = omega arith
 
 names_of_line : (es : List Entry) (x : NamesLine) → OfLine (names_flaw es x)
@@ -126,7 +123,7 @@ script_of_lines all above p at (l ∷ ls) = (
 
 pub line_is_below_16 : (names script : List ℕ) (r : Refusal) (l : Line) → First r l (all_lines names script) → number r < 16
 line_is_below_16 names script r l x =
-    each_at OfLine x.before x.after (judgement (Flaw.Is r) l)
+    each_at OfLine x.before x.after (judgement (Some r) l)
     (rw x.stands at (each_both OfLine (names_lines [] 0 (lines names)) (script_lines (given_all names script) (given_names names) 0 0 (lines script)) (names_of_lines [] 0 (lines names)) (script_of_lines (given_all names script) (given_names names) 0 0 (lines script))))
 
 -- a fault, and then the room
@@ -136,40 +133,42 @@ number_at_most_16 Refusal.NameFault = omega arith
 number_at_most_16 Refusal.OutOfRange = omega arith
 number_at_most_16 Refusal.NoRoom = omega arith
 
-abbrev pub room_if : Bool → Flaw
-room_if t = elim t [ true ↦ Flaw.Nothing | false ↦ Flaw.Is Refusal.NoRoom ]
+abbrev pub room_if : Bool → Option Refusal
+room_if t = elim t [ true ↦ None | false ↦ Some Refusal.NoRoom ]
 
-pub room_after_line : (r : Refusal) (l m : Line) (t : Bool) → noted (Fault.At r l) (room_if t) m ≡ Fault.At r l
+pub room_after_line : (r : Refusal) (l m : Line) (t : Bool) → noted (Some (r, l)) (room_if t) m ≡ Some (r, l)
 room_after_line r l m true = refl
-room_after_line r l m false = noted_kept r l (Flaw.Is Refusal.NoRoom) m (number_at_most_16 r)
+room_after_line r l m false = noted_kept r l (Some Refusal.NoRoom) m (number_at_most_16 r)
 
 module _ (c : ℕ) (m : Line) where
-  refused_as : (f : Fault) (r : Refusal) (l : Line) → judged_as f c ≡ Judged.Refused r l → f ≡ Fault.At r l
-  refused_as Fault.Nothing r l e = absurd (let z : ◌≡◌ {A = ℕ} 0 1 = cc in omega arith)
-  refused_as (Fault.At q k) r l e = cc
+  refused_as : (f : Option (Refusal × Line)) (r : Refusal) (l : Line) → judged_as f c ≡ Err (r, l) → f ≡ Some (r, l)
+  refused_as None r l e = absurd (let z : ◌≡◌ {A = ℕ} 0 1 = cc in omega arith)
+  refused_as (Some (q, k)) r l e = cc
 
-  refused_for : (f : Fault) (t : Bool) (r : Refusal) (l : Line) → judged_as (noted f (room_if t) m) c ≡ Judged.Refused r l
-      → (f ≡ Fault.At r l) ⊎ ((f ≡ Fault.Nothing) × (t ≡ false) × (r ≡ Refusal.NoRoom) × (l ≡ m))
-  refused_for Fault.Nothing true r l e = absurd (let z : ◌≡◌ {A = ℕ} 0 1 = cc in omega arith)
-  refused_for Fault.Nothing false r l e = inr (refl, refl, cc, cc)
-  refused_for (Fault.At q k) t r l e = inl (sym (room_after_line q k m t) ∙ refused_as (noted (Fault.At q k) (room_if t) m) r l e)
+  refused_for : (f : Option (Refusal × Line)) (t : Bool) (r : Refusal) (l : Line) → judged_as (noted f (room_if t) m) c ≡ Err (r, l)
+      → (f ≡ Some (r, l)) ⊎ ((f ≡ None) × (t ≡ false) × (r ≡ Refusal.NoRoom) × (l ≡ m))
+  refused_for None true r l e = absurd (let z : ◌≡◌ {A = ℕ} 0 1 = cc in omega arith)
+  refused_for None false r l e =
+      let p = some_pair_parts _ _ _ _ (refused_as (Some (Refusal.NoRoom, m)) r l e) in
+      inr (refl, refl, sym p.0, sym p.1)
+  refused_for (Some (q, k)) t r l e = inl (sym (room_after_line q k m t) ∙ refused_as (noted (Some (q, k)) (room_if t) m) r l e)
 
-  accepted_for : (f : Fault) (t : Bool) (n : ℕ) → judged_as (noted f (room_if t) m) c ≡ Judged.Fine n → (f ≡ Fault.Nothing) × (t ≡ true) × (n ≡ c)
-  accepted_for Fault.Nothing true n e = (refl, refl, cc)
-  accepted_for Fault.Nothing false n e = absurd (let z : ◌≡◌ {A = ℕ} 0 1 = cc in omega arith)
-  accepted_for (Fault.At q k) t n e =
-      let z : Judged.Refused q k ≡ Judged.Fine n = ap (λ f. judged_as f c) (sym (room_after_line q k m t)) ∙ e in
+  accepted_for : (f : Option (Refusal × Line)) (t : Bool) (n : ℕ) → judged_as (noted f (room_if t) m) c ≡ Ok n → (f ≡ None) × (t ≡ true) × (n ≡ c)
+  accepted_for None true n e = (refl, refl, cc)
+  accepted_for None false n e = absurd (let z : ◌≡◌ {A = ℕ} 0 1 = cc in omega arith)
+  accepted_for (Some (q, k)) t n e =
+      let z : ◌≡◌ {A = Result ℕ (Refusal × Line)} (Err (q, k)) (Ok n) = ap (λ f. judged_as f c) (sym (room_after_line q k m t)) ∙ e in
       absurd (let z : ◌≡◌ {A = ℕ} 0 1 = cc in omega arith)
 
 -- the fault of the lines
-abbrev pub lines_fault : List ℕ → List ℕ → Fault
-lines_fault names script = noted_all Fault.Nothing (all_lines names script)
+abbrev pub lines_fault : List ℕ → List ℕ → Option (Refusal × Line)
+lines_fault names script = noted_all None (all_lines names script)
 
 module _ (names script : List ℕ) (room : ℕ) where
   abbrev pub fits : Bool
   fits = leb (count names script) room
 
-  pub judged_by : (f : Fault) (t : Bool) → lines_fault names script ≡ f → fits ≡ t
+  pub judged_by : (f : Option (Refusal × Line)) (t : Bool) → lines_fault names script ≡ f → fits ≡ t
       → judged names script room ≡ judged_as (noted f (room_if t) (last script)) (count names script)
   unfolding judged
   judged_by f t e h =
@@ -181,16 +180,16 @@ module _ (names script : List ℕ) (room : ℕ) where
   judged_is = judged_by (lines_fault names script) fits refl refl
 
   -- a text is accepted exactly where nothing is wrong with any line and its words fit the target; the answer is their count
-  pub accepted : (n : ℕ) → (judged names script room ≡ Judged.Fine n) ↔ (Clean (all_lines names script) × (count names script ≤ room) × (n ≡ count names script))
+  pub accepted : (n : ℕ) → (judged names script room ≡ Ok n) ↔ (Clean (all_lines names script) × (count names script ≤ room) × (n ≡ count names script))
   accepted n = (
     λ e. let h = accepted_for (count names script) (last script) (lines_fault names script) fits n (sym judged_is ∙ e) in
         (noted_clean (all_lines names script) h.0, leb-true (count names script) room h.1, h.2),
-    λ h. judged_by Fault.Nothing true (clean_noted (all_lines names script) h.0) (le-leb (count names script) room h.1) ∙ ap Judged.Fine (sym h.2),
+    λ h. judged_by None true (clean_noted (all_lines names script) h.0) (le-leb (count names script) room h.1) ∙ ap Ok (sym h.2),
   )
 
-  pub why : (r : Refusal) (l : Line) → judged names script room ≡ Judged.Refused r l
-      → (lines_fault names script ≡ Fault.At r l)
-      ⊎ ((lines_fault names script ≡ Fault.Nothing) × (fits ≡ false) × (r ≡ Refusal.NoRoom) × (l ≡ last script))
+  pub why : (r : Refusal) (l : Line) → judged names script room ≡ Err (r, l)
+      → (lines_fault names script ≡ Some (r, l))
+      ⊎ ((lines_fault names script ≡ None) × (fits ≡ false) × (r ≡ Refusal.NoRoom) × (l ≡ last script))
   why r l e = refused_for (count names script) (last script) (lines_fault names script) fits r l (sym judged_is ∙ e)
 
 -- the script's last line is the last of its lines

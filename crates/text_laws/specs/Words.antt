@@ -1,5 +1,5 @@
 -- A label's value is the number of words that the lines above it give. Assumes nothing.
-use Rattle.std.specs.Prelude.{◌≡◌, refl, Bool, true, false, ◌&&◌, ℕ, ◌+◌, min, eqb, ltb}
+use Rattle.std.specs.Prelude.{◌≡◌, refl, Bool, true, false, ◌&&◌, ℕ, ◌+◌, min, eqb, ltb, Err, None, Ok, Option, Some}
 use Rattle.std.proofs.Common.{ap, sym, subst, ◌∙◌, zero-add, add-zero, arith, eq-eqb, eqb-true}
 use mathlib.Core.List.{List, [], ◌∷◌, ◌++◌}
 use Rattle.std.proofs.Math.ListN.{length, length-append}
@@ -8,14 +8,11 @@ use Rattle.grammar.specs.Kept.{kept_as}
 use Rattle.grammar.specs.Sums.{Entry, Reading, sum_of, find, end_of_range}
 use Rattle.grammar.specs.Lines.{Label, label_of, body_of, size_of, words_of_kept, words_by, Operand, register, one, two, with_sum, with_second, with_registers, order, sum_line, body_by, given, line_words}
 use Rattle.grammar.specs.Texts.{number, most_names, give, give_flaw, again_flaw, given_flaw, label_gives, label_flaw, lower, labels_given, script_words, next, judged, given_names, given_all}
-use Rattle.grammar.specs.declared.Flaw.{Flaw}
-use Rattle.grammar.specs.declared.Found.{Found}
 use Rattle.grammar.specs.declared.Given.{Given}
-use Rattle.grammar.specs.declared.Judged.{Judged}
 use Rattle.grammar.specs.declared.Kept.{Kept}
+use Rattle.grammar.specs.declared.NoValue.{NoValue}
 use Rattle.grammar.specs.declared.Operands.{Operands}
 use Rattle.grammar.specs.declared.Refusal.{Refusal}
-use Rattle.grammar.specs.declared.Worked.{Worked}
 use Rattle.text_laws.specs.Lined.{Judgement, names_lines, script_lines, Clean}
 use Rattle.text_laws.specs.Refused.{accepted}
 
@@ -74,26 +71,26 @@ given_gives es (Token.mark b ∷ ts) = sum_gives (sum_of es (Token.mark b ∷ ts
 given_gives es (Token.stray ∷ ts) = tt
 
 -- a body with nothing wrong gives as many words as its first token says
-words_by_size : (n : ℕ) (x : Given) → Gives n x → given_flaw x ≡ Flaw.Nothing → length (line_words x) ≡ n
+words_by_size : (n : ℕ) (x : Given) → Gives n x → given_flaw x ≡ None → length (line_words x) ≡ n
 words_by_size n Given.Outside g e = absurd (let z : ◌≡◌ {A = ℕ} 0 1 = cc in omega arith)
 words_by_size n Given.Nothing g e = sym g
-words_by_size n (Given.One (Worked.Is v)) g e = sym g
-words_by_size n (Given.One Worked.Missing) g e = absurd (let z : ◌≡◌ {A = ℕ} 0 1 = cc in omega arith)
-words_by_size n (Given.One Worked.Beyond) g e = absurd (let z : ◌≡◌ {A = ℕ} 0 1 = cc in omega arith)
-words_by_size n (Given.Two f (Worked.Is v)) g e = sym g
-words_by_size n (Given.Two f Worked.Missing) g e = absurd (let z : ◌≡◌ {A = ℕ} 0 1 = cc in omega arith)
-words_by_size n (Given.Two f Worked.Beyond) g e = absurd (let z : ◌≡◌ {A = ℕ} 0 1 = cc in omega arith)
+words_by_size n (Given.One (Ok v)) g e = sym g
+words_by_size n (Given.One (Err NoValue.Missing)) g e = absurd (let z : ◌≡◌ {A = ℕ} 0 1 = cc in omega arith)
+words_by_size n (Given.One (Err NoValue.Beyond)) g e = absurd (let z : ◌≡◌ {A = ℕ} 0 1 = cc in omega arith)
+words_by_size n (Given.Two f (Ok v)) g e = sym g
+words_by_size n (Given.Two f (Err NoValue.Missing)) g e = absurd (let z : ◌≡◌ {A = ℕ} 0 1 = cc in omega arith)
+words_by_size n (Given.Two f (Err NoValue.Beyond)) g e = absurd (let z : ◌≡◌ {A = ℕ} 0 1 = cc in omega arith)
 
-pub size_is_words : (es : List Entry) (ts : List Token) → given_flaw (given es ts) ≡ Flaw.Nothing → size_of ts ≡ length (line_words (given es ts))
+pub size_is_words : (es : List Entry) (ts : List Token) → given_flaw (given es ts) ≡ None → size_of ts ≡ length (line_words (given es ts))
 size_is_words es ts e = sym (words_by_size (size_of ts) (given es ts) (given_gives es ts) e)
 
 -- where nothing is wrong with a line, nothing is wrong with its label nor with its body
-pub lower_nothing : (x y : Flaw) → lower x y ≡ Flaw.Nothing → (x ≡ Flaw.Nothing) × (y ≡ Flaw.Nothing)
-lower_nothing Flaw.Nothing y e = (refl, e)
-lower_nothing (Flaw.Is r) Flaw.Nothing e = absurd (let z : ◌≡◌ {A = ℕ} 0 1 = cc in omega arith)
-lower_nothing (Flaw.Is r) (Flaw.Is q) e = absurd (either (ltb (number q) (number r)) e)
+pub lower_nothing : (x y : Option Refusal) → lower x y ≡ None → (x ≡ None) × (y ≡ None)
+lower_nothing None y e = (refl, e)
+lower_nothing (Some r) None e = absurd (let z : ◌≡◌ {A = ℕ} 0 1 = cc in omega arith)
+lower_nothing (Some r) (Some q) e = absurd (either (ltb (number q) (number r)) e)
   where
-    either : (t : Bool) → elim t as (λ _. Flaw) [ true ↦ Flaw.Is q | false ↦ Flaw.Is r ] ≡ Flaw.Nothing → ⊥
+    either : (t : Bool) → elim t as (λ _. Option Refusal) [ true ↦ Some q | false ↦ Some r ] ≡ None → ⊥
     either true z = let x : ◌≡◌ {A = ℕ} 0 1 = cc in omega arith
     either false z = let x : ◌≡◌ {A = ℕ} 0 1 = cc in omega arith
 
@@ -115,33 +112,33 @@ same_is (a ∷ v) (b ∷ w) e = go (eqb a b) refl (same_is v w) e
     go false h later z = absurd (let z : ◌≡◌ {A = ℕ} 0 1 = cc in omega arith)
 
 -- a label with nothing wrong is new, and is given
-given_new : (es : List Entry) (w : List ℕ) (v : ℕ) → give_flaw es w ≡ Flaw.Nothing → (give es w v ≡ entry w v ∷ es) × (find es w ≡ Found.Nothing)
+given_new : (es : List Entry) (w : List ℕ) (v : ℕ) → give_flaw es w ≡ None → (give es w v ≡ entry w v ∷ es) × (find es w ≡ None)
 given_new es w v e = go (ltb (length es) most_names) (find es w) e
   where
-    go : (t : Bool) (x : Found) → elim t as (λ _. Flaw) [ true ↦ again_flaw x | false ↦ Flaw.Is Refusal.OutsideGrammar ] ≡ Flaw.Nothing
-        → (elim t as (λ _. List Entry) [ true ↦ entry w v ∷ es | false ↦ es ] ≡ entry w v ∷ es) × (x ≡ Found.Nothing)
-    go true Found.Nothing z = (refl, refl)
-    go true (Found.Value n) z = absurd (let z : ◌≡◌ {A = ℕ} 0 1 = cc in omega arith)
+    go : (t : Bool) (x : Option ℕ) → elim t as (λ _. Option Refusal) [ true ↦ again_flaw x | false ↦ Some Refusal.OutsideGrammar ] ≡ None
+        → (elim t as (λ _. List Entry) [ true ↦ entry w v ∷ es | false ↦ es ] ≡ entry w v ∷ es) × (x ≡ None)
+    go true None z = (refl, refl)
+    go true (Some n) z = absurd (let z : ◌≡◌ {A = ℕ} 0 1 = cc in omega arith)
     go false x z = absurd (let z : ◌≡◌ {A = ℕ} 0 1 = cc in omega arith)
 
 -- what is found stays found where the next label has nothing wrong
-still_found : (es : List Entry) (w : List ℕ) (v p : ℕ) (x : Label) → find es w ≡ Found.Value v → label_flaw es x ≡ Flaw.Nothing → find (label_gives es p x) w ≡ Found.Value v
+still_found : (es : List Entry) (w : List ℕ) (v p : ℕ) (x : Label) → find es w ≡ Some v → label_flaw es x ≡ None → find (label_gives es p x) w ≡ Some v
 unfolding find
 still_found es w v p Label.none h e = h
 still_found es w v p (Label.label u) h e =
     let new = given_new es u (min p end_of_range) e in
     ap (λ ds. find ds w) new.0 ∙ go (same u w) refl new.1
   where
-    go : (t : Bool) → same u w ≡ t → find es u ≡ Found.Nothing → elim t as (λ _. Found) [ true ↦ Found.Value (min p end_of_range) | false ↦ find es w ] ≡ Found.Value v
+    go : (t : Bool) → same u w ≡ t → find es u ≡ None → elim t as (λ _. Option ℕ) [ true ↦ Some (min p end_of_range) | false ↦ find es w ] ≡ Some v
     go true z n = absurd (let i : u ≡ w = same_is u w z in let x : ◌≡◌ {A = ℕ} 0 1 = cc in omega arith)
     go false z n = h
 
-just_found : (es : List Entry) (w : List ℕ) (p : ℕ) → give_flaw es w ≡ Flaw.Nothing → find (label_gives es p (Label.label w)) w ≡ Found.Value (min p end_of_range)
+just_found : (es : List Entry) (w : List ℕ) (p : ℕ) → give_flaw es w ≡ None → find (label_gives es p (Label.label w)) w ≡ Some (min p end_of_range)
 unfolding find
 just_found es w p e = ap (λ ds. find ds w) (given_new es w (min p end_of_range) e).0 ∙ rw (same_self w, find)
 
 module _ (all : List Entry) where
-  all_found : (ls : List (List ℕ)) (es : List Entry) (p at : ℕ) (w : List ℕ) (v : ℕ) → Clean (script_lines all es p at ls) → find es w ≡ Found.Value v → find (labels_given es p ls) w ≡ Found.Value v
+  all_found : (ls : List (List ℕ)) (es : List Entry) (p at : ℕ) (w : List ℕ) (v : ℕ) → Clean (script_lines all es p at ls) → find es w ≡ Some v → find (labels_given es p ls) w ≡ Some v
   unfolding script_lines labels_given
   all_found [] es p at w v c h = h
   all_found (l ∷ ls) es p at w v c h =
@@ -149,7 +146,7 @@ module _ (all : List Entry) where
       all_found ls (label_gives es p (label_of (tokens l))) (p + size_of (body_of (tokens l))) (next at l) w v c.1 (still_found es w v p (label_of (tokens l)) h e.0)
 
   found_at_place : (xs ys : List (List ℕ)) (l : List ℕ) (es : List Entry) (p at : ℕ) (w : List ℕ) → Clean (script_lines all es p at (xs ++ (l ∷ ys))) → label_of (tokens l) ≡ Label.label w
-      → find (labels_given es p (xs ++ (l ∷ ys))) w ≡ Found.Value (min (p + length (script_words all xs)) end_of_range)
+      → find (labels_given es p (xs ++ (l ∷ ys))) w ≡ Some (min (p + length (script_words all xs)) end_of_range)
   unfolding script_lines labels_given script_words find
   found_at_place [] ys l es p at w c e =
       let h = lower_nothing (label_flaw es (label_of (tokens l))) (given_flaw (given all (body_of (tokens l)))) c.0 in
@@ -165,9 +162,9 @@ clean_second [] ys h = h
 clean_second (j ∷ xs) ys h = clean_second xs ys h.1
 
 -- in a text that is accepted, the label of a line has as its value the number of words that the lines above it give
-pub label_counts_words : (names script : List ℕ) (room n : ℕ) → judged names script room ≡ Judged.Fine n
+pub label_counts_words : (names script : List ℕ) (room n : ℕ) → judged names script room ≡ Ok n
     → (xs ys : List (List ℕ)) (l w : List ℕ) → lines script ≡ xs ++ (l ∷ ys) → label_of (tokens l) ≡ Label.label w
-    → find (given_all names script) w ≡ Found.Value (min (length (script_words (given_all names script) xs)) end_of_range)
+    → find (given_all names script) w ≡ Some (min (length (script_words (given_all names script) xs)) end_of_range)
 label_counts_words names script room n fine xs ys l w e h =
     let all : List Entry = given_all names script in
     let clean : Clean (script_lines all (given_names names) 0 0 (lines script)) = clean_second (names_lines [] 0 (lines names)) (script_lines all (given_names names) 0 0 (lines script)) ((accepted names script room n).0 fine).0 in

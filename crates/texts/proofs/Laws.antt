@@ -1,4 +1,5 @@
 -- From what the passes leave to what the calls promise. Assumes nothing.
+use Rattle.std.specs.Prelude.{Err, None, Ok, Option, Result, Some}
 use mathlib.Core.Path.{◌≡◌, refl, sym, ap, ◌∙◌}
 use mathlib.Core.Bool.{Bool, true, false}
 use mathlib.Core.List.{List, [], ◌++◌}
@@ -15,13 +16,9 @@ use Rattle.grammar.specs.Lines.{names_line}
 use Rattle.grammar.specs.Texts.{noted, room_flaw, judged_as, names_flaw, script_flaw, names_fault, labels_given, script_fault, script_words, last_line, nowhere, line, program, judged, texts_fault, fault_of, given_names, given_all, number}
 use denote.Ref.{Bor}
 use Rattle.grammar.specs.Promises.{Translates, IsLine, NamesLine}
-use Rattle.grammar.specs.declared.Flaw.{Flaw}
-use Rattle.grammar.specs.declared.Fault.{Fault}
-use Rattle.grammar.specs.declared.Judged.{Judged}
 use Rattle.grammar.specs.declared.Line.{Line}
 use Rattle.grammar.specs.declared.Refusal.{Refusal}
 use Rattle.grammar.specs.declared.Text.{Text}
-use Rattle.grammar.specs.declared.Translation.{Translation}
 use Rattle.tables.specs.Tables.{Table, table, entries, Chained, Headed, most}
 use Rattle.tables.proofs.Laws.{entries_resplit, chained_resplit, headed_resplit, entries_are_few}
 use Rattle.giving.specs.Passes.{NamesRead, LabelsRead, Labelled, script_judged}
@@ -31,32 +28,32 @@ use Rattle.texts.specs.Reads.{TextsRead, Within}
 
 -- the line of a fault stands in its text
 module _ (names script : List ℕ) where
-  abbrev FaultWithin : Fault → Type 0
-  FaultWithin Fault.Nothing = Unit {0}
-  FaultWithin (Fault.At r l) = Within names script l
+  abbrev FaultWithin : Option (Refusal × Line) → Type 0
+  FaultWithin None = Unit {0}
+  FaultWithin (Some (r, l)) = Within names script l
 
   either_within : (t : Bool) (r q : Refusal) (l k : Line) → Within names script l → Within names script k
-      → FaultWithin (elim t as (λ _. Fault) [ true ↦ Fault.At r l | false ↦ Fault.At q k ])
+      → FaultWithin (elim t as (λ _. Option (Refusal × Line)) [ true ↦ Some (r, l) | false ↦ Some (q, k) ])
   either_within true r q l k h g = h
   either_within false r q l k h g = g
 
-  noted_within : (f : Fault) (w : Flaw) (l : Line) → FaultWithin f → Within names script l → FaultWithin (noted f w l)
-  noted_within f Flaw.Nothing l h g = h
-  noted_within Fault.Nothing (Flaw.Is r) l h g = g
-  noted_within (Fault.At q k) (Flaw.Is r) l h g = either_within (ltb (number r) (number q)) r q l k g h
+  noted_within : (f : Option (Refusal × Line)) (w : Option Refusal) (l : Line) → FaultWithin f → Within names script l → FaultWithin (noted f w l)
+  noted_within f None l h g = h
+  noted_within None (Some r) l h g = g
+  noted_within (Some (q, k)) (Some r) l h g = either_within (ltb (number r) (number q)) r q l k g h
 
-  names_within : (at : ℕ) (es : List Entry) (f : Fault) → FaultWithin f → FaultWithin (names_fault es f at (lines (drop at names)))
+  names_within : (at : ℕ) (es : List Entry) (f : Option (Refusal × Line)) → FaultWithin f → FaultWithin (names_fault es f at (lines (drop at names)))
   unfolding names_fault
   names_within =
-      by_lines names (λ at. (es : List Entry) (f : Fault) → FaultWithin f → FaultWithin (names_fault es f at (lines (drop at names))))
+      by_lines names (λ at. (es : List Entry) (f : Option (Refusal × Line)) → FaultWithin f → FaultWithin (names_fault es f at (lines (drop at names))))
       (λ at h es f g. rw (no_lines names at h) g)
       (λ at h later es f g. rw (line_splits names at h) (later _ _ (noted_within f (names_flaw es (names_line es (tokens (first_line (drop at names))))) (line Text.Names at (first_line (drop at names))) g (line_inside names at (omega arith)))))
 
-  script_within : (at : ℕ) (all above : List Entry) (p : ℕ) (f : Fault) → FaultWithin f → FaultWithin (script_fault all above p f at (lines (drop at script)))
+  script_within : (at : ℕ) (all above : List Entry) (p : ℕ) (f : Option (Refusal × Line)) → FaultWithin f → FaultWithin (script_fault all above p f at (lines (drop at script)))
   unfolding script_fault
   script_within =
       by_lines script
-      (λ at. (all above : List Entry) (p : ℕ) (f : Fault) → FaultWithin f → FaultWithin (script_fault all above p f at (lines (drop at script))))
+      (λ at. (all above : List Entry) (p : ℕ) (f : Option (Refusal × Line)) → FaultWithin f → FaultWithin (script_fault all above p f at (lines (drop at script))))
       (λ at h all above p f g. rw (no_lines script at h) g)
       (λ at h later all above p f g. rw (line_splits script at h) (later _ _ _ _ (noted_within f (script_flaw all above (first_line (drop at script))) (line Text.Script at (first_line (drop at script))) g (line_inside script at (omega arith)))))
 
@@ -70,31 +67,31 @@ module _ (names script : List ℕ) where
   fault_within : (room : ℕ) → FaultWithin (fault_of names script room)
   fault_within room =
       noted_within (texts_fault names script) (room_flaw (length (program names script)) room) (last_line nowhere 0 (lines script))
-      (script_within 0 (given_all names script) (given_names names) 0 (names_fault [] Fault.Nothing 0 (lines names)) (names_within 0 [] Fault.Nothing tt))
+      (script_within 0 (given_all names script) (given_names names) 0 (names_fault [] None 0 (lines names)) (names_within 0 [] None tt))
       (last_within 0 nowhere (omega arith))
 
-  fault_is : (f : Fault) (c : ℕ) (r : Refusal) (l : Line) → judged_as f c ≡ Judged.Refused r l → f ≡ Fault.At r l
-  fault_is Fault.Nothing c r l e = absurd (let z : ◌≡◌ {A = ℕ} 0 1 = cc in omega arith)
-  fault_is (Fault.At q k) c r l e = cc
+  fault_is : (f : Option (Refusal × Line)) (c : ℕ) (r : Refusal) (l : Line) → judged_as f c ≡ Err (r, l) → f ≡ Some (r, l)
+  fault_is None c r l e = absurd (let z : ◌≡◌ {A = ℕ} 0 1 = cc in omega arith)
+  fault_is (Some (q, k)) c r l e = cc
 
   -- a refused line stands in its text
-  pub refused_within : (room : ℕ) (r : Refusal) (l : Line) → judged names script room ≡ Judged.Refused r l → Within names script l
+  pub refused_within : (room : ℕ) (r : Refusal) (l : Line) → judged names script room ≡ Err (r, l) → Within names script l
   unfolding judged
   refused_within room r l e = rw (fault_is (fault_of names script room) (length (program names script)) r l e) at (fault_within room)
 
 -- a text that is accepted fits its target
-count_if : (t : Bool) (f : Fault) (l : Line) (c words : ℕ)
-    → judged_as (noted f (elim t as (λ _. Flaw) [ true ↦ Flaw.Nothing | false ↦ Flaw.Is Refusal.NoRoom ]) l) c ≡ Judged.Fine words → (t ≡ true) × (c ≡ words)
-count_if true Fault.Nothing l c words e = (refl, cc)
-count_if true (Fault.At q k) l c words e = absurd (let z : ◌≡◌ {A = ℕ} 0 1 = cc in omega arith)
-count_if false Fault.Nothing l c words e = absurd (let z : ◌≡◌ {A = ℕ} 0 1 = cc in omega arith)
-count_if false (Fault.At q k) l c words e = absurd (never (ltb (number Refusal.NoRoom) (number q)) e)
+count_if : (t : Bool) (f : Option (Refusal × Line)) (l : Line) (c words : ℕ)
+    → judged_as (noted f (elim t as (λ _. Option Refusal) [ true ↦ None | false ↦ Some Refusal.NoRoom ]) l) c ≡ Ok words → (t ≡ true) × (c ≡ words)
+count_if true None l c words e = (refl, cc)
+count_if true (Some (q, k)) l c words e = absurd (let z : ◌≡◌ {A = ℕ} 0 1 = cc in omega arith)
+count_if false None l c words e = absurd (let z : ◌≡◌ {A = ℕ} 0 1 = cc in omega arith)
+count_if false (Some (q, k)) l c words e = absurd (never (ltb (number Refusal.NoRoom) (number q)) e)
   where
-    never : (t : Bool) → judged_as (elim t as (λ _. Fault) [ true ↦ Fault.At Refusal.NoRoom l | false ↦ Fault.At q k ]) c ≡ Judged.Fine words → ⊥
+    never : (t : Bool) → judged_as (elim t as (λ _. Option (Refusal × Line)) [ true ↦ Some (Refusal.NoRoom, l) | false ↦ Some (q, k) ]) c ≡ Ok words → ⊥
     never true z = let x : ◌≡◌ {A = ℕ} 0 1 = cc in omega arith
     never false z = let x : ◌≡◌ {A = ℕ} 0 1 = cc in omega arith
 
-pub fine_fits : (f : Fault) (l : Line) (c room words : ℕ) → judged_as (noted f (room_flaw c room) l) c ≡ Judged.Fine words → (c ≤ room) × (c ≡ words)
+pub fine_fits : (f : Option (Refusal × Line)) (l : Line) (c room words : ℕ) → judged_as (noted f (room_flaw c room) l) c ≡ Ok words → (c ≤ room) × (c ≡ words)
 fine_fits f l c room words e =
     let h = count_if (leb c room) f l c words e in
     (leb-true c room h.0, h.1)
@@ -105,7 +102,7 @@ unfolding written
 written_first target out vs e h = e ∙ sets-eq vs target 0 (omega arith) ∙ rw zero-add
 
 -- both texts, from the names and then the labels
-pub texts_read : (names script : List ℕ) (n r : ℕ) (f : Fault) (a b c d heads a' b' c' d' heads' : List ℕ)
+pub texts_read : (names script : List ℕ) (n r : ℕ) (f : Option (Refusal × Line)) (a b c d heads a' b' c' d' heads' : List ℕ)
     → NamesRead (table names script most a b c d) heads names n f
     → LabelsRead (table names script n a b c d) (table names script n a' b' c' d') n heads' script r
     → TextsRead (table names script n a' b' c' d') heads' n r f
@@ -123,13 +120,13 @@ texts_read names script n r f a b c d heads a' b' c' d' heads' x y =
     }
 
 -- what both texts come to
-pub texts_judged : (t : Table) (heads : List ℕ) (split filled : ℕ) (before : Fault) (room : ℕ) (r : Judged) → TextsRead t heads split filled before
+pub texts_judged : (t : Table) (heads : List ℕ) (split filled : ℕ) (before : Option (Refusal × Line)) (room : ℕ) (r : Result ℕ (Refusal × Line)) → TextsRead t heads split filled before
     → r ≡ script_judged t split filled t.script before room → r ≡ judged t.names t.script room
 unfolding judged program
 texts_judged t heads split filled before room r x e = e ∙ rw (x.all, x.named, x.faulty)
 
 -- what the labels' pass asks, from what the names' pass leaves
-module _ (names script : List ℕ) (n : ℕ) (f : Fault) (a b c d heads : List ℕ) (x : NamesRead (table names script most a b c d) heads names n f) where
+module _ (names script : List ℕ) (n : ℕ) (f : Option (Refusal × Line)) (a b c d heads : List ℕ) (x : NamesRead (table names script most a b c d) heads names n f) where
   few_names : n ≤ most
   few_names = entries_are_few (table names script most a b c d) n x.chained
 
@@ -140,7 +137,7 @@ module _ (names script : List ℕ) (n : ℕ) (f : Fault) (a b c d heads : List �
   names_headed = headed_resplit names script most n a b c d n few_names (omega arith) heads x.headed
 
 -- what the judging and storing passes ask, and what they leave
-module _ (t : Table) (heads : List ℕ) (split filled : ℕ) (before : Fault) (x : TextsRead t heads split filled before) where
+module _ (t : Table) (heads : List ℕ) (split filled : ℕ) (before : Option (Refusal × Line)) (x : TextsRead t heads split filled before) where
   pub labelled_by : Labelled t split filled t.script
   labelled_by = x.all ∙ ap (λ (es : List Entry). labels_given es 0 (lines t.script)) (sym x.named)
 
@@ -148,19 +145,19 @@ module _ (t : Table) (heads : List ℕ) (split filled : ℕ) (before : Fault) (x
   unfolding program
   program_is = rw x.all
 
-  module _ (target : List ℕ) (j : Judged) (e : j ≡ script_judged t split filled t.script before (length target)) where
-    pub words_fit : (words : ℕ) → j ≡ Judged.Fine words → length (script_words (entries t filled) (lines t.script)) ≤ length target
+  module _ (target : List ℕ) (j : Result ℕ (Refusal × Line)) (e : j ≡ script_judged t split filled t.script before (length target)) where
+    pub words_fit : (words : ℕ) → j ≡ Ok words → length (script_words (entries t filled) (lines t.script)) ≤ length target
     words_fit words h = (fine_fits _ _ _ (length target) words (sym e ∙ h)).0
 
-    pub refused_translates : (r : Refusal) (l : Line) → j ≡ Judged.Refused r l → Translates t.names t.script target (Translation.Refused r l.text) target
+    pub refused_translates : (r : Refusal) (l : Line) → j ≡ Err (r, l) → Translates t.names t.script target (Err (r, l.text)) target
     refused_translates r l h =
-        let k : judged t.names t.script (length target) ≡ Judged.Refused r l = sym (texts_judged t heads split filled before (length target) j x e) ∙ h in
+        let k : judged t.names t.script (length target) ≡ Err (r, l) = sym (texts_judged t heads split filled before (length target) j x e) ∙ h in
         record { answers = rw k; numbered = rw k; counted = rw k; told = rw k; left = rw k }
 
-    pub fine_translates : (words : ℕ) (after : List ℕ) → j ≡ Judged.Fine words → after ≡ written target 0 (script_words (entries t filled) (lines t.script))
-        → Translates t.names t.script target (Translation.Words words) after
+    pub fine_translates : (words : ℕ) (after : List ℕ) → j ≡ Ok words → after ≡ written target 0 (script_words (entries t filled) (lines t.script))
+        → Translates t.names t.script target (Ok words) after
     fine_translates words after h w =
-        let k : judged t.names t.script (length target) ≡ Judged.Fine words = sym (texts_judged t heads split filled before (length target) j x e) ∙ h in
+        let k : judged t.names t.script (length target) ≡ Ok words = sym (texts_judged t heads split filled before (length target) j x e) ∙ h in
         record {
           answers = rw k;
           numbered = rw k;
@@ -170,14 +167,14 @@ module _ (t : Table) (heads : List ℕ) (split filled : ℕ) (before : Fault) (x
         }
 
 -- the refused line, as the part that it is
-module _ (names script : Bor (List ℕ)) (room : ℕ) (j : Judged) (e : j ≡ judged names.now script.now room) where
-  pub line_within : (r : Refusal) (l : Line) → j ≡ Judged.Refused r l → Within names.now script.now l
+module _ (names script : Bor (List ℕ)) (room : ℕ) (j : Result ℕ (Refusal × Line)) (e : j ≡ judged names.now script.now room) where
+  pub line_within : (r : Refusal) (l : Line) → j ≡ Err (r, l) → Within names.now script.now l
   line_within r l h = refused_within names.now script.now room r l (sym e ∙ h)
 
-  pub line_named : (r : Refusal) (l : Line) (p : Bor (List ℕ)) → j ≡ Judged.Refused r l → IsLine names script l p → NamesLine names script room p
+  pub line_named : (r : Refusal) (l : Line) (p : Bor (List ℕ)) → j ≡ Err (r, l) → IsLine names script l p → NamesLine names script room p
   line_named r l p h k = record { named = rw (sym e ∙ h) k }
 
-  pub none_named : (n : ℕ) (p : Bor (List ℕ)) → j ≡ Judged.Fine n → p.now ≡ [] → p.ref_ptr.0 ≡ script.ref_ptr.0 → p.ref_ptr.1 ≡ script.ref_ptr.1 + 0 → NamesLine names script room p
+  pub none_named : (n : ℕ) (p : Bor (List ℕ)) → j ≡ Ok n → p.now ≡ [] → p.ref_ptr.0 ≡ script.ref_ptr.0 → p.ref_ptr.1 ≡ script.ref_ptr.1 + 0 → NamesLine names script room p
   none_named n p h k b o = record { named = rw (sym e ∙ h) (record { bytes = k; block = b; place = o }) }
 
 -- where a line ends

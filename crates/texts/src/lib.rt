@@ -7,7 +7,7 @@ ghost use Rattle.grammar.specs.Promises.{Translates, IsLine, NamesLine};
 ghost use Rattle.tables.specs.Tables.{table, Chained, Headed, most};
 ghost use Rattle.texts.specs.Reads.{TextsRead, Within};
 
-use grammar::{Fault, Judged, Line, Text, Translation};
+use grammar::{Fault, Line, Refusal, Text};
 use judging::judge_script;
 use naming::{read_labels, read_names};
 use storing::store_words;
@@ -18,7 +18,7 @@ use tables::{MOST_NAMES, NO_ENTRY};
 pub struct TextsPast {
     pub split: usize,
     pub filled: usize,
-    pub fault: Fault,
+    pub fault: Option<Fault>,
 }
 
 // Reads both texts into an empty table.
@@ -47,7 +47,7 @@ pub fn read_texts<'a>(
 }
 
 // Translates a script with a list of names into the target's first words; a refusal alters none.
-pub fn translate<'a>(names: &'a [u8], script: &'a [u8], target: &mut [u16]) -> Translation
+pub fn translate<'a>(names: &'a [u8], script: &'a [u8], target: &mut [u16]) -> Result<usize, (Refusal, Text)>
     ensures { Translates names.now script.now target.old result target.new }
 {
     let mut froms: [usize; MOST_NAMES] = [0; MOST_NAMES];
@@ -80,21 +80,21 @@ pub fn translate<'a>(names: &'a [u8], script: &'a [u8], target: &mut [u16]) -> T
         fault,
         target.len(),
     ) {
-        Judged::Refused(r, line) => {
+        Err((r, line)) => {
             let text = line.text;
-            Translation::Refused(r, text)
+            Err((r, text))
         }
-        Judged::Fine(words) => {
+        Ok(words) => {
             store_words(
                 names, script, split, filled, &froms, &counts, &values, &nexts, &heads, target,
             );
-            Translation::Words(words)
+            Ok(words)
         }
     }
 }
 
 // What two texts come to, for a target of so many words.
-pub fn judge<'a>(names: &'a [u8], script: &'a [u8], room: usize) -> Judged
+pub fn judge<'a>(names: &'a [u8], script: &'a [u8], room: usize) -> Result<usize, Fault>
     ensures { result ≡ judged names.now script.now room }
 {
     let mut froms: [usize; MOST_NAMES] = [0; MOST_NAMES];
@@ -138,7 +138,7 @@ pub fn refused_line<'a>(names: &'a [u8], script: &'a [u8], room: usize) -> &'a [
     ensures { NamesLine names.entry script.entry room result }
 {
     match judge(names, script, room) {
-        Judged::Fine(_) => &script[0..0],
-        Judged::Refused(_, line) => line_of(names, script, line),
+        Ok(_) => &script[0..0],
+        Err((_, line)) => line_of(names, script, line),
     }
 }

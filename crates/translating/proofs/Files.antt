@@ -1,4 +1,5 @@
 -- Laws of Files. Assumes nothing.
+use Rattle.std.specs.Prelude.{Err, Ok, Result}
 use mathlib.Core.Path.{◌≡◌, refl, sym, ◌∙◌}
 use mathlib.Core.List.{List}
 use Prim.Native.Nat.{ℕ, ◌+◌, ◌-◌, ◌≤◌}
@@ -7,11 +8,9 @@ use lib.ListN.{length, length-append}
 use Rattle.grammar.specs.Tokens.{lines}
 use Rattle.grammar.specs.Texts.{judged, answered, stored, texts_fault, last_line, nowhere, program, part_of}
 use Rattle.grammar.specs.Promises.{Translates}
-use Rattle.grammar.specs.declared.Judged.{Judged}
 use Rattle.grammar.specs.declared.Line.{Line}
 use Rattle.grammar.specs.declared.Refusal.{Refusal}
 use Rattle.grammar.specs.declared.Text.{Text}
-use Rattle.grammar.specs.declared.Translation.{Translation}
 use Rattle.tokens.specs.Shown.{part}
 use Rattle.texts.proofs.Laws.{fine_fits, refused_within}
 use Rattle.texts.specs.Reads.{Within}
@@ -44,18 +43,18 @@ module _ (names script : List ℕ) (l : Line) (q : Reason) where
   script_fits e h = rw there (rw e at h)
 
 -- the refused line lies in its text
-pub judged_within : (names script : List ℕ) (room : ℕ) (j : Judged) (r : Refusal) (l : Line) → j ≡ judged names script room → j ≡ Judged.Refused r l → Within names script l
+pub judged_within : (names script : List ℕ) (room : ℕ) (j : Result ℕ (Refusal × Line)) (r : Refusal) (l : Line) → j ≡ judged names script room → j ≡ Err (r, l) → Within names script l
 judged_within names script room j r l e k = refused_within names script room r l (sym e ∙ k)
 
 -- an accepted program lies in its target
 module _ (names script target after : List ℕ) (n : ℕ) where
-  fits_by : (j : Judged) → judged names script (length target) ≡ j → answered j ≡ Translation.Words n → after ≡ stored j (program names script) target → n ≤ length after
+  fits_by : (j : Result ℕ (Refusal × Line)) → judged names script (length target) ≡ j → answered j ≡ Ok n → after ≡ stored j (program names script) target → n ≤ length after
   unfolding judged
-  fits_by (Judged.Fine c) e k s =
+  fits_by (Ok c) e k s =
       let p = fine_fits (texts_fault names script) (last_line nowhere 0 (lines script)) (length (program names script)) (length target) c e in
       let q : c ≡ n = cc in
       rw (s, length-append) (omega (arith, p.1, q))
-  fits_by (Judged.Refused r l) e k s = let z : ◌≡◌ {A = ℕ} 0 1 = cc in absurd (omega arith)
+  fits_by (Err (r, l)) e k s = let z : ◌≡◌ {A = ℕ} 0 1 = cc in absurd (omega arith)
 
-  pub words_fit : (a : Translation) → Translates names script target a after → a ≡ Translation.Words n → n ≤ length after
+  pub words_fit : (a : Result ℕ (Refusal × Text)) → Translates names script target a after → a ≡ Ok n → n ≤ length after
   words_fit a t e = fits_by (judged names script (length target)) refl (sym t.answers ∙ e) t.left

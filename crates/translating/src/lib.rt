@@ -10,7 +10,7 @@ ghost use Rattle.translating.specs.Files.{Short};
 
 use disk::{Loaded, Outcome, blank_bytes, blank_words, load, save, say, say_number};
 use flaws::number_of;
-use grammar::{Judged, Line, Refusal, Text, Translation};
+use grammar::{Line, Refusal, Text};
 use outside::Reason;
 use reasons::{line_number, reason};
 use texts::{judge, translate};
@@ -119,7 +119,7 @@ fn refuse<'a>(
 ) -> Outcome
     requires { Short names.now script.now }
 {
-    if let Judged::Refused(r, line) = judge(names, script, TARGET_WORDS) {
+    if let Err((r, line)) = judge(names, script, TARGET_WORDS) {
         say_refused(rt, names_path, script_path, names, script, r, line);
     }
     Outcome::Refused
@@ -138,8 +138,8 @@ fn translate_texts<'a>(
 {
     let mut words = blank_words::<TARGET_WORDS>();
     match translate(names, script, &mut words) {
-        Translation::Refused(_, _) => refuse(rt, names_path, script_path, names, script),
-        Translation::Words(count) => save(rt, program_path, &words[..count]),
+        Err(_) => refuse(rt, names_path, script_path, names, script),
+        Ok(count) => save(rt, program_path, &words[..count]),
     }
 }
 

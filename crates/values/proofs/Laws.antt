@@ -1,4 +1,5 @@
 -- Laws of values: the range, differences, products and digits. Assumes nothing.
+use Rattle.std.specs.Prelude.{Err, Ok, Result}
 use mathlib.Core.Path.{◌≡◌, refl, ◌∙◌}
 use mathlib.Core.Bool.{Bool, true, false, ◌&&◌}
 use mathlib.Core.List.{List, [], ◌∷◌, ◌++◌}
@@ -12,22 +13,22 @@ use lib.ListN.{length, get_or, take}
 use lib.Seq.{take-suc, take_all}
 use Rattle.grammar.specs.Tokens.{digit}
 use Rattle.grammar.specs.Sums.{in_range, decimal, minus, end_of_range}
-use Rattle.grammar.specs.declared.Worked.{Worked}
+use Rattle.grammar.specs.declared.NoValue.{NoValue}
 
 -- a number below the end of the range is a value
-pub lies_within : (n : ℕ) → n < end_of_range → Worked.Is n ≡ in_range n
+pub lies_within : (n : ℕ) → n < end_of_range → Ok n ≡ in_range n
 lies_within n h = rw (in_range, lt-ltb n end_of_range h)
 
 -- a number from there on is none
-pub lies_beyond : (n : ℕ) → end_of_range ≤ n → Worked.Beyond ≡ in_range n
+pub lies_beyond : (n : ℕ) → end_of_range ≤ n → Err NoValue.Beyond ≡ in_range n
 lies_beyond n h = rw (in_range, le-ltb n end_of_range h)
 
 -- a difference that is not below 0 is a value
-pub difference_within : (x y : ℕ) → y ≤ x → Worked.Is (x - y) ≡ minus x y
+pub difference_within : (x y : ℕ) → y ≤ x → Ok (x - y) ≡ minus x y
 difference_within x y h = rw (minus, le-leb y x h)
 
 -- a difference below 0 is none
-pub difference_beyond : (x y : ℕ) → x < y → Worked.Beyond ≡ minus x y
+pub difference_beyond : (x y : ℕ) → x < y → Err NoValue.Beyond ≡ minus x y
 difference_beyond x y h = rw (minus, lt-leb y x h)
 
 -- the product of two words fits two words
@@ -72,5 +73,5 @@ module _ (ds : List ℕ) (k n : ℕ) (so_far : n ≡ min (decimal 0 (take k ds))
   one_more m h e = rw (add-one, take-suc ds k 0 h, last_digit) (omega arith)
 
   -- all digits are read
-  pub all_read : (w : Worked) → length ds ≤ k → w ≡ in_range n → w ≡ in_range (decimal 0 ds)
+  pub all_read : (w : Result ℕ NoValue) → length ds ≤ k → w ≡ in_range n → w ≡ in_range (decimal 0 ds)
   all_read w h e = e ∙ rw (so_far, take_all k ds h) (cut_alike (decimal 0 ds))

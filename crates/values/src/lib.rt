@@ -1,26 +1,26 @@
 // Values: numbers by their digits, and sums, differences and products in range.
 #![tactic(auto)]
 
-ghost use Rattle.std.specs.Prelude.{◌≡◌, ℕ, ◌+◌, ◌-◌, ◌*◌, ◌≤◌, min};
+ghost use Rattle.std.specs.Prelude.{◌≡◌, ℕ, ◌+◌, ◌-◌, ◌*◌, ◌≤◌, min, Result};
 ghost use Rattle.grammar.specs.Sums.{in_range, decimal, both, joins, end_of_range};
 ghost use Rattle.grammar.specs.Sums.{plus as plus_of, minus as minus_of, times as times_of};
-ghost use Rattle.grammar.specs.declared.Worked.{Worked};
+ghost use Rattle.grammar.specs.declared.NoValue.{NoValue};
 ghost use Rattle.tokens.specs.Shown.{Digits};
 ghost use Rattle.values.specs.Both.{worked};
 
-use grammar::{FIRST_DIGIT, RANGE_END, Sign, Worked};
+use grammar::{FIRST_DIGIT, NoValue, RANGE_END, Sign};
 
 // Numbers are written in base ten.
 const TEN: u32 = 10;
 
 // A number as a value.
-pub fn in_range(n: u32) -> Worked
+pub fn in_range(n: u32) -> Result<u16, NoValue>
     ensures { result ≡ in_range n }
 {
     if n < RANGE_END {
-        return Worked::Is(n as u16);
+        return Ok(n as u16);
     }
-    Worked::Beyond
+    Err(NoValue::Beyond)
 }
 
 // A number with one digit more, where all past the range are one.
@@ -36,7 +36,7 @@ fn more(n: u32, digit: u8) -> u32
 }
 
 // The value of some digits.
-pub fn number(digits: &[u8]) -> Worked
+pub fn number(digits: &[u8]) -> Result<u16, NoValue>
     requires { Digits digits.now }
     ensures { result ≡ in_range (decimal 0 digits.now) }
 {
@@ -53,24 +53,24 @@ pub fn number(digits: &[u8]) -> Worked
 #[derive(Clone, Copy)]
 enum Pair {
     Both(u16, u16),
-    NotBoth(Worked),
+    NotBoth(Result<u16, NoValue>),
 }
 
 // Two values as a pair: a missing name goes before a value out of range.
-fn paired(a: Worked, b: Worked) -> Pair
-    ensures { (f : ℕ → ℕ → Worked) → worked f result ≡ both f a b }
+fn paired(a: Result<u16, NoValue>, b: Result<u16, NoValue>) -> Pair
+    ensures { (f : ℕ → ℕ → Result ℕ NoValue) → worked f result ≡ both f a b }
 {
     match a {
-        Worked::Missing => Pair::NotBoth(Worked::Missing),
-        Worked::Is(x) => match b {
-            Worked::Is(y) => Pair::Both(x, y),
-            Worked::Missing => Pair::NotBoth(Worked::Missing),
-            Worked::Beyond => Pair::NotBoth(Worked::Beyond),
+        Err(NoValue::Missing) => Pair::NotBoth(Err(NoValue::Missing)),
+        Ok(x) => match b {
+            Ok(y) => Pair::Both(x, y),
+            Err(NoValue::Missing) => Pair::NotBoth(Err(NoValue::Missing)),
+            Err(NoValue::Beyond) => Pair::NotBoth(Err(NoValue::Beyond)),
         },
-        Worked::Beyond => match b {
-            Worked::Missing => Pair::NotBoth(Worked::Missing),
-            Worked::Is(_) => Pair::NotBoth(Worked::Beyond),
-            Worked::Beyond => Pair::NotBoth(Worked::Beyond),
+        Err(NoValue::Beyond) => match b {
+            Err(NoValue::Missing) => Pair::NotBoth(Err(NoValue::Missing)),
+            Ok(_) => Pair::NotBoth(Err(NoValue::Beyond)),
+            Err(NoValue::Beyond) => Pair::NotBoth(Err(NoValue::Beyond)),
         },
     }
 }
@@ -83,13 +83,13 @@ fn added(x: u16, y: u16) -> u32
 }
 
 // The difference of two words as a value.
-fn subtracted(x: u16, y: u16) -> Worked
+fn subtracted(x: u16, y: u16) -> Result<u16, NoValue>
     ensures { result ≡ minus_of x y }
 {
     if y <= x {
-        return Worked::Is(x - y);
+        return Ok(x - y);
     }
-    Worked::Beyond
+    Err(NoValue::Beyond)
 }
 
 // The product of two words.
@@ -100,7 +100,7 @@ fn multiplied(x: u16, y: u16) -> u32
 }
 
 // A sum of two values.
-fn plus(a: Worked, b: Worked) -> Worked
+fn plus(a: Result<u16, NoValue>, b: Result<u16, NoValue>) -> Result<u16, NoValue>
     ensures { result ≡ both plus_of a b }
 {
     match paired(a, b) {
@@ -110,7 +110,7 @@ fn plus(a: Worked, b: Worked) -> Worked
 }
 
 // A difference of two values.
-fn minus(a: Worked, b: Worked) -> Worked
+fn minus(a: Result<u16, NoValue>, b: Result<u16, NoValue>) -> Result<u16, NoValue>
     ensures { result ≡ both minus_of a b }
 {
     match paired(a, b) {
@@ -120,7 +120,7 @@ fn minus(a: Worked, b: Worked) -> Worked
 }
 
 // A product of two values.
-pub fn times(a: Worked, b: Worked) -> Worked
+pub fn times(a: Result<u16, NoValue>, b: Result<u16, NoValue>) -> Result<u16, NoValue>
     ensures { result ≡ both times_of a b }
 {
     match paired(a, b) {
@@ -130,7 +130,7 @@ pub fn times(a: Worked, b: Worked) -> Worked
 }
 
 // A product joined to the sum before it.
-pub fn joined(sign: Sign, a: Worked, b: Worked) -> Worked
+pub fn joined(sign: Sign, a: Result<u16, NoValue>, b: Result<u16, NoValue>) -> Result<u16, NoValue>
     ensures { result ≡ joins sign a b }
 {
     match sign {

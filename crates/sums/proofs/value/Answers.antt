@@ -2,8 +2,8 @@
 use Rattle.sums.proofs.Ways.{value_missing, value_found}
 use Rattle.sums.proofs.value.Goals as goal
 
-pub returns-in-Nothing : goal.returns-in-Nothing
-returns-in-Nothing c = value_missing _ _ _ c.look.ensures c.in-Nothing.is
+pub returns-in-None : goal.returns-in-None
+returns-in-None c = value_missing _ _ _ c.look.ensures c.in-None.is
 
-pub returns-in-Value : goal.returns-in-Value
-returns-in-Value c = value_found _ _ _ _ _ c.look.ensures c.in-Value.is c.in_range.ensures
+pub returns-in-Some : goal.returns-in-Some
+returns-in-Some c = value_found _ _ _ _ _ c.look.ensures c.in-Some.is c.in_range.ensures

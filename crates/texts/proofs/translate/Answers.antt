@@ -18,11 +18,11 @@ store_words-requires c =
     record {
       chained = past.chained;
       headed = past.headed;
-      script_in_bounds = words_fit _ _ _ _ _ past c.args.target.now _ c.judge_script.ensures _ c.in-Fine.is;
+      script_in_bounds = words_fit _ _ _ _ _ past c.args.target.now _ c.judge_script.ensures _ c.in-Ok.is;
     }
 
-pub returns-in-Refused : goal.returns-in-Refused
-returns-in-Refused c = refused_translates _ _ _ _ _ c.read_texts-past.ensures _ _ c.judge_script.ensures _ _ c.in-Refused.is
+pub returns-in-Err : goal.returns-in-Err
+returns-in-Err c = refused_translates _ _ _ _ _ c.read_texts-past.ensures _ _ c.judge_script.ensures _ _ c.in-Err.is
 
-pub returns-in-Fine : goal.returns-in-Fine
-returns-in-Fine c = fine_translates _ _ _ _ _ c.read_texts-past.ensures _ _ c.judge_script.ensures _ _ c.in-Fine.is c.store_words.ensures
+pub returns-in-Ok : goal.returns-in-Ok
+returns-in-Ok c = fine_translates _ _ _ _ _ c.read_texts-past.ensures _ _ c.judge_script.ensures _ _ c.in-Ok.is c.store_words.ensures

@@ -2,5 +2,5 @@
 use Rattle.kernel_c.proofs.PromisedOfTexts.{no_words, refusal_number, refusal_text}
 use Rattle.kernel_c.proofs.scripts.tell_translation.Goals as goal
 
-pub returns-in-Refused : goal.returns-in-Refused
-returns-in-Refused c = record { words_value = search no_words; number_value = search refusal_number; text_value = search refusal_text }
+pub returns-in-Err : goal.returns-in-Err
+returns-in-Err c = record { words_value = search no_words; number_value = search refusal_number; text_value = search refusal_text }
