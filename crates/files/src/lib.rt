@@ -8,7 +8,7 @@ ghost use Rattle.writes.specs.Written.{written};
 ghost use Rattle.files.specs.PlanFiles.{OddAfter, enough, Decides};
 ghost use Rattle.files.specs.PlanFiles.{ReadsPlan};
 
-use paper::{BYTE_END, Refusal, WORD_BYTES};
+use paper::{Refusal, WORD_BYTES};
 use plans::verdict;
 
 // The words that are read of a plan's file: more than any has that is accepted.
@@ -16,7 +16,7 @@ pub const PLAN_WORDS: usize = 32806;
 
 pub const PLAN_BYTES: usize = WORD_BYTES * PLAN_WORDS;
 
-// What a plan's file comes to: how many words were read, and the verdict.
+// What a plan's file comes to: how many words were read, which tell of a refused one why, and the verdict.
 #[derive(Clone, Copy)]
 pub struct PlanRead {
     pub words: usize,
@@ -27,7 +27,7 @@ pub struct PlanRead {
 pub fn word(low: u8, high: u8) -> u16
     ensures { result ≡ word_by low high }
 {
-    low as u16 + BYTE_END * (high as u16)
+    u16::from_le_bytes([low, high])
 }
 
 // Writes the whole words of some bytes, and answers how many there are.
@@ -36,14 +36,12 @@ pub fn put_words(bytes: &[u8], words: &mut [u16]) -> usize
     ensures value { result ≡ length (words_of bytes.now) }
     ensures words_after { words.new ≡ written words.old 0 (words_of bytes.now) }
 {
-    let mut k: usize = 0;
-    let mut at: usize = 0;
-    while bytes.len() - at >= WORD_BYTES {
-        words[k] = word(bytes[at], bytes[at + 1]);
-        k += 1;
-        at += WORD_BYTES;
+    let mut count: usize = 0;
+    for pair in bytes.chunks_exact(WORD_BYTES) {
+        words[count] = word(pair[0], pair[1]);
+        count += 1;
     }
-    k
+    count
 }
 
 // Whether a count of bytes is odd with so many more, where it was odd before or not.
@@ -78,6 +76,6 @@ pub fn read_plan(buffer: &[u8], found: usize, odd: bool, words: &mut [u16]) -> P
     let verdict = file_verdict(bytes, &words[..count], odd);
     PlanRead {
         words: count,
-        verdict: verdict,
+        verdict,
     }
 }
