@@ -1,10 +1,10 @@
 // Pieces of lines.
-use disk::{Output, put_number, put_text};
+use disk::{Output, put_shown, put_text};
 
 // A number after its name.
 pub fn put_named(out: Output, name: &[u8], n: usize) -> Output {
     let named = put_text(out, name);
-    put_number(named, n)
+    put_shown(named, n)
 }
 
 // A line of a number after its name.

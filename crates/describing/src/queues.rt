@@ -1,6 +1,6 @@
 // What the queues of an image hold, in words.
 use crate::lines::put_gap;
-use disk::{Output, put_number, put_text};
+use disk::{Output, put_shown, put_text};
 use paper::MOST_CAPACITY;
 use views::{INPUT_BUFFER, OUTPUT_BUFFER, WordView, queue_word};
 
@@ -14,7 +14,7 @@ const MOST_HELD: u16 = MOST_CAPACITY as u16;
 
 // A character: its number, and itself in quotes where it can be printed.
 pub fn put_character(out: Output, character: u16) -> Output {
-    let numbered = put_number(out, character as usize);
+    let numbered = put_shown(out, character);
     if character < FIRST_PRINTABLE {
         return numbered;
     }
@@ -29,7 +29,7 @@ pub fn put_character(out: Output, character: u16) -> Output {
 fn put_word(out: Output, q: u16, word: u16) -> Output {
     match q {
         INPUT_BUFFER | OUTPUT_BUFFER => put_character(out, word),
-        _ => put_number(out, word as usize),
+        _ => put_shown(out, word),
     }
 }
 

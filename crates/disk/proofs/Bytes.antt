@@ -1,6 +1,6 @@
 -- Laws of Bytes. Assumes nothing.
-use mathlib.Core.Path.{◌≡◌, refl, sym}
-use mathlib.Core.Bool.{Bool, true, false, true≢false}
+use mathlib.Core.Path.{◌≡◌, refl, sym, ap, ◌∙◌}
+use mathlib.Core.Bool.{true}
 use mathlib.Core.List.{List, [], ◌∷◌, ◌++◌, append_assoc}
 use Prim.Native.Nat.{ℕ, suc, ◌+◌, ◌*◌, ◌/◌, ◌%◌, ◌<◌, ◌≤◌}
 use native.Mathlib.Numerals.{add-one}
@@ -11,9 +11,9 @@ use lib.Seq.{take-suc, take-suc-set, take_all, length-take-le}
 use Rattle.paper.specs.Runner.{words_of}
 use Rattle.writes.specs.Written.{written, kept_length}
 use Rattle.files.specs.Bytes.{words_length}
-use Rattle.disk.specs.declared.Loaded.{Loaded}
-use Rattle.disk.specs.declared.Start.{Start}
-use Rattle.disk.specs.declared.Words.{Words}
+use Rattle.std.specs.Prelude.{Option, Some, None}
+use Rattle.std.specs.Int.{to_le_bytes, w16}
+use Rattle.disk.specs.declared.reading.Start.{Start}
 use Rattle.disk.specs.Bytes.{Loads, Starts, LoadsWords, bytes_of, chunk, chunk_bytes}
 
 bytes_more : (ws : List ℕ) (w : ℕ) → bytes_of (ws ++ (w ∷ [])) ≡ bytes_of ws ++ (w % 256 ∷ (w / 256 ∷ []))
@@ -58,34 +58,39 @@ put_more words b k p h m =
           );
     }
 
+-- the two bytes of a word are put as they are made
+pub put_pair : (words b two : List ℕ) (k : ℕ) → Put words b k → k < length words → length words ≤ chunk → get_or words k 0 < 65536
+    → two ≡ to_le_bytes w16 (get_or words k 0) → Put words (set (set b (2 * k) (get_or two 0 0)) (2 * k + 1) (get_or two 1 0)) (k + 1)
+put_pair words b two k p h m small e =
+    let w = get_or words k 0 in
+    let low : get_or two 0 0 ≡ w % 256 = ap (λ t. get_or t 0 0) e in
+    let small-high : w / 256 % 256 ≡ w / 256 = omega (arith, small) in
+    let high : get_or two 1 0 ≡ w / 256 = ap (λ t. get_or t 1 0) e ∙ small-high in
+    rw (low, high) (put_more words b k p h m)
+
 pub put_all : (words b : List ℕ) (k : ℕ) → Put words b k → length words ≤ k → take (2 * length words) b ≡ bytes_of words
 put_all words b k p h =
     let e : k ≡ length words = omega (arith, p.upto) in
     rw (take_all k words h, e) at p.made
 
-pub loaded_end : (b : List ℕ) (r : Loaded) (n : ℕ) → r ≡ Loaded.Bytes n → Loads b r → n ≤ length b
-loaded_end b r n e h = (rw e at h).0
+-- a file that was read ends in its buffer
+module _ (b : List ℕ) (r : Option ℕ) (n : ℕ) (e : r ≡ Some n) (h : Loads b r) where
+  pub loaded_end : n ≤ length b
+  loaded_end = (rw e at h).0
 
-pub loaded_count : (b : List ℕ) (r : Loaded) (n : ℕ) → r ≡ Loaded.Bytes n → Loads b r → n ≡ length (take n b)
-loaded_count b r n e h = (rw e at h).1
+  pub loaded_count : n ≡ length (take n b)
+  loaded_count = (rw e at h).1
 
 -- so does the start of a file
-module _ (b : List ℕ) (r : Start) (n : ℕ) (odd : Bool) (e : r ≡ Start.Bytes n odd) (h : Starts b r) where
-  pub started_end : n ≤ length b
+module _ (b : List ℕ) (r : Option Start) (s : Start) (e : r ≡ Some s) (h : Starts b r) where
+  pub started_end : s.bytes ≤ length b
   started_end = (rw e at h).0
 
-  pub started_count : n ≡ length (take n b)
+  pub started_count : s.bytes ≡ length (take s.bytes b)
   started_count = (rw e at h).1.0
 
-  pub started_full : odd ≡ true → length b ≤ n
+  pub started_full : s.odd ≡ true → length b ≤ s.bytes
   started_full = (rw e at h).1.1
-
--- the start of a file lies in its buffer, and nothing follows that is not full
-pub starts_short : (b : List ℕ) (n : ℕ) → n ≤ length b → n ≡ length (take n b) → Starts b (Start.Bytes n false)
-starts_short b n h e = (h, (e, λ t. absurd (true≢false (sym t))))
-
-pub starts_full : (b : List ℕ) (n : ℕ) (odd : Bool) → n ≤ length b → n ≡ length (take n b) → length b ≤ n → Starts b (Start.Bytes n odd)
-starts_full b n odd h e full = (h, (e, λ _. full))
 
 -- what was put lies in its target
 pub counted : (b : List ℕ) (n : ℕ) → n ≤ length b → (n ≤ length b) × (n ≡ length (take n b))
@@ -97,7 +102,7 @@ part_short n b m e = rw (length-take, e) (min-le_right n m)
 
 -- the words of a file lie in their target
 pub words_loaded : (bytes words out : List ℕ) (n : ℕ) → length bytes < 2 * length words + 2 → n ≡ length (words_of bytes)
-    → out ≡ written words 0 (words_of bytes) → LoadsWords (length bytes) out (Words.Count n)
+    → out ≡ written words 0 (words_of bytes) → LoadsWords (length bytes) out (Some n)
 words_loaded bytes words out n room e w =
     let two = words_length bytes in
     let in-target : n ≤ length out = omega (arith, kept_length words out 0 (words_of bytes) w) in
@@ -108,12 +113,12 @@ module _ (buffer b : List ℕ) (found : ℕ) (kept : length b ≡ length buffer)
   pub words_room : (words : List ℕ) → length buffer < 2 * length words + 2 → length (take found b) < 2 * length words + 2
   words_room words room = omega (arith, part_short found b (length buffer) kept)
 
-  pub words_in_buffer : (out : List ℕ) (r : Words) → LoadsWords (length (take found b)) out r → LoadsWords (length buffer) out r
-  words_in_buffer out (Words.Count n) h = (omega (arith, h.0, part_short found b (length buffer) kept), h.1)
-  words_in_buffer out Words.Nothing h = tt
+  pub words_in_buffer : (out : List ℕ) (r : Option ℕ) → LoadsWords (length (take found b)) out r → LoadsWords (length buffer) out r
+  words_in_buffer out (Some n) h = (omega (arith, h.0, part_short found b (length buffer) kept), h.1)
+  words_in_buffer out None h = tt
 
 -- the words that were read
-module _ (most : ℕ) (target : List ℕ) (r : Words) (n : ℕ) (e : r ≡ Words.Count n) (h : LoadsWords most target r) where
+module _ (most : ℕ) (target : List ℕ) (r : Option ℕ) (n : ℕ) (e : r ≡ Some n) (h : LoadsWords most target r) where
   pub words_few : 2 * n ≤ most
   words_few = (rw e at h).0
 

@@ -1,8 +1,6 @@
 -- The bytes of words, the low byte first. Assumes nothing.
-use Rattle.std.specs.Prelude.{◌≡◌, true, List, [], ◌∷◌, ℕ, ◌*◌, ◌/◌, ◌%◌, ◌≤◌, length, take}
-use Rattle.disk.specs.declared.Loaded.{Loaded}
-use Rattle.disk.specs.declared.Start.{Start}
-use Rattle.disk.specs.declared.Words.{Words}
+use Rattle.std.specs.Prelude.{◌≡◌, true, List, [], ◌∷◌, Option, Some, None, ℕ, ◌*◌, ◌/◌, ◌%◌, ◌≤◌, length, take}
+use Rattle.disk.specs.declared.reading.Start.{Start}
 
 -- the words that are written at a time
 abbrev pub chunk : ℕ
@@ -20,16 +18,16 @@ bytes_of [] = []
 bytes_of (w ∷ ws) = w % 256 ∷ (w / 256 ∷ bytes_of ws)
 
 -- a file that was read lies in its buffer
-abbrev pub Loads : List ℕ → Loaded → Type 0
-Loads b (Loaded.Bytes n) = (n ≤ length b) × (n ≡ length (take n b))
-Loads b Loaded.Nothing = Unit {0}
+abbrev pub Loads : List ℕ → Option ℕ → Type 0
+Loads b (Some n) = (n ≤ length b) × (n ≡ length (take n b))
+Loads b None = Unit {0}
 
 -- the start of a file lies in its buffer; nothing follows where the buffer is not full
-abbrev pub Starts : List ℕ → Start → Type 0
-Starts b (Start.Bytes n odd) = (n ≤ length b) × ((n ≡ length (take n b)) × (odd ≡ true → length b ≤ n))
-Starts b Start.Nothing = Unit {0}
+abbrev pub Starts : List ℕ → Option Start → Type 0
+Starts b (Some s) = (s.bytes ≤ length b) × ((s.bytes ≡ length (take s.bytes b)) × (s.odd ≡ true → length b ≤ s.bytes))
+Starts b None = Unit {0}
 
 -- the words of a file of at most so many bytes lie at the start of their target
-abbrev pub LoadsWords : ℕ → List ℕ → Words → Type 0
-LoadsWords most target (Words.Count n) = (2 * n ≤ most) × ((n ≤ length target) × (n ≡ length (take n target)))
-LoadsWords most target Words.Nothing = Unit {0}
+abbrev pub LoadsWords : ℕ → List ℕ → Option ℕ → Type 0
+LoadsWords most target (Some n) = (2 * n ≤ most) × ((n ≤ length target) × (n ≡ length (take n target)))
+LoadsWords most target None = Unit {0}

@@ -2,7 +2,7 @@
 ghost use Rattle.std.specs.Prelude.{◌≡◌, ◌≤◌, length, take};
 ghost use Rattle.disk.specs.Bytes.{Loads};
 
-use crate::{Loaded, fail};
+use crate::fail;
 use std::env::FillError;
 use std::io::Error;
 use std::rt::Env;
@@ -26,13 +26,10 @@ pub fn arg_count(rt: &HostRuntime) -> usize {
 
 // Puts an argument at the start of a buffer; one that is missing or longer than the buffer could not be had. Of one that is
 // longer the first bytes are put.
-pub fn arg(rt: &HostRuntime, k: usize, buffer: &mut [u8]) -> Loaded
+pub fn arg(rt: &HostRuntime, k: usize, buffer: &mut [u8]) -> Option<usize>
     ensures { Loads buffer.new result }
 {
-    match rt.arg(k, buffer) {
-        Ok(end) => Loaded::Bytes(end),
-        Err(_) => Loaded::Nothing,
-    }
+    rt.arg(k, buffer).ok()
 }
 
 // Says that an argument is longer than any path, of which the first bytes are given.
@@ -45,8 +42,5 @@ pub fn say_long_arg(rt: &HostRuntime, first: &[u8]) {
 pub fn short_arg(rt: &HostRuntime, k: usize, buffer: &mut [u8]) -> usize
     ensures { (result ≤ length buffer.new) × (result ≡ length (take result buffer.new)) }
 {
-    match arg(rt, k, buffer) {
-        Loaded::Bytes(end) => end,
-        Loaded::Nothing => 0,
-    }
+    arg(rt, k, buffer).unwrap_or(0)
 }

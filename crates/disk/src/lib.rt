@@ -8,13 +8,14 @@ mod reading;
 mod saving;
 
 pub use arguments::{ARG_BYTES, arg, arg_count, say_long_arg, short_arg};
-pub use blanks::{blank_bytes, blank_words};
+pub use blanks::blank;
 pub use reading::{
-    IMAGE_BYTES, IMAGE_WORDS, fail_missing, load, load_image, load_start, load_words, open_source,
+    IMAGE_BYTES, IMAGE_WORDS, Start, load, load_image, load_start, load_words, open_source,
     read_full,
 };
 pub use saving::{save, save_at};
-use std::fs::{File, OpenOptions};
+use std::fmt::Display;
+use std::fs::OpenOptions;
 use std::io;
 use std::io::{Error, Write};
 use std::rt::{Stderr, Stdout};
@@ -28,36 +29,6 @@ pub enum Outcome {
     Unwritten,
 }
 
-// A file or an argument that was read: its count of bytes, or that it could not be had whole.
-#[derive(Clone, Copy)]
-pub enum Loaded {
-    Bytes(usize),
-    Nothing,
-}
-
-// The start of a file that was read to its end: its count of bytes, and whether an odd count of bytes follows; or that the file
-// could not be had.
-#[derive(Clone, Copy)]
-pub enum Start {
-    Bytes(usize, bool),
-    Nothing,
-}
-
-// The words of a file that was read: their count, or that they could not be had.
-#[derive(Clone, Copy)]
-pub enum Words {
-    Count(usize),
-    Nothing,
-}
-
-// A file to read: open, or missing, or not to be had.
-#[derive(Drop)]
-pub enum Source {
-    File(File),
-    Missing,
-    Nothing,
-}
-
 // Where a text goes: what a program makes to standard output, what it says to standard error.
 #[derive(Clone, Copy)]
 pub enum Stream {
@@ -65,14 +36,8 @@ pub enum Stream {
     Said(Stderr),
 }
 
-// A stream that is written piece by piece, and whether all pieces so far are written; where one is not, the system's number of
-// the error that kept it.
-#[derive(Clone, Copy)]
-pub struct Output {
-    pub file: Stream,
-    pub whole: bool,
-    pub error: i32,
-}
+// A stream that is written piece by piece, or the error that kept one of the pieces so far from being written.
+pub type Output = io::Result<Stream>;
 
 // Where a program tells what became of its run, if that is open.
 const OUTCOME_PATH: &str = "/dev/fd/3";
@@ -106,20 +71,20 @@ fn say_error(rt: &HostRuntime, error: Error) {
     }
 }
 
-// Tells what became of a run by one word on a descriptor of its own: a program has no exit status.
-pub fn tell(rt: &HostRuntime, outcome: Outcome) {
+// The word of an outcome.
+fn word_of(outcome: Outcome) -> &'static [u8] {
     match outcome {
-        Outcome::Done => tell_word(rt, b"done\n"),
-        Outcome::Refused => tell_word(rt, b"refused\n"),
-        Outcome::Unread => tell_word(rt, b"unread\n"),
-        Outcome::Unwritten => tell_word(rt, b"unwritten\n"),
+        Outcome::Done => b"done\n",
+        Outcome::Refused => b"refused\n",
+        Outcome::Unread => b"unread\n",
+        Outcome::Unwritten => b"unwritten\n",
     }
 }
 
-// Writes the word of an outcome.
-fn tell_word(rt: &HostRuntime, word: &[u8]) {
+// Tells what became of a run by one word on a descriptor of its own: a program has no exit status.
+pub fn tell(rt: &HostRuntime, outcome: Outcome) {
     if let Ok(mut file) = OpenOptions::new().append(true).open(rt, OUTCOME_PATH) {
-        let _ = file.write_all(word);
+        let _ = file.write_all(word_of(outcome));
     }
 }
 
@@ -131,64 +96,41 @@ pub fn misused(rt: &HostRuntime) -> Outcome {
 
 // Standard output, to be written piece by piece.
 pub fn standard_output(rt: &HostRuntime) -> Output {
-    Output {
-        file: Stream::Made(rt.stdout()),
-        whole: true,
-        error: 0,
-    }
+    Ok(Stream::Made(rt.stdout()))
 }
 
 // Standard error, to be written piece by piece.
 pub fn standard_error(rt: &HostRuntime) -> Output {
-    Output {
-        file: Stream::Said(rt.stderr()),
-        whole: true,
-        error: 0,
-    }
+    Ok(Stream::Said(rt.stderr()))
 }
 
 // Writes a text to a stream, if all before it is written.
 pub fn put_text(out: Output, text: &[u8]) -> Output {
-    if !out.whole {
-        return out;
+    let stream = out?;
+    match stream {
+        Stream::Made(made) => made.write_all(text)?,
+        Stream::Said(said) => said.write_all(text)?,
     }
-    let written = match out.file {
-        Stream::Made(stream) => stream.write_all(text),
-        Stream::Said(stream) => stream.write_all(text),
-    };
-    after(out, written)
+    Ok(stream)
 }
 
-// Writes a number to a stream, if all before it is written.
-pub fn put_number(out: Output, n: usize) -> Output {
-    if !out.whole {
-        return out;
+// Writes a value as it is displayed to a stream, if all before it is written.
+pub fn put_shown<D: Display + Drop>(out: Output, value: D) -> Output {
+    let stream = out?;
+    match stream {
+        Stream::Made(made) => made.print(value)?,
+        Stream::Said(said) => said.print(value)?,
     }
-    let written = match out.file {
-        Stream::Made(stream) => stream.print(n),
-        Stream::Said(stream) => stream.print(n),
-    };
-    after(out, written)
-}
-
-// A stream after a piece that is written, or is not.
-fn after(out: Output, written: io::Result<()>) -> Output {
-    match written {
-        Ok(()) => out,
-        Err(error) => Output {
-            file: out.file,
-            whole: false,
-            error: error.raw_os_error().unwrap_or(0),
-        },
-    }
+    Ok(stream)
 }
 
 // What became of a run that wrote to standard output; where that failed, it is said.
 pub fn ended(rt: &HostRuntime, out: Output) -> Outcome {
-    if out.whole {
-        return Outcome::Done;
+    match out {
+        Ok(_) => Outcome::Done,
+        Err(error) => {
+            fail(rt, b"standard output", error);
+            Outcome::Unwritten
+        }
     }
-    let error = Error::from_raw_os_error(out.error);
-    fail(rt, b"standard output", error);
-    Outcome::Unwritten
 }

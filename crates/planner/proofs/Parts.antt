@@ -6,7 +6,7 @@ use native.Mathlib.Omega.{arith}
 use lib.ListN.{length, take}
 use lib.Seq.{length-take-le}
 use Rattle.disk.specs.Bytes.{LoadsWords}
-use Rattle.disk.specs.declared.Words.{Words}
+use Rattle.std.specs.Prelude.{Option, Some}
 use Rattle.disk.proofs.Bytes.{words_few}
 use Rattle.joining.specs.Texts.{Begins}
 use Rattle.joining.proofs.Texts.{rest_begins}
@@ -34,7 +34,7 @@ pub name_begins : (b : List ℕ) (n from : ℕ) (length-asked : ℕ) (r : Task) 
 name_begins b n from length-asked r h e k = omega (arith, rest_begins (take n b) r length-asked from e h)
 
 -- the words of a program's file
-pub few_words : (most : ℕ) (target : List ℕ) (r : Words) (n : ℕ) → r ≡ Words.Count n → LoadsWords most target r → most ≡ 65430 → n ≤ most_program
+pub few_words : (most : ℕ) (target : List ℕ) (r : Option ℕ) (n : ℕ) → r ≡ Some n → LoadsWords most target r → most ≡ 65430 → n ≤ most_program
 few_words most target r n e h l = omega (arith, words_few most target r n e h)
 
 -- a whole plan lies in its buffer

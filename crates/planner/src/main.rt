@@ -7,13 +7,13 @@ ghost use Rattle.planner.specs.Parts.{leading, pair, most_tasks, most_program, m
 
 use causes::plan_cause;
 use disk::{
-    ARG_BYTES, Outcome, Words, arg_count, blank_bytes, blank_words, load_words, misused, put_text,
-    save, say, short_arg, standard_error, tell,
+    ARG_BYTES, Outcome, arg_count, blank, load_words, misused, put_shown, put_text, save, say,
+    short_arg, standard_error, tell,
 };
 use joining::{Asked, Task, read_task, read_word};
 use paper::{LEADING_WORDS, MOST_TASKS, PAIR_WORDS, Refusal};
 use plans::size;
-use saying::{put_plan_cause, put_refused};
+use saying::put_refused;
 
 // The arguments before the tasks, the program's own name among them.
 const LEADING_ARGUMENTS: usize = 6;
@@ -78,8 +78,8 @@ fn put_program(rt: &HostRuntime, path: &[u8], plan: &mut [u16], at: usize) -> Jo
     requires { at + most_program ≤ length plan.old }
     ensures { Ends at most_program result }
 {
-    let mut bytes = blank_bytes::<PROGRAM_BYTES>();
-    let Words::Count(count) = load_words(rt, path, &mut bytes, &mut plan[at..]) else {
+    let mut bytes = blank::<u8, PROGRAM_BYTES>(0);
+    let Some(count) = load_words(rt, path, &mut bytes, &mut plan[at..]) else {
         return Joined::Nothing;
     };
     Joined::End(at + count)
@@ -129,8 +129,8 @@ fn put_tasks(rt: &HostRuntime, n: usize, plan: &mut [u16]) -> Joined
 fn refuse(rt: &HostRuntime, path: &[u8], plan: &[u16], r: Refusal) -> Outcome {
     let named = put_text(standard_error(rt), path);
     let numbered = put_refused(named, u16::from(r));
-    let told = put_plan_cause(numbered, plan_cause(plan));
-    put_text(told, b"\n");
+    let told = put_shown(numbered, plan_cause(plan));
+    let _ = put_text(told, b"\n");
     Outcome::Refused
 }
 
@@ -148,7 +148,7 @@ fn write_plan(rt: &HostRuntime, plan: &[u16]) -> Outcome {
 fn join(rt: &HostRuntime, n: usize) -> Outcome
     requires { n ≤ most_tasks }
 {
-    let mut plan = blank_words::<PLAN_WORDS>();
+    let mut plan = blank::<u16, PLAN_WORDS>(0);
     if !put_leading(rt, n, &mut plan) {
         return Outcome::Unread;
     }

@@ -6,8 +6,8 @@ ghost use Rattle.std.specs.Prelude.{◌≡◌, ◌+◌, ◌*◌, ◌<◌, ◌≤
 ghost use Rattle.laws.specs.Sound.{Sound};
 
 use disk::{
-    ARG_BYTES, Outcome, Output, Words, arg_count, blank_bytes, blank_words, ended, load_words,
-    misused, put_text, say, short_arg, standard_error, standard_output, tell,
+    ARG_BYTES, Outcome, Output, arg_count, blank, ended, load_words, misused, put_text, say,
+    short_arg, standard_error, standard_output, tell,
 };
 use flaws::number_of;
 use inspect::inspect;
@@ -38,13 +38,13 @@ const FILE_WORDS: usize = 262144;
 
 // Prints a program's words.
 fn print_words(rt: &HostRuntime, path: &[u8], words: &[u16]) -> Outcome {
-    let mut text = blank_bytes::<TEXT_BYTES>();
+    let mut text = blank::<u8, TEXT_BYTES>(0);
     match print(words, &mut text) {
         Ok(bytes) => ended(rt, put_text(standard_output(rt), &text[..bytes])),
         Err(r) => {
             let named = put_text(standard_error(rt), path);
             let numbered = put_refused(named, number_of(r));
-            put_text(numbered, b"more than 32715 words\n");
+            let _ = put_text(numbered, b"more than 32715 words\n");
             Outcome::Refused
         }
     }
@@ -114,7 +114,7 @@ fn print_file(rt: &HostRuntime, path_at: usize, buffer: &mut [u8], words: &mut [
 {
     let mut path = [0u8; ARG_BYTES];
     let end = short_arg(rt, path_at, &mut path);
-    let Words::Count(count) = load_words(rt, &path[..end], buffer, words) else {
+    let Some(count) = load_words(rt, &path[..end], buffer, words) else {
         return Outcome::Unread;
     };
     print_loaded(rt, path_at, &path[..end], &words[..count])
@@ -122,8 +122,8 @@ fn print_file(rt: &HostRuntime, path_at: usize, buffer: &mut [u8], words: &mut [
 
 // Prints as the arguments say.
 fn run(rt: &HostRuntime) -> Outcome {
-    let mut buffer = blank_bytes::<FILE_BYTES>();
-    let mut words = blank_words::<FILE_WORDS>();
+    let mut buffer = blank::<u8, FILE_BYTES>(0);
+    let mut words = blank::<u16, FILE_WORDS>(0);
     match arg_count(rt) {
         PROGRAM_ARGUMENTS => print_file(rt, PROGRAM_AT, &mut buffer, &mut words),
         IMAGE_ARGUMENTS | TASK_ARGUMENTS => print_file(rt, IMAGE_AT, &mut buffer, &mut words),

@@ -5,7 +5,7 @@ mod buffers;
 mod prints;
 mod translating;
 
-use disk::{blank_bytes, blank_words};
+use disk::blank;
 use prints::print_answer;
 use std::io::{self, Read};
 use translating::translate_answer;
@@ -89,9 +89,9 @@ fn replay_path(rt: &HostRuntime, path: &str, name: &str, numbers: &[u16]) -> io:
     let Some(mut source) = open_records(rt, path)? else {
         return Ok(());
     };
-    let mut names = blank_bytes::<NAMES_END>();
-    let mut text = blank_bytes::<TEXT_BYTES>();
-    let mut words = blank_words::<MOST_WORDS>();
+    let mut names = blank::<u8, NAMES_END>(0);
+    let mut text = blank::<u8, TEXT_BYTES>(0);
+    let mut words = blank::<u16, MOST_WORDS>(0);
     let tally = replay_file(&mut source, &mut names, &mut text, &mut words);
     print_tally(rt, name, numbers, tally)
 }

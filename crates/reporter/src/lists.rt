@@ -2,7 +2,7 @@
 ghost use Rattle.std.specs.Prelude.{◌≡◌, ◌+◌, ◌*◌, ◌<◌, ◌≤◌, length, take};
 
 use causes::{EventCause, event_cause};
-use disk::{Outcome, Source, fail, fail_missing, open_source, read_full};
+use disk::{Outcome, fail, open_source, read_full};
 use files::put_words;
 use kernel::report;
 use paper::{COUNTS, EVENT_WORDS, Refusal};
@@ -159,11 +159,10 @@ pub fn count_list(
     counts: &mut [u32; COUNTS],
 ) -> Outcome {
     match open_source(rt, path) {
-        Source::File(mut file) => count_open(rt, path, &mut file, im, tasks, counts),
-        Source::Missing => {
-            fail_missing(rt, path);
+        Ok(mut file) => count_open(rt, path, &mut file, im, tasks, counts),
+        Err(error) => {
+            fail(rt, path, error);
             Outcome::Unread
         }
-        Source::Nothing => Outcome::Unread,
     }
 }

@@ -11,8 +11,8 @@ ghost use Rattle.files.specs.PlanFiles.{enough};
 ghost use Rattle.disk.specs.Bytes.{Starts};
 
 use disk::{
-    ARG_BYTES, Loaded, Outcome, Source, Start, arg, arg_count, fail_missing, load_start, misused,
-    open_source, say_long_arg, tell,
+    ARG_BYTES, Outcome, Start, arg, arg_count, fail, load_start, misused, open_source,
+    say_long_arg, tell,
 };
 use files::{PLAN_BYTES, PLAN_WORDS, is_odd, read_plan};
 use kernel::build;
@@ -56,7 +56,7 @@ fn count_argument(
     counts: &mut [u32; COUNTS],
 ) -> Outcome {
     let mut path = [0u8; ARG_BYTES];
-    let Loaded::Bytes(end) = arg(rt, k, &mut path) else {
+    let Some(end) = arg(rt, k, &mut path) else {
         return too_long(rt, &path);
     };
     count_list(rt, &path[..end], im, tasks, counts)
@@ -79,7 +79,7 @@ fn count_lists(
 // Saves the chart where a path is given for it, and answers what became of all.
 fn chart_counted(rt: &HostRuntime, all: Outcome, counts: &[u32; COUNTS], tasks: usize) -> Outcome {
     let mut path = [0u8; ARG_BYTES];
-    let Loaded::Bytes(end) = arg(rt, CHART_AT, &mut path) else {
+    let Some(end) = arg(rt, CHART_AT, &mut path) else {
         return too_long(rt, &path);
     };
     if end == 0 {
@@ -122,16 +122,15 @@ fn refuse_plan(rt: &HostRuntime, path: &[u8], plan: &[u16], odd: bool, r: Refusa
 }
 
 // Reads a plan's file to its end; where it cannot, that is said.
-fn load_plan(rt: &HostRuntime, path: &[u8], buffer: &mut [u8]) -> Start
+fn load_plan(rt: &HostRuntime, path: &[u8], buffer: &mut [u8]) -> Option<Start>
     ensures { Starts buffer.new result }
 {
     match open_source(rt, path) {
-        Source::File(mut file) => load_start(rt, path, &mut file, buffer),
-        Source::Missing => {
-            fail_missing(rt, path);
-            Start::Nothing
+        Ok(mut file) => load_start(rt, path, &mut file, buffer),
+        Err(error) => {
+            fail(rt, path, error);
+            None
         }
-        Source::Nothing => Start::Nothing,
     }
 }
 
@@ -153,10 +152,10 @@ fn report_loaded(rt: &HostRuntime, path: &[u8], buffer: &[u8], found: usize, odd
 // Reports on the plan of a file.
 fn report_file(rt: &HostRuntime, path: &[u8]) -> Outcome {
     let mut buffer = [0u8; PLAN_BYTES];
-    let Start::Bytes(found, odd) = load_plan(rt, path, &mut buffer) else {
+    let Some(Start { bytes, odd }) = load_plan(rt, path, &mut buffer) else {
         return Outcome::Unread;
     };
-    report_loaded(rt, path, &buffer, found, odd)
+    report_loaded(rt, path, &buffer, bytes, odd)
 }
 
 // Reports as the arguments say.
@@ -165,7 +164,7 @@ fn run(rt: &HostRuntime) -> Outcome {
         return misused(rt);
     }
     let mut path = [0u8; ARG_BYTES];
-    let Loaded::Bytes(end) = arg(rt, PLAN_AT, &mut path) else {
+    let Some(end) = arg(rt, PLAN_AT, &mut path) else {
         return too_long(rt, &path);
     };
     report_file(rt, &path[..end])

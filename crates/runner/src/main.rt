@@ -2,7 +2,7 @@
 // events, the image to start from in place of the plan, and the file to save the image in, empty where not asked for.
 #![tactic(auto)]
 
-use disk::{ARG_BYTES, Loaded, Outcome, arg, arg_count, misused, say_long_arg, tell};
+use disk::{ARG_BYTES, Outcome, arg, arg_count, misused, say_long_arg, tell};
 use runner_files::run_files;
 
 // How many arguments there are where none is given, and where all are, the program's own name among them.
@@ -28,19 +28,19 @@ fn too_long(rt: &HostRuntime, path: &[u8]) -> Outcome {
 // Runs as the arguments say.
 fn run_given(rt: &HostRuntime) -> Outcome {
     let mut plan = [0u8; ARG_BYTES];
-    let Loaded::Bytes(plan_end) = arg(rt, PLAN_AT, &mut plan) else {
+    let Some(plan_end) = arg(rt, PLAN_AT, &mut plan) else {
         return too_long(rt, &plan);
     };
     let mut events = [0u8; ARG_BYTES];
-    let Loaded::Bytes(events_end) = arg(rt, EVENTS_AT, &mut events) else {
+    let Some(events_end) = arg(rt, EVENTS_AT, &mut events) else {
         return too_long(rt, &events);
     };
     let mut image = [0u8; ARG_BYTES];
-    let Loaded::Bytes(image_end) = arg(rt, IMAGE_AT, &mut image) else {
+    let Some(image_end) = arg(rt, IMAGE_AT, &mut image) else {
         return too_long(rt, &image);
     };
     let mut saved = [0u8; ARG_BYTES];
-    let Loaded::Bytes(saved_end) = arg(rt, SAVED_AT, &mut saved) else {
+    let Some(saved_end) = arg(rt, SAVED_AT, &mut saved) else {
         return too_long(rt, &saved);
     };
     run_files(

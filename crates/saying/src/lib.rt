@@ -5,8 +5,7 @@
 mod rules;
 
 use causes::{EventCause, PlanCause, plan_cause};
-use disk::{Output, put_number, put_text, standard_error};
-use numbers::number_of;
+use disk::{Output, put_shown, put_text, standard_error};
 use paper::{
     ASK_INPUT, BAD_ORDER, BAD_SERVICE, NO_ERROR, NO_SUCH_TASK, NOTHING_PENDING, OUTSIDE, READY,
     RECEIVE, Refusal, SEND, WAITS_FOR_INPUT, WAITS_FOR_OUTPUT, WAITS_TO_RECEIVE, WAITS_TO_SEND,
@@ -14,107 +13,70 @@ use paper::{
 };
 use rules::put_fault;
 
+// The words for a refusal; a refusal is of the kernel, which has no texts.
+fn refusal_words(r: Refusal) -> &'static str {
+    match r {
+        Refusal::TooShort => "image under 18 words",
+        Refusal::NotMarked => "mark or edition wrong",
+        Refusal::OutOfRange => "the number of tasks, the slice or a capacity out of range",
+        Refusal::NotPacked => "an offset is not the packed one",
+        Refusal::WrongSegments => {
+            "a segment or the total is wrong, or the image has another length"
+        }
+        Refusal::RuleBroken => "another rule of the image is broken",
+        Refusal::MalformedEvent => "event malformed, or a list not a multiple of three words",
+        Refusal::InputFull => "input for a full input buffer",
+        Refusal::PortIdle => "output done on an idle port",
+        Refusal::BadPlan => "the plan is malformed, or its image has more than 32768 words",
+        Refusal::WrongTarget => {
+            "the target has another length than the plan's image, or not 97 counts"
+        }
+        Refusal::CountFull => "a count of ticks is at its end",
+    }
+}
+
 // Why an image, an event or a plan is refused.
 pub fn put_refusal(out: Output, r: Refusal) -> Output {
-    match r {
-        Refusal::TooShort => put_text(out, b"image under 18 words"),
-        Refusal::NotMarked => put_text(out, b"mark or edition wrong"),
-        Refusal::OutOfRange => put_text(
-            out,
-            b"the number of tasks, the slice or a capacity out of range",
-        ),
-        Refusal::NotPacked => put_text(out, b"an offset is not the packed one"),
-        Refusal::WrongSegments => put_text(
-            out,
-            b"a segment or the total is wrong, or the image has another length",
-        ),
-        Refusal::RuleBroken => put_text(out, b"another rule of the image is broken"),
-        Refusal::MalformedEvent => put_text(
-            out,
-            b"event malformed, or a list not a multiple of three words",
-        ),
-        Refusal::InputFull => put_text(out, b"input for a full input buffer"),
-        Refusal::PortIdle => put_text(out, b"output done on an idle port"),
-        Refusal::BadPlan => put_text(
-            out,
-            b"the plan is malformed, or its image has more than 32768 words",
-        ),
-        Refusal::WrongTarget => put_text(
-            out,
-            b"the target has another length than the plan's image, or not 97 counts",
-        ),
-        Refusal::CountFull => put_text(out, b"a count of ticks is at its end"),
-    }
+    put_shown(out, refusal_words(r))
 }
 
-// What is wrong with a task of a plan.
-fn put_task_cause(out: Output, k: usize, text: &[u8]) -> Output {
-    let named = put_number(put_text(out, b"task "), k);
-    put_text(named, text)
-}
-
-// Why a plan is refused.
-pub fn put_plan_cause(out: Output, cause: PlanCause) -> Output {
-    match cause {
-        PlanCause::OddBytes => put_text(out, b"an odd count of bytes"),
-        PlanCause::FewWords => put_text(out, b"under 5 words"),
-        PlanCause::Tasks => put_text(out, b"the number of tasks is not 1..16"),
-        PlanCause::Slice => put_text(out, b"the slice is not 1..65535"),
-        PlanCause::Inputs => put_text(out, b"CI is not 1..32"),
-        PlanCause::Outputs => put_text(out, b"CO is not 1..32"),
-        PlanCause::Messages => put_text(out, b"CM is not 1..32"),
-        PlanCause::FewPairs => put_text(out, b"a pair is missing"),
-        PlanCause::EmptySegment(k) => put_task_cause(out, k, b" has a segment of no words"),
-        PlanCause::LongProgram(k) => put_task_cause(
-            out,
-            k,
-            b" has a program that is longer than its segment",
-        ),
-        PlanCause::FewPrograms => put_text(out, b"words of a program are missing"),
-        PlanCause::WordsLeft => put_text(out, b"words are left over after the programs"),
-        PlanCause::TooManyWords => put_text(out, b"the image has more than 32768 words"),
-    }
-}
-
-// Why an event is malformed.
-pub fn put_event_cause(out: Output, cause: EventCause) -> Output {
-    match cause {
-        EventCause::Short => put_text(out, b"the file ends within the event"),
-        EventCause::Kind => put_text(out, b"a kind over 2"),
-        EventCause::NoBareTick => put_text(out, b"a tick with a device or a character"),
-        EventCause::Device => put_text(out, b"no such device"),
-        EventCause::Character => put_text(out, b"a character over 255"),
-        EventCause::DoneCharacter => put_text(out, b"output done with a character"),
+// The words for an error, which an image holds as a number.
+fn error_words(error: u16) -> &'static str {
+    match error {
+        OUTSIDE => "address outside the segment",
+        BAD_ORDER => "unknown op or bad field",
+        BAD_SERVICE => "unknown service",
+        ZERO_DIVISOR => "zero divisor",
+        NO_SUCH_TASK => "no such task",
+        _ => "output of more than 255",
     }
 }
 
 // What an error is.
 pub fn put_error(out: Output, error: u16) -> Output {
-    match error {
-        OUTSIDE => put_text(out, b"address outside the segment"),
-        BAD_ORDER => put_text(out, b"unknown op or bad field"),
-        BAD_SERVICE => put_text(out, b"unknown service"),
-        ZERO_DIVISOR => put_text(out, b"zero divisor"),
-        NO_SUCH_TASK => put_text(out, b"no such task"),
-        _ => put_text(out, b"output of more than 255"),
+    put_shown(out, error_words(error))
+}
+
+// The words for a service, which an image holds as a number.
+fn service_words(service: u16) -> &'static str {
+    match service {
+        NOTHING_PENDING => "nothing",
+        SEND => "send",
+        RECEIVE => "receive",
+        ASK_INPUT => "input",
+        _ => "output",
     }
 }
 
 // Which service is pending.
 pub fn put_service(out: Output, service: u16) -> Output {
-    match service {
-        NOTHING_PENDING => put_text(out, b"nothing"),
-        SEND => put_text(out, b"send"),
-        RECEIVE => put_text(out, b"receive"),
-        ASK_INPUT => put_text(out, b"input"),
-        _ => put_text(out, b"output"),
-    }
+    put_shown(out, service_words(service))
 }
 
 // What an error has done or will do, its number and what it is.
 fn put_stop(out: Output, text: &[u8], error: u16) -> Output {
     let said = put_text(out, text);
-    let numbered = put_number(said, error as usize);
+    let numbered = put_shown(said, error);
     let opened = put_text(numbered, b" (");
     let meant = put_error(opened, error);
     put_text(meant, b")")
@@ -131,7 +93,7 @@ fn put_ready(out: Output, error: u16) -> Output {
 // What a task waits for, and the other task.
 fn put_wait(out: Output, text: &[u8], peer: u16) -> Output {
     let said = put_text(out, text);
-    put_number(said, peer as usize)
+    put_shown(said, peer)
 }
 
 // The status of a task.
@@ -149,16 +111,16 @@ pub fn put_status(out: Output, status: u16, peer: u16, error: u16) -> Output {
 // A refusal's number, after what is refused and before why.
 pub fn put_refused(out: Output, number: u16) -> Output {
     let said = put_text(out, b": refused ");
-    let numbered = put_number(said, number as usize);
+    let numbered = put_shown(said, number);
     put_text(numbered, b": ")
 }
 
 // Says on standard error that the image of a file is refused, and why.
 pub fn say_refused_image(rt: &HostRuntime, path: &[u8], im: &[u16], r: Refusal) {
     let named = put_text(standard_error(rt), path);
-    let numbered = put_refused(named, number_of(r));
+    let numbered = put_refused(named, u16::from(r));
     let told = put_fault(numbered, im);
-    put_text(told, b"\n");
+    let _ = put_text(told, b"\n");
 }
 
 // Why a plan's file is refused, of which the first words are given, and whether it has an odd count of bytes.
@@ -172,19 +134,19 @@ fn file_cause(plan: &[u16], odd: bool) -> PlanCause {
 // Says on standard error that the plan of a file is refused, and why.
 pub fn say_refused_plan(rt: &HostRuntime, path: &[u8], plan: &[u16], odd: bool, r: Refusal) {
     let named = put_text(standard_error(rt), path);
-    let numbered = put_refused(named, number_of(r));
-    let told = put_plan_cause(numbered, file_cause(plan, odd));
-    put_text(told, b"\n");
+    let numbered = put_refused(named, u16::from(r));
+    let told = put_shown(numbered, file_cause(plan, odd));
+    let _ = put_text(told, b"\n");
 }
 
 // Says on standard error that the event of a number is refused, and why; the cause is that of a malformed one.
 pub fn say_refused_event(rt: &HostRuntime, path: &[u8], n: u64, r: Refusal, cause: EventCause) {
     let named = put_text(standard_error(rt), path);
-    let counted = put_number(put_text(named, b": event "), n as usize);
-    let numbered = put_refused(counted, number_of(r));
+    let counted = put_shown(put_text(named, b": event "), n);
+    let numbered = put_refused(counted, u16::from(r));
     let told = match r {
-        Refusal::MalformedEvent => put_event_cause(numbered, cause),
+        Refusal::MalformedEvent => put_shown(numbered, cause),
         _ => put_refusal(numbered, r),
     };
-    put_text(told, b"\n");
+    let _ = put_text(told, b"\n");
 }

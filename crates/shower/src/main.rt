@@ -3,8 +3,8 @@
 
 use describing::describe;
 use disk::{
-    ARG_BYTES, IMAGE_BYTES, IMAGE_WORDS, Outcome, Words, arg_count, ended, load_image, misused,
-    short_arg, standard_output, tell,
+    ARG_BYTES, IMAGE_BYTES, IMAGE_WORDS, Outcome, arg_count, ended, load_image, misused, short_arg,
+    standard_output, tell,
 };
 use inspect::inspect;
 use saying::say_refused_image;
@@ -31,7 +31,7 @@ fn show_file(rt: &HostRuntime) -> Outcome {
     let end = short_arg(rt, IMAGE_AT, &mut path);
     let mut buffer = [0u8; IMAGE_BYTES];
     let mut words = [0u16; IMAGE_WORDS];
-    let Words::Count(count) = load_image(rt, &path[..end], &mut buffer, &mut words) else {
+    let Some(count) = load_image(rt, &path[..end], &mut buffer, &mut words) else {
         return Outcome::Unread;
     };
     show_image(rt, &path[..end], &words[..count])

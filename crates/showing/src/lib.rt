@@ -8,7 +8,7 @@ ghost use Rattle.grammar.specs.Printing.{printed, most_printed};
 ghost use Rattle.laws.specs.Sound.{Sound};
 ghost use Rattle.showing.specs.Zeros.{text_bytes};
 
-use disk::{Output, blank_bytes, put_number, put_text};
+use disk::{Output, blank, put_shown, put_text};
 use paper::{BASE, FLAGS, LENGTH, NEXT_ORDER, Shape, Task};
 use printing::print;
 use results::error_of;
@@ -22,7 +22,7 @@ pub const TEXT_BYTES: usize = 523440;
 // Where R0 stands, in a segment of so many words.
 fn put_next_order(out: Output, address: u16, length: u16) -> Output {
     let said = put_text(out, b", R0 = ");
-    let stood = put_number(said, address as usize);
+    let stood = put_shown(said, address);
     if address < length {
         return stood;
     }
@@ -41,7 +41,7 @@ fn put_task(out: Output, s: Shape, im: &[u16], t: Task) -> Output
     let address = own(s, im, row, NEXT_ORDER);
     let length = entry(s, im, t, LENGTH);
     let begun = put_text(out, b"; task ");
-    let named = put_number(begun, t.0 as usize);
+    let named = put_shown(begun, t.0);
     let parted = put_text(named, b": ");
     let stood = put_status(parted, status, peer, error);
     let pointed = put_next_order(stood, address, length);
@@ -54,7 +54,7 @@ fn put_left_out(out: Output, lines: usize) -> Output {
         return out;
     }
     let said = put_text(out, b"; lines 0 left out: ");
-    let counted = put_number(said, lines);
+    let counted = put_shown(said, lines);
     put_text(counted, b"\n")
 }
 
@@ -74,7 +74,7 @@ fn print_segment(words: &[u16], text: &mut [u8; TEXT_BYTES]) -> usize
 fn put_segment(out: Output, words: &[u16]) -> Output
     requires { length words.now ≤ most_printed }
 {
-    let mut text = blank_bytes::<TEXT_BYTES>();
+    let mut text = blank::<u8, TEXT_BYTES>(0);
     let bytes = print_segment(words, &mut text);
     let lines = zero_lines(&text[..bytes]);
     let told = put_text(out, &text[..bytes - ZERO_LINE * lines]);

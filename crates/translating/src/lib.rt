@@ -8,7 +8,7 @@ ghost use Rattle.outside.specs.Reasons.{Lies, Fits};
 ghost use Rattle.reasons.specs.UsedNames.{most_text};
 ghost use Rattle.translating.specs.Files.{Short};
 
-use disk::{Loaded, Outcome, blank_bytes, blank_words, load, save, say, say_number};
+use disk::{Outcome, blank, load, save, say, say_number};
 use flaws::number_of;
 use grammar::{Line, Refusal, Text};
 use outside::Reason;
@@ -136,7 +136,7 @@ fn translate_texts<'a>(
 ) -> Outcome
     requires { Short names.now script.now }
 {
-    let mut words = blank_words::<TARGET_WORDS>();
+    let mut words = blank::<u16, TARGET_WORDS>(0);
     match translate(names, script, &mut words) {
         Err(_) => refuse(rt, names_path, script_path, names, script),
         Ok(count) => save(rt, program_path, &words[..count]),
@@ -150,12 +150,12 @@ pub fn translate_files(
     script_path: &[u8],
     program_path: &[u8],
 ) -> Outcome {
-    let mut names = blank_bytes::<TEXT_BYTES>();
-    let mut script = blank_bytes::<TEXT_BYTES>();
-    let Loaded::Bytes(names_end) = load(rt, names_path, &mut names) else {
+    let mut names = blank::<u8, TEXT_BYTES>(0);
+    let mut script = blank::<u8, TEXT_BYTES>(0);
+    let Some(names_end) = load(rt, names_path, &mut names) else {
         return Outcome::Unread;
     };
-    let Loaded::Bytes(script_end) = load(rt, script_path, &mut script) else {
+    let Some(script_end) = load(rt, script_path, &mut script) else {
         return Outcome::Unread;
     };
     translate_texts(

@@ -1,12 +1,13 @@
--- The place in the words rises with each chunk.
+-- The buffer keeps its length.
 use mathlib.Core.Path.{◌≡◌}
-use Prim.Native.Nat.{◌-◌, ◌≤◌}
 use lib.ListN.{length}
-use Rattle.disk.specs.Bytes.{chunk_bytes}
+use Rattle.std.specs.Slice.Iter.{chunks_size}
+use Rattle.disk.specs.Bytes.{chunk, chunk_bytes}
 use Rattle.disk.proofs.saving.write_words.Given as goal
 
-abbrev pub invariant-loop-at : goal.invariant-loop-at
-invariant-loop-at g l = (l.at ≤ length l.words) × (length l.bytes ≡ chunk_bytes)
-
-abbrev pub decreases-loop-at : goal.decreases-loop-at
-decreases-loop-at g l = length l.words - l.at
+abbrev pub invariant-loop-chunk : goal.invariant-loop-chunk
+invariant-loop-chunk g l =
+    (goal.iterator-loop-chunk g).can_next l.chunk-iterator
+    × (goal.iterator-loop-chunk g).is_finite l.chunk-iterator
+    × (chunks_size l.chunk-iterator ≡ chunk)
+    × (length l.bytes ≡ chunk_bytes)
