@@ -1,35 +1,25 @@
--- What is left of a text from a place on, and its first line, byte by byte. Assumes nothing.
-use mathlib.Core.Path.{◌≡◌, sym}
-use mathlib.Core.List.{List, []}
-use Prim.Native.Nat.{ℕ, suc, ◌+◌, ◌-◌, ◌<◌, ◌≤◌}
-use native.Mathlib.Omega.{arith}
-use borrow.Author.Tests.{eq-eqb, ne_eqb}
-use lib.ListN.{length, get_or, take, drop, length-drop, drop_of_length-le}
-use lib.Seq.{take_all, drop-cons}
+-- How far the first line of a text goes. Assumes nothing.
+use Rattle.std.proofs.Common.{◌≡◌, ℕ, ◌+◌, ◌≤◌, Bool, true, false, cond, List, [], ◌∷◌, length, refl, sym, ◌∙◌, ⊎_elim, arith, ltb, lt-ltb, le-ltb, eqb}
+use Rattle.std.specs.Prelude.{◌==◌, position, Some, None}
+use Rattle.std.specs.Option.{unwrap_or}
+use Rattle.std.specs.List.{position_or_len}
+use Rattle.std.proofs.lemmas.List.Recursion.{is_position_or_len}
+use Rattle.std.proofs.lemmas.List.Sums.{prefix_len-le-length}
+use Rattle.std.proofs.str.Laws.{order}
 use Rattle.grammar.specs.Tokens.{first_line, line_end}
 
--- a byte that does not end the line is one more of it
-pub line_on : (text : List ℕ) (k : ℕ) → k < length text → (get_or text k 0 ≡ line_end → ⊥)
-    → length (first_line (drop k text)) ≡ 1 + length (first_line (drop (k + 1) text))
+-- the first line goes up to the first byte that ends a line, or to the text's end
+line_count : (text : List ℕ) → length (first_line text) ≡ position_or_len (λ b. b == line_end) text
 unfolding first_line
-line_on text k h n =
-    let e : k + 1 ≡ suc k = omega arith in
-    rw (e, drop-cons text k 0 h, ne_eqb (get_or text k 0) line_end n, first_line) (omega arith)
+line_count text = is_position_or_len (λ t. length (first_line t)) (λ b. b == line_end) refl (λ b t. go (eqb b line_end) b t) text
+  where
+    go : (c : Bool) (b : ℕ) (t : List ℕ) → length (elim c as (λ _. List ℕ) [ true ↦ [] | false ↦ b ∷ first_line t ]) ≡ cond c 0 (1 + length (first_line t))
+    go true b t = refl
+    go false b t = omega arith
 
--- the byte that ends it is none of it
-pub line_ends : (text : List ℕ) (k : ℕ) → k < length text → get_or text k 0 ≡ line_end → length (first_line (drop k text)) ≡ 0
-unfolding first_line
-line_ends text k h n = rw (drop-cons text k 0 h, eq-eqb (get_or text k 0) line_end n, first_line)
+-- a place that is found or else the end
+found_or_end : (n m : ℕ) → n ≤ m → unwrap_or (cond (ltb n m) (Some n) None) m ≡ n
+found_or_end n m h = ⊎_elim (λ g. rw (lt-ltb n m g)) (λ g. rw (le-ltb n m g) (omega arith)) (order n m)
 
--- past the text there is none
-pub line_over : (text : List ℕ) (k : ℕ) → length text ≤ k → length (first_line (drop k text)) ≡ 0
-unfolding first_line
-line_over text k h = rw (drop_of_length-le text h)
-
--- a text from a place on goes to the text's end
-pub rest_whole : (text : List ℕ) (at : ℕ) → take (length text - at) (drop at text) ≡ drop at text
-rest_whole text at = take_all (length text - at) (drop at text) (simp length-drop (omega arith))
-
--- past it there is nothing
-pub rest_none : (text : List ℕ) (at : ℕ) → length text ≤ at → [] ≡ drop at text
-rest_none text at h = sym (drop_of_length-le text h)
+pub line_position : (text : List ℕ) → unwrap_or (position (λ b. b == line_end) text) (length text) ≡ length (first_line text)
+line_position text = found_or_end _ _ (prefix_len-le-length _ text) ∙ sym (line_count text)

@@ -1,7 +1,7 @@
 // The reader of a text: it holds the text and its place in it.
 #![tactic(auto)]
 
-ghost use Rattle.std.specs.Prelude.{◌≡◌, length, drop};
+ghost use Rattle.std.specs.Prelude.{◌≡◌, ◌==◌, length, drop, position};
 ghost use Rattle.grammar.specs.Tokens.{first_line};
 
 use grammar::LINE_END;
@@ -17,26 +17,21 @@ pub struct Reader<'a> {
 pub fn rest(text: &[u8], at: usize) -> &[u8]
     ensures { result.now ≡ drop at text.now }
 {
-    if at < text.len() {
-        &text[at..]
-    } else {
-        &text[0..0]
-    }
+    &text[at.min(text.len())..]
+}
+
+// The place of the first byte that ends a line.
+fn line_end(text: &[u8]) -> Option<usize>
+    ensures { result ≡ position (λ b. b == 10) text.now }
+{
+    text.iter().position(|b| *b == LINE_END)
 }
 
 // How many bytes the first line of a text has.
-#[tactic(auto, using(crate::proofs::Lines::line_on, crate::proofs::Lines::line_ends, crate::proofs::Lines::line_over))]
 pub fn first_count(text: &[u8]) -> usize
     ensures { result ≡ length (first_line text.now) }
 {
-    let mut k: usize = 0;
-    while k < text.len() {
-        if text[k] == LINE_END {
-            return k;
-        }
-        k += 1;
-    }
-    k
+    line_end(text).unwrap_or(text.len())
 }
 
 // The reader of a text, at a place.
