@@ -1,48 +1,30 @@
 -- A word of letters is told by its number, and what a word is by the rows that it can be. Assumes nothing.
-use mathlib.Core.Bool.{Bool, true, false, ◌&&◌, ◌||◌, and-eq-true_iff, true≢false, false≢true}
+use mathlib.Core.Bool.{Bool, true, false, ◌&&◌, and-eq-true_iff, true≢false, false≢true}
 use mathlib.Core.List.{List, [], ◌∷◌, ◌++◌}
 use mathlib.Core.Path.{◌≡◌, refl, sym, ap, ap₂, ◌∙◌}
 use Prim.Native.Nat.{ℕ, zero, suc, ◌+◌, ◌-◌, ◌*◌, ◌^◌, ◌<◌, ◌≤◌}
 use native.Mathlib.Omega.{arith}
 use native.Mathlib.Nat.{pow-suc, pow-le-pow_right}
-use borrow.Author.Tests.{eq-eqb, ne_eqb, eqb-true, leb-true, le-leb, lt-leb}
+use borrow.Author.Tests.{eq-eqb, ne_eqb, eqb-true, leb-true, lt-leb}
 use lib.Dec.{eqb, leb}
 use lib.ListN.{length, get_or, take, drop, length-drop}
 use lib.Seq.{drop-cons, drop-length}
-use mir.Val.{has_key}
-use types.Run.{OneOf, hit}
 use Rattle.grammar.specs.Tokens.{letter, bytes, same}
 use Rattle.grammar.specs.Kept.{Row, kept_words, kept_in, kept_as}
 use Rattle.grammar.specs.declared.Kept.{Kept}
 use Rattle.kept.specs.Keys.{most_letters, counted, base, key, kept_under, registers, kept_by, register_letter, first_register, last_register, names_register}
 
 -- a letter counts its place in the alphabet
-letter_counts : (b : ℕ) → letter b ≡ true → (counted b ≡ b - 96) × (97 ≤ b) × (b ≤ 122)
+pub letter_counts : (b : ℕ) → letter b ≡ true → (counted b ≡ b - 96) × (97 ≤ b) × (b ≤ 122)
 unfolding counted
 letter_counts b e =
     let h = (and-eq-true_iff (leb 97 b) (leb b 122)).0 e in
     (rw (e, counted), leb-true 97 b h.0, leb-true b 122 h.1)
 
 -- any other byte counts 27
-other_counts : (b : ℕ) → letter b ≡ false → counted b ≡ 27
+pub other_counts : (b : ℕ) → letter b ≡ false → counted b ≡ 27
 unfolding counted
 other_counts b e = rw (e, counted)
-
--- a byte before the letters counts 27
-pub counts_before : (b : ℕ) → b ≤ 96 → 27 ≡ counted b
-counts_before b h =
-    let k : b < 97 = omega arith in
-    sym (other_counts b (rw (lt-leb 97 b)))
-
--- a byte among the letters counts its place
-pub counts_among : (b : ℕ) → 96 < b → b ≤ 122 → b - 96 ≡ counted b
-counts_among b h k = sym (letter_counts b (rw (le-leb 97 b, le-leb b 122))).0
-
--- a byte after the letters counts 27
-pub counts_after : (b : ℕ) → 122 < b → 27 ≡ counted b
-counts_after b h =
-    let k : 97 ≤ b = omega arith in
-    sym (other_counts b (rw (le-leb 97 b, lt-leb b 122)))
 
 -- a byte counts from 1 to 27
 counts_below_base : (b : ℕ) → (0 < counted b) × (counted b < base)
@@ -147,26 +129,6 @@ pub told_by_key : (w : List ℕ) → names_register w ≡ false → kept_as w �
 unfolding kept_as kept_by kept_words each_word all_letters names_register bytes
 told_by_key w f = passed_over names_register (take registers kept_words) (drop registers kept_words) w refl f ∙ found_by_key (drop registers kept_words) w refl
 
--- a word that is not of two bytes names no register
-pub another_length : (w : List ℕ) → (length w ≡ 2 → ⊥) → false ≡ names_register w
-unfolding names_register
-another_length w h = rw (ne_eqb (length w) 2 h)
-
--- nor one that begins with another letter
-pub another_letter : (w : List ℕ) → length w ≡ 2 → (get_or w 0 0 ≡ register_letter → ⊥) → false ≡ names_register w
-unfolding names_register
-another_letter w e h = rw (eq-eqb (length w) 2 e, ne_eqb (get_or w 0 0) register_letter h)
-
--- nor one whose digit is below the first
-pub lower_digit : (w : List ℕ) → length w ≡ 2 → get_or w 0 0 ≡ register_letter → get_or w 1 0 < first_register → leb first_register (get_or w 1 0) ≡ names_register w
-unfolding names_register
-lower_digit w e l h = rw (eq-eqb (length w) 2 e, eq-eqb (get_or w 0 0) register_letter l, lt-leb first_register (get_or w 1 0) h)
-
--- any other names a register where its digit is not above the last
-pub digit_decides : (w : List ℕ) → length w ≡ 2 → get_or w 0 0 ≡ register_letter → first_register ≤ get_or w 1 0 → leb (get_or w 1 0) last_register ≡ names_register w
-unfolding names_register
-digit_decides w e l h = rw (eq-eqb (length w) 2 e, eq-eqb (get_or w 0 0) register_letter l, le-leb first_register (get_or w 1 0) h)
-
 -- what a word that names a register is made of
 pub register_parts : (w : List ℕ) → names_register w ≡ true → (length w ≡ 2) × (get_or w 0 0 ≡ register_letter) × (first_register ≤ get_or w 1 0) × (get_or w 1 0 ≤ last_register)
 unfolding names_register
@@ -198,39 +160,6 @@ register_kept (a ∷ d ∷ []) e =
     let p = register_parts (a ∷ d ∷ []) e in
     let q : d ≡ first_register + (d - first_register) = omega (arith, p) in
     ap (λ (w : List ℕ). kept_as w) (rw (p.1, ← q)) ∙ spelled (d - first_register) (omega (arith, p))
-
--- that a number is a key of no arm of a match, the last arm first
-abbrev pub no_arm : List (List ℕ) → ℕ → Type 0
-no_arm [] n = Unit {0}
-no_arm (ks ∷ arms) n = no_arm arms n × (OneOf ks n → ⊥)
-
--- whether a number is a key of an arm
-unfoldable pub an_arm : List (List ℕ) → ℕ → Bool
-an_arm [] n = false
-an_arm (ks ∷ arms) n = has_key ks n || an_arm arms n
-
--- a number is not a key of an arm and of none
-not_both : (arms : List (List ℕ)) (n : ℕ) → an_arm arms n ≡ true → no_arm arms n → ⊥
-unfolding an_arm
-not_both [] n e h = false≢true e
-not_both (ks ∷ arms) n e h = go (has_key ks n) refl (λ f. not_both arms n f h.0)
-  where
-    go : (t : Bool) → has_key ks n ≡ t → (an_arm arms n ≡ true → ⊥) → ⊥
-    go true q more = h.1 (hit ks n (rw q tt))
-    go false q more = more (rw q at e)
-
--- where the arms have the number of each row, a number of no arm is free
-pub no_arm_free : (arms : List (List ℕ)) (rs : List Row) (n : ℕ) → each_word (λ w. an_arm arms (key w)) rs ≡ true → no_arm arms n → kept_under rs n ≡ Kept.Free
-unfolding each_word kept_under
-no_arm_free arms [] n l h = refl
-no_arm_free arms (r ∷ rs) n l h = go (eqb (key r.spelt) n) refl (no_arm_free arms rs n g.1 h)
-  where
-    g : (an_arm arms (key r.spelt) ≡ true) × (each_word (λ w. an_arm arms (key w)) rs ≡ true)
-    g = (and-eq-true_iff (an_arm arms (key r.spelt)) _).0 l
-
-    go : (t : Bool) → eqb (key r.spelt) n ≡ t → kept_under rs n ≡ Kept.Free → kept_under (r ∷ rs) n ≡ Kept.Free
-    go true e more = absurd (not_both arms n (rw (eqb-true _ n e) at g.0) h)
-    go false e more = rw (e, kept_under) more
 
 -- the number of a word's end from that of the end one byte shorter
 longer : (w : List ℕ) (j k : ℕ) → k ≡ suc j → j < length w → key (drop j w) ≡ key (drop k w) * base + counted (get_or w j 0)

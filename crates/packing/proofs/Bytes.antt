@@ -1,15 +1,17 @@
 -- The bytes of a number one by one. Assumes nothing.
 use mathlib.Core.Path.{◌≡◌, refl, ap, ◌∙◌}
-use mathlib.Core.List.{List, [], ◌∷◌, ◌++◌}
+use mathlib.Core.List.{List, ◌∷◌, ◌++◌}
 use Prim.Native.Nat.{ℕ, zero, suc, ◌+◌, ◌*◌, ◌-◌, ◌/◌, ◌%◌, ◌^◌, ◌<◌, ◌≤◌}
-use native.Mathlib.Nat.{add-zero, zero-add, sub-zero, div-one, div-div-eq-div-mul}
-use native.Mathlib.Numerals.{towards_suc}
+use native.Mathlib.Nat.{zero-add, div-one, div-div-eq-div-mul}
 use native.Mathlib.Omega.{arith}
 use lib.Pow.{shr-shr}
-use lib.ListN.{length, set, take, drop}
+use lib.ListN.{length, take, drop}
 use Rattle.paper.specs.Runner.{decimal, newline}
 use Rattle.laws.specs.Decimal.{word_short}
-use Rattle.writes.specs.Written.{written}
+use Rattle.std.specs.Int.{to_le_bytes}
+use Rattle.std.proofs.Common.{w64}
+use borrow.Rule.Slice.PartMut.{put_mid}
+use Rattle.writes.specs.Written.{part_written}
 use Rattle.packing.specs.Packed.{unpacked, five, Placed}
 use Rattle.packing.specs.Placing.{unpacked_length, placed_first}
 use Rattle.packing.proofs.Decimals.{last, all_digits, without}
@@ -68,38 +70,18 @@ number_bytes n c v h e ev =
     let d : (5 - c) + (c + 1) ≡ 6 = omega arith in
     shifted (5 - c) (c + 1) v ∙ rw (d, ev, five_bytes n h, without c n s, e, all_digits 4 n (omega arith))
 
--- eight bytes, and eight bytes written one by one
-pub unpacked_eight : (v : ℕ) → unpacked 8 v
-    ≡ v % 256 ∷ v / 256 % 256 ∷ v / 65536 % 256 ∷ v / 16777216 % 256 ∷ v / 4294967296 % 256 ∷ v / 1099511627776 % 256
-    ∷ v / 281474976710656 % 256 ∷ v / 72057594037927936 % 256 ∷ []
+-- eight bytes as the number tells them, and the first of them
+pub all_unpacked : (v : ℕ) → to_le_bytes w64 v ≡ unpacked 8 v
 unfolding unpacked
-unpacked_eight v = simp div-div-eq-div-mul
+all_unpacked v = simp div-div-eq-div-mul
 
-pub eight_written : (o : List ℕ) (at a b c d e f g h : ℕ)
-    → set (set (set (set (set (set (set (set o at a) (at + 1) b) (at + 2) c) (at + 3) d) (at + 4) e) (at + 5) f) (at + 6) g) (at + 7) h
-    ≡ written o at (a ∷ b ∷ c ∷ d ∷ e ∷ f ∷ g ∷ h ∷ [])
-unfolding written
-eight_written o at a b c d e f g h = simp towards_suc
+pub some_unpacked : (m v : ℕ) → m ≤ 8 → take m (to_le_bytes w64 v) ≡ unpacked m v
+some_unpacked m v h = rw (all_unpacked v) (unpacked_first m 8 v h)
 
--- bytes that are left to be written: all, one less, and none
-pub few_begun : (o : List ℕ) (at n v : ℕ) → written o (at + 0) (unpacked (n - 0) v) ≡ written o at (unpacked n v)
-few_begun o at n v = rw (add-zero, sub-zero)
-
-module _ (text w : List ℕ) (at k n v : ℕ) (e : written text (at + k) (unpacked (n - k) v) ≡ w) where
-  pub few_more : k < n → written (set text (at + k) (v % 256)) (at + (k + 1)) (unpacked (n - (k + 1)) (v / 256)) ≡ w
-  unfolding written unpacked
-  few_more h =
-      let a : n - k ≡ suc (n - (k + 1)) = omega arith in
-      let b : at + (k + 1) ≡ suc (at + k) = omega arith in
-      rw b (rw a at e)
-
-  pub few_done : n ≤ k → text ≡ w
-  unfolding written unpacked
-  few_done h = let a : n - k ≡ 0 = omega arith in rw a at e
-
--- the first bytes of those written, as they are placed
-pub first_placed : (o out : List ℕ) (at end b m v : ℕ) → out ≡ written o at (unpacked m v) → b ≤ m → at + m ≤ end → end ≤ length o
-    → (at + b ≡ at + length (unpacked b v)) × Placed o at (unpacked b v) end out
-first_placed o out at end b m v e h g l =
+-- the first bytes of those copied, as they are placed
+pub copied_placed : (o us : List ℕ) (at end b m v k : ℕ) → us ≡ unpacked m v → k ≡ m → b ≤ m → at + m ≤ end → end ≤ length o
+    → Placed o at (unpacked b v) end (put_mid at k o us)
+copied_placed o us at end b m v k e ek h g l =
     let w : length (unpacked m v) ≡ m = unpacked_length m v in
-    (rw (unpacked_length b v), rw (← unpacked_first b m v h) (placed_first o out at (unpacked m v) end b e (omega arith) (omega arith) l))
+    rw (← unpacked_first b m v h)
+    (placed_first o _ at (unpacked m v) end b (part_written o us (unpacked m v) at k e (omega arith) (omega arith)) (omega arith) (omega arith) l)

@@ -1,4 +1,7 @@
 -- How many decimal digits a number has, and its last digits. Assumes nothing.
+use Rattle.std.specs.Int.{from_bool}
+use Rattle.std.proofs.str.Laws.{order}
+use Rattle.std.proofs.Common.{lt-ltb, le-ltb, ⊎_elim}
 use mathlib.Core.Path.{◌≡◌, refl, sym, ◌∙◌}
 use mathlib.Core.List.{List, [], ◌∷◌, ◌++◌}
 use mathlib.Core.Bool.{Bool, true, false}
@@ -43,13 +46,6 @@ pub above_yes : (n m : ℕ) → m < n → above n m ≡ 1
 unfolding above
 above_yes n m h = rw (lt-leb n m h)
 
-pub above_small : {r : ℕ} (n m : ℕ) → r ≡ above n m → r ≤ 1
-above_small {r} n m e = go (leb n m) refl
-  where
-    go : (b : Bool) → leb n m ≡ b → r ≤ 1
-    go true h = omega (arith, above_not n m (leb-true n m h))
-    go false h = omega (arith, above_yes n m (leb-false n m h))
-
 -- 1, and 1 more for each of the first k mosts that a number is above
 abbrev counts : ℕ → ℕ → ℕ
 counts zero n = 1
@@ -70,9 +66,14 @@ counted (suc k) n h = go (leb n (most k)) refl (λ g. counted k n g)
     go true e f = let g : n ≤ most k = leb-true n (most k) e in rw (above_not n (most k) g, add-zero) (f g)
     go false e f = let g : most k < n = leb-false n (most k) e in full (suc k) n g ∙ sym (exact (suc k) n g h)
 
-pub word_digits : (n : ℕ) → n < 65536 → (a b c d : ℕ) → a ≡ above n 9 → b ≡ above n 99 → c ≡ above n 999 → d ≡ above n 9999
-    → 1 + a + b + c + d ≡ length (decimal n)
-word_digits n h a b c d ea eb ec ed = rw (ea, eb, ec, ed) (counted 4 n (omega arith))
+-- a test as a number
+test_above : (n m : ℕ) → from_bool (ltb m n) ≡ above n m
+test_above n m = ⊎_elim (λ h. rw (lt-ltb m n h, above_yes n m h)) (λ h. rw (le-ltb m n h, above_not n m h)) (order m n)
+
+pub word_digits : (n : ℕ) → n < 65536 → (a b c d : ℕ) → a ≡ from_bool (ltb 9 n) → b ≡ from_bool (ltb 99 n) → c ≡ from_bool (ltb 999 n)
+    → d ≡ from_bool (ltb 9999 n) → 1 + a + b + c + d ≡ length (decimal n)
+word_digits n h a b c d ea eb ec ed =
+    rw (ea, eb, ec, ed, test_above n 9, test_above n 99, test_above n 999, test_above n 9999) (counted 4 n (omega arith))
 
 -- the last c digits
 abbrev pub last : ℕ → ℕ → List ℕ

@@ -1,12 +1,10 @@
--- `kept::counts` meets its contract: each way is one case of what a byte counts.
-use Rattle.kept.proofs.Laws.{counts_before, counts_after, counts_among}
+-- A letter counts its place, and any other byte 27.
+use Rattle.std.proofs.Common.{sym, ◌∙◌, rules}
+use Rattle.kept.proofs.Laws.{letter_counts, other_counts}
 use Rattle.kept.proofs.counts.Goals as goal
 
-pub returns-then-b-le-BEFORE_A : goal.returns-then-b-le-BEFORE_A
-returns-then-b-le-BEFORE_A c = search counts_before
+pub returns-then-is_ascii_lowercase : goal.returns-then-is_ascii_lowercase
+returns-then-is_ascii_lowercase c = c.from.ensures ∙ sym (letter_counts _ (search rules)).0
 
-pub returns-then-b-le-LAST_LETTER : goal.returns-then-b-le-LAST_LETTER
-returns-then-b-le-LAST_LETTER c = search counts_among
-
-pub returns : goal.returns
-returns c = search counts_after
+pub returns-else-is_ascii_lowercase : goal.returns-else-is_ascii_lowercase
+returns-else-is_ascii_lowercase c = sym (other_counts _ (search rules))

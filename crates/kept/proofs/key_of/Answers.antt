@@ -1,4 +1,4 @@
--- `kept::key_of` meets its contract. The loop's invariant: the sum is the number of the word from `k` on. The measure is `k`.
+-- `kept::key_of` meets its contract. The loop's invariant: the sum is the number of the word from `k` on.
 use mathlib.Core.Path.{◌≡◌}
 use native.Mathlib.Omega.{arith}
 use Rattle.kept.proofs.Laws.{nothing_counts, key_longer, longer_fits}

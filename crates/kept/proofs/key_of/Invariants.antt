@@ -1,4 +1,4 @@
--- `kept::key_of` meets its contract. The loop's invariant: the sum is the number of the word from `k` on. The measure is `k`.
+-- `kept::key_of` meets its contract. The loop's invariant: the sum is the number of the word from `k` on.
 use mathlib.Core.Path.{◌≡◌}
 use Prim.Native.Nat.{◌≤◌}
 use lib.ListN.{length, drop}
@@ -7,6 +7,3 @@ use Rattle.kept.proofs.key_of.Given as goal
 
 abbrev pub invariant-loop-k : goal.invariant-loop-k
 invariant-loop-k l = (l.k ≤ length l.word) × (l.sum ≡ key (drop l.k l.word))
-
-abbrev pub decreases-loop-k : goal.decreases-loop-k
-decreases-loop-k l = l.k
