@@ -1,4 +1,5 @@
 -- What the calls of this crate ask and make, as laws over values. Assumes nothing.
+use Rattle.std.specs.Prelude.{Option, Some, None}
 use mathlib.Core.Path.{◌≡◌, refl, sym, ap, ◌∙◌}
 use mathlib.Core.List.{List}
 use mathlib.Core.Bool.{Bool, true, false, not, true≢false}
@@ -39,7 +40,6 @@ use Rattle.ticks.specs.Ticks.{Told}
 use Rattle.ticks.specs.Rounds.{by_flags, answer_of, stays_of, gone}
 use Rattle.ticks.specs.Tallied.{tallied}
 use Rattle.ticks.proofs.Tallying.{tick_few}
-use Rattle.ticks.specs.declared.Came.{Came}
 use Rattle.ticks.specs.declared.Seat.{Seat}
 
 -- what a good image gives the calls
@@ -104,7 +104,7 @@ module _ (s : Shape) (im : List ℕ) (x : Seat) (f : First s im x) where
     rule_few h = rw (ap (λ o. o.answer) rule_is) (tick_few s im h)
 
     -- it leaves the first task first where its answer tells so
-    pub rule_stays : Lawful s im → FirstIf (stays_of (Came.Answered a)) s out x
+    pub rule_stays : Lawful s im → FirstIf (stays_of (Some a)) s out x
     unfolding stays_of FirstIf First Seated
     rule_stays h = go (stays_first a) refl
       where
@@ -141,17 +141,17 @@ module _ (s : Shape) (im : List ℕ) (a : Answer) (out : List ℕ) (e : answered
   one_counted counts more em = em ∙ ap (λ o. counted counts (tally o.answer)) e
 
   module _ (x : Seat) where
-    pub one_told : Told s im 1 (answer_of s out x (Came.Answered a)) out
+    pub one_told : Told s im 1 (answer_of s out x (Some a)) out
     unfolding Told answer_of
     one_told = (omega arith, e)
 
     -- by a rule before an order, or by the turn
     module _ (c d : ℕ) (ec : c ≡ at s im (flags x.row.task)) (ed : d ≡ at s im clock) (most : ℕ) where
-      pub rule_gone : 4 ≤ c → record { taken = 1; came = Came.Answered a } ≡ gone s im x most
+      pub rule_gone : 4 ≤ c → record { taken = 1; came = Some a } ≡ gone s im x most
       unfolding gone
       rule_gone loud = rw (← ec, le-leb 4 c loud, ← e)
 
-      pub turn_gone : c < 4 → d ≡ 0 → record { taken = 1; came = Came.Answered a } ≡ gone s im x most
+      pub turn_gone : c < 4 → d ≡ 0 → record { taken = 1; came = Some a } ≡ gone s im x most
       unfolding gone
       turn_gone calm z = rw (← ec, lt-leb 4 c calm, ← ed, eq-eqb d 0 z, ← e)
 
@@ -159,22 +159,22 @@ pub turn_counted : (s : Shape) (im out : List ℕ) (i : Task) → answered (Answ
     → more ≡ grown counts k 1 → more ≡ tallied s im 1 counts
 turn_counted s im out i e counts more k ek em = one_counted s im _ out e counts more (rw (← ek) em)
 
-pub turn_leaves : (s : Shape) (out : List ℕ) (x : Seat) → FirstIf (stays_of (Came.Answered (Answer.TurnPassed x.row.task))) s out x
+pub turn_leaves : (s : Shape) (out : List ℕ) (x : Seat) → FirstIf (stays_of (Some (Answer.TurnPassed x.row.task))) s out x
 unfolding stays_of FirstIf
 turn_leaves s out x = tt
 
 -- orders in a row
 module _ (s : Shape) (im : List ℕ) (x : Seat) where
   pub orders_gone : (c d : ℕ) → c ≡ at s im (flags x.row.task) → d ≡ at s im clock → (most n : ℕ) → c < 4 → d ≢ 0
-      → n ≡ row_length x.segment (part_of x.row.place.0 im) (min most d) → record { taken = n; came = Came.Ordered } ≡ gone s im x most
+      → n ≡ row_length x.segment (part_of x.row.place.0 im) (min most d) → record { taken = n; came = None } ≡ gone s im x most
   unfolding gone
   orders_gone c d ec ed most n calm time en = rw (← ec, lt-leb 4 c calm, ← ed, ne_eqb d 0 time, en)
 
-  pub orders_answer : (out : List ℕ) (n : ℕ) → Told s im n (by_flags (at s out (flags x.row.task)) x.row.task) out → Told s im n (answer_of s out x Came.Ordered) out
+  pub orders_answer : (out : List ℕ) (n : ℕ) → Told s im n (by_flags (at s out (flags x.row.task)) x.row.task) out → Told s im n (answer_of s out x None) out
   unfolding answer_of
   orders_answer out n t = t
 
-  pub orders_stay : First s im x → FirstIf (stays_of Came.Ordered) s im x
+  pub orders_stay : First s im x → FirstIf (stays_of None) s im x
   unfolding stays_of FirstIf
   orders_stay f = f
 
@@ -192,7 +192,7 @@ module _ (s : Shape) (im : List ℕ) (x : Seat) where
   still true f e = f
   still false f e = absurd (true≢false e)
 
-  pub first_still : (c : Came) (b : Bool) → FirstIf (stays_of c) s im x → b ≡ stays_of c → not b ≡ false → First s im x
+  pub first_still : (c : Option Answer) (b : Bool) → FirstIf (stays_of c) s im x → b ≡ stays_of c → not b ≡ false → First s im x
   first_still c b f eb e = still (stays_of c) f (ap not (sym eb) ∙ e)
 
 -- the least of two numbers: where they are not 0 it is not, and what is at most that is at most the second
@@ -212,12 +212,12 @@ module _ (g : Segment) (p : List ℕ) (n l : ℕ) (e : n ≡ row_length g p l) w
   row_least a b el = rw (← el) e
 
 -- the answer of what a tick came to
-module _ (s : Shape) (im : List ℕ) (x : Seat) (c : Came) (a : Answer) where
-  pub told_order : (f : ℕ) → c ≡ Came.Ordered → f ≡ at s im (flags x.row.task) → a ≡ by_flags f x.row.task → a ≡ answer_of s im x c
+module _ (s : Shape) (im : List ℕ) (x : Seat) (c : Option Answer) (a : Answer) where
+  pub told_order : (f : ℕ) → c ≡ None → f ≡ at s im (flags x.row.task) → a ≡ by_flags f x.row.task → a ≡ answer_of s im x c
   unfolding answer_of
   told_order f ec ef ea = rw (ec, ← ef) ea
 
-  pub told_answer : c ≡ Came.Answered a → a ≡ answer_of s im x c
+  pub told_answer : c ≡ Some a → a ≡ answer_of s im x c
   unfolding answer_of
   told_answer ec = rw ec
 

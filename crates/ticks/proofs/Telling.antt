@@ -1,4 +1,5 @@
 -- Laws of ticks that are told of, and what a loop of them keeps. Assumes nothing.
+use Rattle.std.specs.Prelude.{Option, Some, None}
 use mathlib.Core.Path.{◌≡◌, refl, sym, ap, ◌∙◌}
 use mathlib.Core.List.{List}
 use mathlib.Core.Bool.{Bool, true, false, not, true≢false}
@@ -16,7 +17,6 @@ use Rattle.laws.specs.Events.{Lawful}
 use Rattle.ticks.specs.Ticks.{ticked, Told}
 use Rattle.ticks.specs.Rounds.{answer_of, stays_of}
 use Rattle.ticks.specs.Tallied.{tallied}
-use Rattle.ticks.specs.declared.Came.{Came}
 use Rattle.ticks.specs.declared.Seat.{Seat}
 use Rattle.ticks.proofs.Ticked.{ticked_joined, idle_tick, ticked_idle, ticked_lawful}
 use Rattle.ticks.proofs.Tallying.{now_more, idle_counted}
@@ -51,12 +51,12 @@ told_idle s im n none some = (some, rw (ticked_idle s im none (n - 1)) (sym (idl
 
 -- where the first task left, its seat tells nothing of the answer
 module _ (s : Shape) (out : List ℕ) (x : Seat) where
-  left_as : (y : Seat) (c : Came) → stays_of c ≡ false → answer_of s out y c ≡ answer_of s out x c
+  left_as : (y : Seat) (c : Option Answer) → stays_of c ≡ false → answer_of s out y c ≡ answer_of s out x c
   unfolding answer_of stays_of
-  left_as y Came.Ordered e = absurd (true≢false e)
-  left_as y (Came.Answered a) e = refl
+  left_as y None e = absurd (true≢false e)
+  left_as y (Some a) e = refl
 
-  pub left_answer : (y : Seat) (c : Came) (b : Bool) → b ≡ stays_of c → not b ≡ true → answer_of s out y c ≡ answer_of s out x c
+  pub left_answer : (y : Seat) (c : Option Answer) (b : Bool) → b ≡ stays_of c → not b ≡ true → answer_of s out y c ≡ answer_of s out x c
   left_answer y c b eb e = left_as y c (sym eb ∙ not-true b e)
 
 -- n of most ticks have passed, from im and the counts in start to m and the counts in hand

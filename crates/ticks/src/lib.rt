@@ -1,7 +1,7 @@
 // Ticks: the rules of the first task, one after another, for as long as ticks follow.
 #![tactic(auto)]
 
-ghost use Rattle.std.specs.Prelude.{◌≡◌, false, ◌<◌, ◌≤◌, min};
+ghost use Rattle.std.specs.Prelude.{◌≡◌, false, ◌<◌, ◌≤◌, min, Some};
 ghost use Rattle.paper.specs.Image.{at as word_at, clock as clock_cell, flags as flags_cell};
 ghost use Rattle.paper.specs.Queues.{empty as empty_of};
 ghost use Rattle.paper.specs.Waking.{answered};
@@ -16,7 +16,6 @@ ghost use Rattle.words.specs.Spots.{Rowed};
 ghost use Rattle.counting.specs.Room.{Room};
 ghost use Rattle.noting.specs.Noted.{orders_counted, Ledger};
 ghost use Rattle.ticks.specs.Tallied.{tallied, faulted_by, RowCounted};
-ghost use Rattle.ticks.specs.declared.Came.TheVariants.{Answered};
 ghost use Rattle.ticks.specs.Ticks.{Told};
 ghost use Rattle.ticks.specs.Rounds.{by_flags, answer_of, stays_of, gone};
 
@@ -39,18 +38,11 @@ pub struct Seat {
     pub segment: Segment,
 }
 
-// What a tick came to: an order, whose answer the flags of its task tell; or an answer.
-#[derive(Clone, Copy)]
-pub enum Came {
-    Ordered,
-    Answered(Answer),
-}
-
-// How many ticks were taken at once, and what the last of them came to.
+// How many ticks were taken at once, and the answer of the last of them: none where it was an order, whose answer the flags of its task tell.
 #[derive(Clone, Copy)]
 pub struct Gone {
     pub taken: usize,
-    pub came: Came,
+    pub came: Option<Answer>,
 }
 
 // The seat of the first task, which there is.
@@ -63,9 +55,9 @@ fn first_seat(s: Shape, im: &[u16]) -> Seat
     let row = row_of(s, t);
     let from = entry(s, im, t, BASE) as usize - row.place.0;
     Seat {
-        row: row,
+        row,
         segment: Segment {
-            from: from,
+            from,
             to: from + entry(s, im, t, LENGTH) as usize,
         },
     }
@@ -75,10 +67,7 @@ fn first_seat(s: Shape, im: &[u16]) -> Seat
 fn least(a: usize, b: u16) -> u16
     ensures { result ≡ min a b }
 {
-    if a < b as usize {
-        return a as u16;
-    }
-    b
+    a.min(b as usize) as u16
 }
 
 // Orders of a task in a row, at most so many and for as long as the clock runs, which is not 0: how many there were. The clock is written once.
@@ -119,16 +108,12 @@ fn by_flags(f: u16, t: Task) -> Answer
 }
 
 // Whether the first task is first still after a tick.
-fn stays(c: Came) -> bool
+fn stays(c: Option<Answer>) -> bool
     ensures { result ≡ stays_of c }
 {
     match c {
-        Came::Ordered => true,
-        Came::Answered(a) => match a {
-            Answer::ServiceDone(_) => true,
-            Answer::ServiceFaulted(_) => true,
-            _ => false,
-        },
+        Some(a) => matches!(a, Answer::ServiceDone(_) | Answer::ServiceFaulted(_)),
+        None => true,
     }
 }
 
@@ -158,7 +143,7 @@ fn rule(s: Shape, im: &mut [u16], counts: &mut [u32], x: Seat, flags: u16, clock
     requires room { Room counts.old 1 }
     ensures counts_after { counts.new ≡ counted counts.old (tally result) }
     ensures im_after { answered result im.new ≡ tick s im.old }
-    ensures first_if { FirstIf (stays_of (Answered result)) s im.new x }
+    ensures first_if { FirstIf (stays_of (Some result)) s im.new x }
 {
     let a = before_order(s, im, x.row, flags, clock);
     note_answer(counts, a);
@@ -191,7 +176,7 @@ fn go_on(
     if ERROR <= flags {
         return Gone {
             taken: 1,
-            came: Came::Answered(rule(s, im, counts, x, flags, clock)),
+            came: Some(rule(s, im, counts, x, flags, clock)),
         };
     }
     if clock == 0 {
@@ -200,26 +185,23 @@ fn go_on(
         note(counts, place_of(t, Heading::PassedTurns), 1);
         return Gone {
             taken: 1,
-            came: Came::Answered(Answer::TurnPassed(t)),
+            came: Some(Answer::TurnPassed(t)),
         };
     }
     let taken = run_orders(s, im, table, x, clock, most);
     note_row(s, im, counts, x, taken);
-    Gone {
-        taken: taken,
-        came: Came::Ordered,
-    }
+    Gone { taken, came: None }
 }
 
 // The answer of a tick that came to something.
-fn told(s: Shape, im: &[u16], x: Seat, c: Came) -> Answer
+fn told(s: Shape, im: &[u16], x: Seat, c: Option<Answer>) -> Answer
     requires lawful { Lawful s im.now }
     requires rowed { Rowed s x.row }
     ensures { result ≡ answer_of s im.now x c }
 {
     match c {
-        Came::Ordered => by_flags(own(s, im, x.row, FLAGS), x.row.task),
-        Came::Answered(a) => a,
+        Some(a) => a,
+        None => by_flags(own(s, im, x.row, FLAGS), x.row.task),
     }
 }
 
@@ -246,7 +228,8 @@ pub fn ticks(
     }
     let mut x = first_seat(s, im);
     let mut taken: usize = 0;
-    let mut came = Came::Ordered;
+    let mut came = None;
+    // Each round takes as many ticks as follow by one rule, so this is no for.
     while taken < n {
         let gone = go_on(s, im, table, counts, x, n - taken);
         taken += gone.taken;

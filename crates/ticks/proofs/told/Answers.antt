@@ -6,8 +6,8 @@ use Rattle.ticks.proofs.told.Goals as goal
 pub own-requires : goal.own-requires
 own-requires c = record { sound = search lawful_sound; rowed = search rules; k_bound = search rules }
 
-pub returns-in-Ordered : goal.returns-in-Ordered
-returns-in-Ordered c = search told_order
+pub returns-in-None : goal.returns-in-None
+returns-in-None c = search told_order
 
-pub returns-in-Answered : goal.returns-in-Answered
-returns-in-Answered c = search told_answer
+pub returns-in-Some : goal.returns-in-Some
+returns-in-Some c = search told_answer
