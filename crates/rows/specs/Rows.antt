@@ -1,11 +1,12 @@
 -- Rows: row 0 is that of a number, the orders have the rows from 1 on as they stand in the table of kept words. What stands in each row, and the rules of the tables.
-use Rattle.std.specs.Prelude.{◌≡◌, true, false, List, [], ◌∷◌, ◌++◌, ℕ, suc, ◌+◌, ◌*◌, ◌^◌, ◌<◌, length, get_or, take, drop}
+use Rattle.std.specs.Prelude.{◌≡◌, true, false, List, [], ◌∷◌, ◌++◌, ℕ, suc, ◌+◌, ◌*◌, ◌^◌, length, get_or, take, drop}
 use Rattle.paper.specs.Runner.{space, newline}
 use Rattle.grammar.specs.Tokens.{bytes, same}
 use Rattle.grammar.specs.Kept.{Row, row, kept_words}
 use Rattle.grammar.specs.Printing.{Named, named_as}
 use Rattle.grammar.specs.declared.Kept.{Kept}
 use Rattle.grammar.specs.declared.Operands.{Operands}
+use Rattle.rows.specs.declared.tables.Parts.{Parts}
 
 -- the rows, and the sixteenths of the words before the end of the orders
 abbrev pub rows_end : ℕ
@@ -93,22 +94,9 @@ packed (b ∷ bs) = b + 256 * packed bs
 abbrev pub form : ℕ → ℕ
 form r = length (front r) + 16 * length (tail r) + 256 * second r + 512 * end_b r
 
--- the rules of the tables
-unfoldable pub RowTable : List ℕ → Type 0
-RowTable t = (k : ℕ) → k < suc sixteenths → get_or t k 0 ≡ row_of (16 * k)
-
--- each entry of a table is what a function says of its row
-unfoldable pub ByRow : (ℕ → ℕ) → List ℕ → Type 0
-ByRow f t = (r : ℕ) → r < rows_end → get_or t r 0 ≡ f r
-
-abbrev pub FormTable : List ℕ → Type 0
-FormTable t = ByRow form t
-
-abbrev pub NameTable : List ℕ → Type 0
-NameTable t = ByRow (λ r. packed (front r)) t
-
-abbrev pub TailTable : List ℕ → Type 0
-TailTable t = ByRow (λ r. packed (tail r)) t
-
-abbrev pub PlaceTable : List ℕ → Type 0
-PlaceTable t = ByRow place t
+-- what the parts of a row tell of it
+pub record Tells (r : ℕ) (p : Parts) : Type 0 where
+  pub form_told : p.form_word ≡ form r
+  pub front_told : p.front_bytes ≡ packed (front r)
+  pub tail_told : p.tail_bytes ≡ packed (tail r)
+  pub place_told : p.first_register ≡ place r

@@ -1,40 +1,26 @@
-// The rows of orders, by which words are spelt, as five tables.
+// The rows of orders, by which words are spelt.
 #![tactic(auto)]
 
-ghost use Rattle.rows.specs.Rows.{RowTable, FormTable, NameTable, TailTable, PlaceTable};
+ghost use Rattle.std.specs.Prelude.{◌≡◌, ◌*◌, ◌<◌, ◌≤◌};
+ghost use Rattle.rows.specs.Rows.{rows_end, sixteenths, row_of, Tells};
 
-pub use tables::{FIELD_B, ROWS, SECOND_WORD, SIXTEENTHS, TAIL};
-use tables::{FORM_TABLE, NAME_TABLE, PLACE_TABLE, ROW_TABLE, TAIL_TABLE};
+pub use tables::{FIELD_B, Parts, SECOND_WORD, SIXTEENTHS, TAIL};
+use tables::{ROW_PARTS, ROW_TABLE};
 
 mod tables;
 
-// The tables, for a caller that lays them out once and lends them down.
-pub fn row_table() -> [u8; SIXTEENTHS]
-    ensures { RowTable result }
+// The row of the first word of a sixteenth.
+pub fn row_at(k: usize) -> usize
+    requires { k ≤ sixteenths }
+    ensures { result ≡ row_of (16 * k) }
 {
-    ROW_TABLE
+    usize::from(ROW_TABLE[k])
 }
 
-pub fn form_table() -> [u16; ROWS]
-    ensures { FormTable result }
+// What a row tells.
+pub fn parts_of(row: usize) -> Parts
+    requires { row < rows_end }
+    ensures { Tells row result }
 {
-    FORM_TABLE
-}
-
-pub fn name_table() -> [u64; ROWS]
-    ensures { NameTable result }
-{
-    NAME_TABLE
-}
-
-pub fn tail_table() -> [u64; ROWS]
-    ensures { TailTable result }
-{
-    TAIL_TABLE
-}
-
-pub fn place_table() -> [u64; ROWS]
-    ensures { PlaceTable result }
-{
-    PLACE_TABLE
+    ROW_PARTS[row]
 }

@@ -1,14 +1,36 @@
 // The tables that words are spelt by: one entry for each sixteenth of the words, and one for each row. Row 0 is that of a number,
 // and the orders have the rows 1 to 23, as they stand in the table of docs/GRAMMAR.md.
 
-// The rows.
+// What a row tells: its form, its name up to the eighth letter, what stands after that letter, and what the first register counts
+// there; the second stands three bytes on. Bytes are one number, the first lowest.
+#[derive(Clone, Copy)]
+pub struct Parts {
+    pub form_word: u16,
+    pub front_bytes: u64,
+    pub tail_bytes: u64,
+    pub first_register: u64,
+}
+
+// A row of the table.
+macro_rules! parts {
+    ($form:expr, $front:expr, $tail:expr, $register:expr) => {
+        Parts {
+            form_word: $form,
+            front_bytes: $front,
+            tail_bytes: $tail,
+            first_register: $register,
+        }
+    };
+}
+
+// How many rows there are.
 pub const ROWS: usize = 24;
 
 // The sixteenths of the words that begin orders, and one for all past them.
 pub const SIXTEENTHS: usize = 305;
 
 // The row of the first word of each sixteenth.
-pub const ROW_TABLE: [u8; SIXTEENTHS] = [
+pub static ROW_TABLE: [u8; SIXTEENTHS] = [
     0, // no order
     0, 0, 0, 0, 0, 0, 0, 0, 0, 0, 0, 0, 0, 0, 0, 1, // load
     1, 1, 1, 1, 1, 1, 1, 0, // load: no register 8
@@ -70,62 +92,6 @@ const REGISTERS: u16 = 7 * TAIL + 8 * FIELD_B;
 
 const AFTER_R: u16 = REGISTERS + TAIL;
 
-// The forms.
-pub const FORM_TABLE: [u16; ROWS] = [
-    0, // a number
-    4 + REGISTER_SUM, // load
-    4 + REGISTERS, // copy
-    5 + REGISTERS, // fetch
-    5 + REGISTERS, // store
-    3 + REGISTERS, // add
-    8 + REGISTERS, // subtract
-    8 + REGISTERS, // multiply
-    8 + REGISTERS, // quotient
-    8 + AFTER_R, // remainder
-    3 + REGISTERS, // and
-    2 + REGISTERS, // or
-    3 + REGISTERS, // xor
-    7 + REGISTERS, // compare
-    4 + SUM, // jump
-    6 + SUM, // jumpeq
-    6 + SUM, // jumplt
-    6 + SUM, // jumpgt
-    4 + SUM, // call
-    6 + BARE, // return
-    4 + BARE, // send
-    7 + BARE, // receive
-    5 + BARE, // input
-    6 + BARE, // output
-];
-
-// The names, up to their eighth letter.
-pub const NAME_TABLE: [u64; ROWS] = [
-    0, // a number
-    0x64616f6c, // load
-    0x79706f63, // copy
-    0x6863746566, // fetch
-    0x65726f7473, // store
-    0x646461, // add
-    0x7463617274627573, // subtract
-    0x796c7069746c756d, // multiply
-    0x746e6569746f7571, // quotient
-    0x65646e69616d6572, // remainder
-    0x646e61, // and
-    0x726f, // or
-    0x726f78, // xor
-    0x657261706d6f63, // compare
-    0x706d756a, // jump
-    0x7165706d756a, // jumpeq
-    0x746c706d756a, // jumplt
-    0x7467706d756a, // jumpgt
-    0x6c6c6163, // call
-    0x6e7275746572, // return
-    0x646e6573, // send
-    0x65766965636572, // receive
-    0x7475706e69, // input
-    0x74757074756f, // output
-];
-
 // What stands after the eighth letter: the operands, with registers 0, and a space for a second word or the end of the line.
 const SPACE: u64 = 0x20;
 
@@ -137,63 +103,35 @@ const R0_R0: u64 = 0xa307220307220;
 
 const R_R0_R0: u64 = 0xa30722030722072;
 
-// The tails.
-pub const TAIL_TABLE: [u64; ROWS] = [
-    0, // a number
-    R0_SPACE, // load
-    R0_R0, // copy
-    R0_R0, // fetch
-    R0_R0, // store
-    R0_R0, // add
-    R0_R0, // subtract
-    R0_R0, // multiply
-    R0_R0, // quotient
-    R_R0_R0, // remainder
-    R0_R0, // and
-    R0_R0, // or
-    R0_R0, // xor
-    R0_R0, // compare
-    SPACE, // jump
-    SPACE, // jumpeq
-    SPACE, // jumplt
-    SPACE, // jumpgt
-    SPACE, // call
-    NEWLINE, // return
-    NEWLINE, // send
-    NEWLINE, // receive
-    NEWLINE, // input
-    NEWLINE, // output
-];
-
-// What a register counts in a tail, by its place there.
+// What the first register counts there, by its place.
 const THIRD: u64 = 65536;
 
 const FOURTH: u64 = 16777216;
 
-// The places of the first register in the tails; the second stands three bytes on.
-pub const PLACE_TABLE: [u64; ROWS] = [
-    0, // a number
-    THIRD, // load
-    THIRD, // copy
-    THIRD, // fetch
-    THIRD, // store
-    THIRD, // add
-    THIRD, // subtract
-    THIRD, // multiply
-    THIRD, // quotient
-    FOURTH, // remainder
-    THIRD, // and
-    THIRD, // or
-    THIRD, // xor
-    THIRD, // compare
-    0, // jump
-    0, // jumpeq
-    0, // jumplt
-    0, // jumpgt
-    0, // call
-    0, // return
-    0, // send
-    0, // receive
-    0, // input
-    0, // output
+// The rows.
+pub static ROW_PARTS: [Parts; ROWS] = [
+    parts!(0, 0, 0, 0), // a number
+    parts!(4 + REGISTER_SUM, 0x64616f6c, R0_SPACE, THIRD), // load
+    parts!(4 + REGISTERS, 0x79706f63, R0_R0, THIRD), // copy
+    parts!(5 + REGISTERS, 0x6863746566, R0_R0, THIRD), // fetch
+    parts!(5 + REGISTERS, 0x65726f7473, R0_R0, THIRD), // store
+    parts!(3 + REGISTERS, 0x646461, R0_R0, THIRD), // add
+    parts!(8 + REGISTERS, 0x7463617274627573, R0_R0, THIRD), // subtract
+    parts!(8 + REGISTERS, 0x796c7069746c756d, R0_R0, THIRD), // multiply
+    parts!(8 + REGISTERS, 0x746e6569746f7571, R0_R0, THIRD), // quotient
+    parts!(8 + AFTER_R, 0x65646e69616d6572, R_R0_R0, FOURTH), // remainder
+    parts!(3 + REGISTERS, 0x646e61, R0_R0, THIRD), // and
+    parts!(2 + REGISTERS, 0x726f, R0_R0, THIRD), // or
+    parts!(3 + REGISTERS, 0x726f78, R0_R0, THIRD), // xor
+    parts!(7 + REGISTERS, 0x657261706d6f63, R0_R0, THIRD), // compare
+    parts!(4 + SUM, 0x706d756a, SPACE, 0), // jump
+    parts!(6 + SUM, 0x7165706d756a, SPACE, 0), // jumpeq
+    parts!(6 + SUM, 0x746c706d756a, SPACE, 0), // jumplt
+    parts!(6 + SUM, 0x7467706d756a, SPACE, 0), // jumpgt
+    parts!(4 + SUM, 0x6c6c6163, SPACE, 0), // call
+    parts!(6 + BARE, 0x6e7275746572, NEWLINE, 0), // return
+    parts!(4 + BARE, 0x646e6573, NEWLINE, 0), // send
+    parts!(7 + BARE, 0x65766965636572, NEWLINE, 0), // receive
+    parts!(5 + BARE, 0x7475706e69, NEWLINE, 0), // input
+    parts!(6 + BARE, 0x74757074756f, NEWLINE, 0), // output
 ];

@@ -5,4 +5,4 @@ use Rattle.spelling.proofs.front_of.Goals as goal
 
 pub returns : goal.returns
 unfolding bytes_of
-returns c = record { result_value = search front_made; bytes_bound = search front_few }
+returns c = record { result_value = front_made _ _ c.parts_of-parts.ensures c.requires; bytes_bound = front_few _ _ c.parts_of-parts.ensures c.requires }

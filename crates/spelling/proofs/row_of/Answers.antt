@@ -1,31 +1,21 @@
 -- The row of the word's sixteenth, where the field b is in range.
+use Rattle.std.proofs.Common.{arith}
 use Rattle.spelling.proofs.Read.{row_read, row_taken, row_none}
-use borrow.Author.Rules.{rules}
 use Rattle.spelling.proofs.row_of.Goals as goal
 
-pub overflow_cast-row : goal.overflow_cast-row
-overflow_cast-row c =
-    let few = row_read _ _ _ _ c.requires.row_table c.requires.form_table c.sixteenth.ensures in
-    search (few, rules)
+pub parts_of-requires : goal.parts_of-requires
+parts_of-requires c = row_read _ _ _ c.sixteenth.ensures c.row_at-row.ensures
 
-pub offset_bounds-forms-row : goal.offset_bounds-forms-row
-offset_bounds-forms-row c =
-    let few = row_read _ _ _ _ c.requires.row_table c.requires.form_table c.sixteenth.ensures in
-    search (few, rules)
-
-pub bounds-forms-row : goal.bounds-forms-row
-bounds-forms-row c =
-    let few = row_read _ _ _ _ c.requires.row_table c.requires.form_table c.sixteenth.ensures in
-    search (few, rules)
-
-pub returns-then-word-forms : goal.returns-then-word-forms
-returns-then-word-forms c =
-    let pre = c.requires in
-    let w = row_taken _ _ _ _ pre.row_table pre.form_table c.sixteenth.ensures c.if-word-forms.true in
-    record { value = w.0; upper_bound = w.1 }
+pub returns-then-word-parts_of : goal.returns-then-word-parts_of
+returns-then-word-parts_of c =
+    record {
+      value = row_taken _ _ _ c.sixteenth.ensures c.row_at-row.ensures _ c.parts_of.ensures c.if-word-parts_of.true;
+      upper_bound = row_read _ _ _ c.sixteenth.ensures c.row_at-row.ensures;
+    }
 
 pub returns : goal.returns
 returns c =
-    let pre = c.requires in
-    let w = row_none _ _ _ _ pre.row_table pre.form_table c.sixteenth.ensures c.if-word-forms.false in
-    record { value = w.0; upper_bound = w.1 }
+    record {
+      value = row_none _ _ _ c.sixteenth.ensures c.row_at-row.ensures _ c.parts_of.ensures c.if-word-parts_of.false;
+      upper_bound = omega arith;
+    }
