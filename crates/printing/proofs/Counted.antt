@@ -2,6 +2,8 @@
 use mathlib.Core.Path.{◌≡◌, refl, sym, ap, ◌∙◌}
 use mathlib.Core.Logic.{◌≢◌, ⊎_elim}
 use mathlib.Core.List.{◌++◌}
+use Rattle.std.specs.Int.{from_bool}
+use Rattle.std.proofs.Common.{not, eqb, ne_eqb}
 use Prim.Native.Nat.{ℕ, zero, suc, ◌+◌, ◌-◌, ◌*◌, ◌≤◌}
 use native.Mathlib.Omega.{arith}
 use lib.ListN.{length, length-append}
@@ -23,10 +25,11 @@ unfolding is_order
 order_flag zero = omega arith
 order_flag (suc r) = omega arith
 
-pub order_known : (row : ℕ) → row ≢ 0 → 1 ≡ is_order row
+-- the test of a row as a number
+pub order_tested : (row : ℕ) → from_bool (not (eqb row 0)) ≡ is_order row
 unfolding is_order
-order_known zero ne = absurd (ne refl)
-order_known (suc r) ne = refl
+order_tested zero = refl
+order_tested (suc r) = rw (ne_eqb (suc r) 0 (omega arith))
 
 pub number_long : (w : ℕ) → length (piece 0 w) ≡ length (decimal w) + 1
 unfolding piece

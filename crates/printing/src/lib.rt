@@ -5,30 +5,27 @@ ghost use Rattle.std.specs.Prelude.{◌≡◌, ◌+◌, ◌*◌, ◌<◌, ◌≤
 ghost use Rattle.grammar.specs.Printing.{printed, most_printed};
 ghost use Rattle.grammar.specs.Promises.{Prints, MeasuresText};
 ghost use Rattle.packing.specs.Packed.{Placed};
-ghost use Rattle.rows.specs.Rows.{rows_end, RowTable, FormTable, NameTable, TailTable, PlaceTable};
+ghost use Rattle.rows.specs.Rows.{rows_end};
 ghost use Rattle.printing.specs.Pieces.{piece, row_first, is_order, most_piece, RowFor, Inscribed};
 
 use grammar::Refusal;
 use packing::{digits, number, put_packed};
-use rows::{ROWS, SIXTEENTHS, form_table, name_table, place_table, row_table, tail_table};
 use spelling::{front_of, row_bytes, row_of, seconds, tail_of};
 
 // The longest list that is printed: as long as the longest segment.
 const MOST_PRINTED: usize = 32715;
 
 // The row of a word where a line starts at it: an order whose second word is missing is a number.
-fn row_at(words: &[u16], k: usize, rows: &[u8; SIXTEENTHS], forms: &[u16; ROWS]) -> usize
-    requires k_in_bounds { k < length words.now }
-    requires row_table { RowTable rows.now }
-    requires form_table { FormTable forms.now }
+fn row_at(words: &[u16], k: usize) -> usize
+    requires { k < length words.now }
     ensures value { result ≡ row_first (drop k words.now) }
     ensures upper_bound { result < rows_end }
 {
-    let row = row_of(rows, forms, words[k]);
+    let row = row_of(words[k]);
     if k + 1 < words.len() {
         return row;
     }
-    if seconds(forms, row) == 1 {
+    if seconds(row) == 1 {
         return 0;
     }
     row
@@ -38,15 +35,12 @@ fn row_at(words: &[u16], k: usize, rows: &[u8; SIXTEENTHS], forms: &[u16; ROWS])
 fn order_row(row: usize) -> usize
     ensures { result ≡ is_order row }
 {
-    if row == 0 {
-        return 0;
-    }
-    1
+    usize::from(row != 0)
 }
 
-// How many bytes a word gives to the text; starts is 1 where a line starts at it, and 0 where it is a second word.
-fn piece_bytes(forms: &[u16; ROWS], row: usize, starts: usize, word: u16) -> usize
-    requires form_table { FormTable forms.now }
+// How many bytes a word gives to the text; starts is 1 where a line starts at it, and 0 where it is a second word. Both are
+// numbers, since a branch on what a word is was slower.
+fn piece_bytes(row: usize, starts: usize, word: u16) -> usize
     requires row_lt_rows_end { row < rows_end }
     requires starts_bound { starts ≤ 1 }
     requires row_for { RowFor row word }
@@ -54,7 +48,7 @@ fn piece_bytes(forms: &[u16; ROWS], row: usize, starts: usize, word: u16) -> usi
     ensures upper_bound { result ≤ most_piece }
 {
     let order = starts * order_row(row);
-    order * row_bytes(forms, row) + (1 - order) * (digits(word) + 1)
+    order * row_bytes(row) + (1 - order) * (digits(word) + 1)
 }
 
 // How many bytes the text of a list has.
@@ -62,36 +56,18 @@ fn text_bytes(words: &[u16]) -> usize
     requires { length words.now ≤ most_printed }
     ensures { result ≡ length (printed words.now) }
 {
-    let rows = row_table();
-    let forms = form_table();
-    let mut k: usize = 0;
     let mut bytes: usize = 0;
     let mut starts: usize = 1;
-    while k < words.len() {
-        let row = row_at(words, k, &rows, &forms);
-        bytes += piece_bytes(&forms, row, starts, words[k]);
-        starts = 1 - starts * seconds(&forms, row);
-        k += 1;
+    for k in 0..words.len() {
+        let row = row_at(words, k);
+        bytes += piece_bytes(row, starts, words[k]);
+        starts = 1 - starts * seconds(row);
     }
     bytes
 }
 
 // Writes what a word gives to the text, by its row, and answers where the next byte goes.
-fn put_piece(
-    text: &mut [u8],
-    at: usize,
-    row: usize,
-    word: u16,
-    end: usize,
-    forms: &[u16; ROWS],
-    names: &[u64; ROWS],
-    tails: &[u64; ROWS],
-    places: &[u64; ROWS],
-) -> usize
-    requires form_table { FormTable forms.now }
-    requires name_table { NameTable names.now }
-    requires tail_table { TailTable tails.now }
-    requires place_table { PlaceTable places.now }
+fn put_piece(text: &mut [u8], at: usize, row: usize, word: u16, end: usize) -> usize
     requires row_for { RowFor row word }
     requires word_bound { at + length (piece row word) ≤ end }
     requires end_in_bounds { end ≤ length text.old }
@@ -101,8 +77,8 @@ fn put_piece(
     if row == 0 {
         return put_packed(text, at, number(word), end);
     }
-    let tail = put_packed(text, at, front_of(forms, names, row), end);
-    put_packed(text, tail, tail_of(forms, tails, places, row, word), end)
+    let tail = put_packed(text, at, front_of(row), end);
+    put_packed(text, tail, tail_of(row, word), end)
 }
 
 // Writes the text of a list, which ends at a place.
@@ -111,29 +87,12 @@ fn put_words(words: &[u16], text: &mut [u8], end: usize)
     requires end_in_bounds { end ≤ length text.old }
     ensures { Inscribed words.now text.old text.new }
 {
-    let rows = row_table();
-    let forms = form_table();
-    let names = name_table();
-    let tails = tail_table();
-    let places = place_table();
-    let mut k: usize = 0;
     let mut at: usize = 0;
     let mut starts: usize = 1;
-    while k < words.len() {
-        let row = row_at(words, k, &rows, &forms);
-        at = put_piece(
-            text,
-            at,
-            row * starts,
-            words[k],
-            end,
-            &forms,
-            &names,
-            &tails,
-            &places,
-        );
-        starts = 1 - starts * seconds(&forms, row);
-        k += 1;
+    for k in 0..words.len() {
+        let row = row_at(words, k);
+        at = put_piece(text, at, row * starts, words[k], end);
+        starts = 1 - starts * seconds(row);
     }
 }
 
@@ -151,14 +110,10 @@ pub fn print_size(words: &[u16]) -> Result<usize, Refusal>
 pub fn print(words: &[u16], text: &mut [u8]) -> Result<usize, Refusal>
     ensures { Prints words.now text.old result text.new }
 {
-    match print_size(words) {
-        Err(r) => Err(r),
-        Ok(bytes) => {
-            if text.len() < bytes {
-                return Err(Refusal::NoRoom);
-            }
-            put_words(words, text, bytes);
-            Ok(bytes)
-        }
+    let bytes = print_size(words)?;
+    if text.len() < bytes {
+        return Err(Refusal::NoRoom);
     }
+    put_words(words, text, bytes);
+    Ok(bytes)
 }

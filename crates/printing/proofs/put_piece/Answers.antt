@@ -15,9 +15,7 @@ returns-then-row-eq0 c =
     record { value = w.0; placed = w.1 }
 
 pub front_of-requires : goal.front_of-requires
-front_of-requires c =
-    let pre = c.requires in
-    record { form_table = pre.form_table; name_table = pre.name_table; row_lt_rows_end = own_row_few _ _ 0 0 c.if-row-eq0.false pre.row_for }
+front_of-requires c = own_row_few _ _ 0 0 c.if-row-eq0.false c.requires.row_for
 
 pub put_packed-tail-requires : goal.put_packed-tail-requires
 put_packed-tail-requires c =
@@ -26,9 +24,7 @@ put_packed-tail-requires c =
     record { bytes_bound = front.bytes_bound; bytes_bound_2 = front_fits _ _ _ _ c.if-row-eq0.false pre.row_for _ front.result_value pre.word_bound; end_in_bounds = pre.end_in_bounds }
 
 pub tail_of-requires : goal.tail_of-requires
-tail_of-requires c =
-    let pre = c.requires in
-    record { form_table = pre.form_table; tail_table = pre.tail_table; place_table = pre.place_table; row_value = own_row _ _ 0 0 c.if-row-eq0.false pre.row_for }
+tail_of-requires c = own_row _ _ 0 0 c.if-row-eq0.false c.requires.row_for
 
 pub put_packed-requires-2 : goal.put_packed-requires-2
 put_packed-requires-2 c =

@@ -1,4 +1,6 @@
 -- After k words the text stands in front, up to `at`, and nothing past its end is altered.
+use Prim.Native.Nat.{◌<◌}
+use lib.ListN.{length}
 use native.Mathlib.Omega.{arith}
 use Rattle.packing.specs.Placing.{placed_none}
 use Rattle.printing.proofs.Counted.{flag_times}
@@ -21,10 +23,6 @@ put_piece-at-requires c =
     let row = c.row_at-row.ensures.value in
     let pre = c.requires in
     record {
-      form_table = c.form_table-forms.ensures;
-      name_table = c.name_table-names.ensures;
-      tail_table = c.tail_table-tails.ensures;
-      place_table = c.place_table-places.ensures;
       row_for = row_for_piece _ _ _ _ _ at (omega arith) row;
       word_bound = omega (arith, pre.end_value, reached_within _ _ _ _ _ at (omega arith) row);
       end_in_bounds = omega (arith, pre.end_in_bounds, c.loop-k.invariant.1.sized);
@@ -45,7 +43,7 @@ loop-k-preserved c =
     let at = c.loop-k.invariant.0 in
     let row = c.row_at-row.ensures.value in
     let put = c.put_piece-at.ensures in
-    let more = c.loop-k-test.true in (
+    let more : c.loop-k.k < length c.args.words.now = omega arith in (
       reached_next _ _ _ _ _ at more row _ _ put.value c.seconds.ensures.value,
       piece_on _ _ _ _ _ _ at _ more row _ _ _ c.loop-k.invariant.1 put.value put.placed,
     )

@@ -1,6 +1,5 @@
 -- After k words the text stands in front, up to `at`, and nothing past its end is altered.
-use Prim.Native.Nat.{◌-◌}
-use lib.ListN.{length, take}
+use lib.ListN.{take}
 use Rattle.grammar.specs.Printing.{printed}
 use Rattle.packing.specs.Packed.{Placed}
 use Rattle.printing.proofs.Reached.{Reached}
@@ -8,6 +7,3 @@ use Rattle.printing.proofs.put_words.Given as goal
 
 abbrev pub invariant-loop-k : goal.invariant-loop-k
 invariant-loop-k l = Reached l.words l.k l.starts l.at × Placed l.initial.text 0 (take l.at (printed l.words)) l.end l.text
-
-abbrev pub decreases-loop-k : goal.decreases-loop-k
-decreases-loop-k l = length l.words - l.k

@@ -12,7 +12,7 @@ pub piece_bytes-bytes-requires : goal.piece_bytes-bytes-requires
 piece_bytes-bytes-requires c =
     let row = c.row_at-row.ensures in
     let at = c.loop-k.invariant.0 in
-    record { form_table = c.form_table-forms.ensures; row_lt_rows_end = row.upper_bound; starts_bound = at.flag; row_for = row_for _ _ _ _ _ at (omega arith) row.value }
+    record { row_lt_rows_end = row.upper_bound; starts_bound = at.flag; row_for = row_for _ _ _ _ _ at (omega arith) row.value }
 
 pub overflow_add-bytes : goal.overflow_add-bytes
 overflow_add-bytes c =
