@@ -25,10 +25,8 @@ fn bucket_of(word: &[u8]) -> usize
     ensures upper_bound { result < most }
 {
     let mut mixed: u64 = 0;
-    let mut k: usize = 0;
-    while k < word.len() {
-        mixed = (mixed + word[k] as u64) * FACTOR % MIXED_END;
-        k += 1;
+    for b in word {
+        mixed = (mixed + u64::from(*b)) * FACTOR % MIXED_END;
     }
     (mixed / BUCKET_SHARE) as usize
 }
@@ -53,7 +51,7 @@ fn word_of<'a>(
     }
 }
 
-// What is found of a word in a chain.
+// What is found of a word in a chain, which is walked by the numbers of its entries: memory is fixed, and a map would need a heap.
 fn find<'a>(
     names: &'a [u8],
     script: &'a [u8],
@@ -73,7 +71,7 @@ fn find<'a>(
     let mut k = link as usize;
     while k < filled {
         let entry = word_of(names, script, split, k, froms[k], counts[k]);
-        if check::same(entry, word) {
+        if entry == word {
             return Some(values[k]);
         }
         k = nexts[k] as usize;
