@@ -4,13 +4,12 @@ use mathlib.Core.Path.{◌≡◌, refl, sym, ap, ◌∙◌}
 use mathlib.Core.List.{List, [], ◌∷◌, ◌++◌, append-nil, append_assoc}
 use mathlib.Core.Bool.{Bool, true, false}
 use mathlib.Core.Logic.{◌≢◌}
-use Prim.Native.Nat.{ℕ, suc, ◌+◌, ◌%◌, ◌<◌, ◌≤◌}
+use Prim.Native.Nat.{ℕ, ◌+◌, ◌%◌, ◌<◌}
 use native.Mathlib.Nat.{add-zero, zero-add}
 use native.Mathlib.Omega.{arith}
 use borrow.Author.Tests.{eqb-true, eqb-false}
 use lib.Dec.{eqb}
-use lib.ListN.{length, get_or, drop, length-append, length-drop}
-use lib.Seq.{drop-cons}
+use lib.ListN.{length, length-append}
 use Rattle.paper.specs.Events.{event_of, happening}
 use Rattle.paper.specs.Runner.{word, line, Printed, nothing_printed, last_line, after_line, prints_on, printed_from}
 use Rattle.paper.specs.declared.Shape.{Shape}
@@ -20,61 +19,38 @@ use Rattle.laws.specs.Checked.{never_fine}
 use Rattle.runner_events.specs.Buffers.{event_bytes, event_at, Prints, followed, ForAnyRest}
 use Rattle.paper.specs.declared.Answer.{Answer}
 
-six_bytes : (bytes : List ℕ) (at : ℕ) → at + 6 ≤ length bytes
-    → drop at bytes ≡ get_or bytes at 0 ∷ get_or bytes (at + 1) 0 ∷ get_or bytes (at + 2) 0 ∷ get_or bytes (at + 3) 0 ∷ get_or bytes (at + 4) 0 ∷
-    get_or bytes (at + 5) 0 ∷ drop (at + 6) bytes
-six_bytes bytes at h =
-    let e1 : at + 1 ≡ suc at = omega arith in
-    let e2 : at + 2 ≡ suc (suc at) = omega arith in
-    let e3 : at + 3 ≡ suc (suc (suc at)) = omega arith in
-    let e4 : at + 4 ≡ suc (suc (suc (suc at))) = omega arith in
-    let e5 : at + 5 ≡ suc (suc (suc (suc (suc at)))) = omega arith in
-    let e6 : at + 6 ≡ suc (suc (suc (suc (suc (suc at))))) = omega arith in
-    rw (
-      e1,
-      e2,
-      e3,
-      e4,
-      e5,
-      e6,
-      drop-cons bytes at 0 (omega arith),
-      drop-cons bytes (suc at) 0 (omega arith),
-      drop-cons bytes (suc (suc at)) 0 (omega arith),
-      drop-cons bytes (suc (suc (suc at))) 0 (omega arith),
-      drop-cons bytes (suc (suc (suc (suc at)))) 0 (omega arith),
-      drop-cons bytes (suc (suc (suc (suc (suc at))))) 0 (omega arith),
-    )
-
-module _ (s : Shape) (im : List ℕ) (n : ℕ) (bytes : List ℕ) (at : ℕ) where
+module _ (s : Shape) (im : List ℕ) (n : ℕ) (rest : List ℕ) where
   -- from a whole event on
-  pub printed_step : at + 6 ≤ length bytes
-      → printed_from s im n (drop at bytes) ≡
-      prints_on n (happening s im (event_at s bytes at)).reply (happening s im (event_at s bytes at)).image (λ next. printed_from s next (1 + n) (drop (at + 6) bytes))
+  pub printed_step : (event : List ℕ) → length event ≡ 6
+      → printed_from s im n (event ++ rest) ≡
+      prints_on n (happening s im (event_at s event 0)).reply (happening s im (event_at s event 0)).image (λ next. printed_from s next (1 + n) rest)
   unfolding printed_from event_at
-  printed_step h = rw (six_bytes bytes at h)
+  printed_step [] h = absurd (omega arith)
+  printed_step (x ∷ []) h = absurd (omega arith)
+  printed_step (x ∷ y ∷ []) h = absurd (omega arith)
+  printed_step (x ∷ y ∷ z ∷ []) h = absurd (omega arith)
+  printed_step (x ∷ y ∷ z ∷ u ∷ []) h = absurd (omega arith)
+  printed_step (x ∷ y ∷ z ∷ u ∷ v ∷ []) h = absurd (omega arith)
+  printed_step (x ∷ y ∷ z ∷ u ∷ v ∷ w ∷ []) h = refl
+  printed_step (x ∷ y ∷ z ∷ u ∷ v ∷ w ∷ a ∷ l) h = absurd (omega arith)
 
-  -- at the end
-  pub printed_none : length bytes ≤ at → printed_from s im n (drop at bytes) ≡ nothing_printed im
-  unfolding printed_from
-  printed_none h = go (drop at bytes) (simp length-drop (omega arith))
-    where
-      go : (l : List ℕ) → length l ≡ 0 → printed_from s im n l ≡ nothing_printed im
-      go [] e = refl
-      go (x ∷ l) e = absurd (omega arith)
+-- at the end
+pub printed_none : (s : Shape) (im : List ℕ) (n : ℕ) (rest : List ℕ) → length rest ≡ 0 → printed_from s im n rest ≡ nothing_printed im
+unfolding printed_from
+printed_none s im n [] e = refl
+printed_none s im n (x ∷ l) e = absurd (omega arith)
 
-  -- at a short last event
-  pub printed_short : at < length bytes → length bytes < at + 6 → printed_from s im n (drop at bytes) ≡ last_line n Refusal.MalformedEvent im
-  unfolding printed_from
-  printed_short h g = go (drop at bytes) (simp length-drop (omega arith)) (simp length-drop (omega arith))
-    where
-      go : (l : List ℕ) → 0 < length l → length l < 6 → printed_from s im n l ≡ last_line n Refusal.MalformedEvent im
-      go [] a b = absurd (omega arith)
-      go (x ∷ []) a b = refl
-      go (x ∷ y ∷ []) a b = refl
-      go (x ∷ y ∷ z ∷ []) a b = refl
-      go (x ∷ y ∷ z ∷ u ∷ []) a b = refl
-      go (x ∷ y ∷ z ∷ u ∷ v ∷ []) a b = refl
-      go (x ∷ y ∷ z ∷ u ∷ v ∷ w ∷ l) a b = absurd (omega arith)
+-- at a short last event
+pub printed_short : (s : Shape) (im : List ℕ) (n : ℕ) (rest : List ℕ) → 0 < length rest → length rest < 6
+    → printed_from s im n rest ≡ last_line n Refusal.MalformedEvent im
+unfolding printed_from
+printed_short s im n [] a b = absurd (omega arith)
+printed_short s im n (x ∷ []) a b = refl
+printed_short s im n (x ∷ y ∷ []) a b = refl
+printed_short s im n (x ∷ y ∷ z ∷ []) a b = refl
+printed_short s im n (x ∷ y ∷ z ∷ u ∷ []) a b = refl
+printed_short s im n (x ∷ y ∷ z ∷ u ∷ v ∷ []) a b = refl
+printed_short s im n (x ∷ y ∷ z ∷ u ∷ v ∷ w ∷ l) a b = absurd (omega arith)
 
 -- text written so far, and what is left to print, make the whole
 pub record Joins (o out : List ℕ) (text taken : ℕ) (left all : Printed) : Type 0 where

@@ -1,11 +1,12 @@
 -- The events of a buffer taken one after another, with their lines. Assumes nothing.
 use Rattle.std.specs.Prelude.{Err, Ok, Result, ⊤}
 use mathlib.Core.Path.{◌≡◌, refl, sym, ap, ◌∙◌}
-use mathlib.Core.List.{List}
-use Prim.Native.Nat.{ℕ, ◌+◌, ◌<◌, ◌≤◌, ◌*◌}
+use mathlib.Core.List.{List, ◌++◌}
+use Prim.Native.Nat.{ℕ, ◌+◌, ◌%◌, ◌<◌, ◌≤◌, ◌*◌}
 use native.Mathlib.Nat.{add-zero}
 use native.Mathlib.Omega.{arith}
-use lib.ListN.{length, get_or, drop, take}
+use mathlib.Core.Logic.{◌≢◌}
+use lib.ListN.{length, get_or, take, length-append}
 use lib.Seq.{length-take-le}
 use Rattle.paper.specs.Events.{event_of, happening}
 use Rattle.paper.specs.Runner.{word, line, last_line, after_line, prints_on, printed_from}
@@ -19,76 +20,81 @@ use Rattle.runner_lines.specs.Lines.{most_line}
 use Rattle.runner_events.specs.Buffers.{event_bytes, event_at, number_end, text_room, FeedsShort, Feeds, ForAnyRest, Buffered}
 use Rattle.runner_events.proofs.Printing.{printed_step, printed_none, printed_short, Joins, joins_start, joins_line, joins_end, joins_last, any_rest}
 
--- events so far: the bytes before place at are taken, and their lines are written
-pub record Going (s : Shape) (first : List ℕ) (n : ℕ) (bytes o im out : List ℕ) (at text taken : ℕ) : Type 0 where
-  pub joins : Joins o out text taken (printed_from s im (n + taken) (drop at bytes)) (printed_from s first n bytes)
+-- events so far: all bytes but the rest are taken, and their lines are written
+pub record Going (s : Shape) (first : List ℕ) (n : ℕ) (bytes o im out rest : List ℕ) (text taken : ℕ) : Type 0 where
+  pub joins : Joins o out text taken (printed_from s im (n + taken) rest) (printed_from s first n bytes)
   pub kept : length out ≡ length o
-  pub place : at ≡ event_bytes * taken
-  pub inside : at ≤ length bytes
+  pub place : length bytes ≡ event_bytes * taken + length rest
   pub room : text ≤ most_line * taken
   pub good : Lawful s im
 
 module _ (s : Shape) (first : List ℕ) (n : ℕ) (bytes o : List ℕ) where
-  pub going_start : Lawful s first → Going s first n bytes o first o 0 0 0
-  going_start h =
+  pub going_start : (rest : List ℕ) → rest ≡ bytes → Lawful s first → Going s first n bytes o first o rest 0 0
+  going_start rest e h =
       record {
-        joins = rw (add-zero n) (joins_start o (printed_from s first n bytes));
+        joins = rw (add-zero n, e) (joins_start o (printed_from s first n bytes));
         kept = refl;
-        place = refl;
-        inside = omega arith;
+        place = omega (arith, ap length e);
         room = omega arith;
         good = h;
       }
 
-  module _ (im out : List ℕ) (at text taken : ℕ) (g : Going s first n bytes o im out at text taken) where
-    pub line_room : at < length bytes → text_room bytes ≤ length o → text + most_line ≤ length out
-    line_room h r = omega (arith, g.kept, g.place, g.room)
+  module _ (im out rest : List ℕ) (text taken : ℕ) (g : Going s first n bytes o im out rest text taken) where
+    pub line_room : text_room bytes ≤ length o → text + most_line ≤ length out
+    line_room r = omega (arith, g.kept, g.place, g.room)
 
-    pub number_room : at ≤ length bytes → n + length bytes < number_end → n + taken < number_end
-    number_room h r = omega (arith, g.place)
+    pub number_room : n + length bytes < number_end → n + taken < number_end
+    number_room r = omega (arith, g.place)
 
     -- no events are left
-    pub events_end : at ≡ length bytes → text_room bytes ≤ length o → Feeds s first n bytes o im out text taken (Ok tt)
-    events_end h r =
+    pub events_end : length rest < event_bytes → length bytes % event_bytes ≡ 0 → text_room bytes ≤ length o → Feeds s first n bytes o im out text taken (Ok tt)
+    events_end l h r =
+        let none : length rest ≡ 0 = omega (arith, g.place) in
         record {
-          prints = joins_end o out text taken _ im (rw (printed_none s im (n + taken) bytes at (omega arith)) at g.joins);
+          prints = joins_end o out text taken _ im (rw (printed_none s im (n + taken) rest none) at g.joins);
           good = g.good;
           fits = omega (arith, g.place, g.room);
           few = omega (arith, g.place);
         }
 
     -- a short one is left
-    pub short_left : (out' : List ℕ) (text' taken' : ℕ) (stop : Result ⊤ Refusal) → at < length bytes → length bytes < at + 6 → text_room bytes ≤ length o
+    pub short_left : (out' : List ℕ) (text' taken' : ℕ) (stop : Result ⊤ Refusal) → length rest < event_bytes → length bytes % event_bytes ≢ 0 → text_room bytes ≤ length o
         → FeedsShort text taken n out out' text' taken' stop → Feeds s first n bytes o im out' text' taken' stop
-    short_left out' text' taken' stop h l r f =
+    short_left out' text' taken' stop l h r f =
+        let some : 0 < length rest = omega (arith, g.place, h) in
         record {
           prints =
               rw (f.counted, f.made, f.same, f.stopped) (joins_last o out text taken _ (n + taken) Refusal.MalformedEvent im
-              (rw (printed_short s im (n + taken) bytes at h l) at g.joins));
+              (rw (printed_short s im (n + taken) rest some l) at g.joins));
           good = g.good;
-          fits = omega (arith, f.small, line_room h r, g.kept);
+          fits = omega (arith, f.small, line_room r, g.kept);
           few = omega (arith, f.same, g.place);
         }
 
-    module _ (m : ℕ) (em : m ≡ n + taken) (out' : List ℕ) (text' : ℕ) where
-      -- one more is carried out
-      module _ (im' : List ℕ) (reply : Result Answer Refusal) (h : at + 6 ≤ length bytes) (is : outcome reply im' ≡ happening s im (event_at s bytes at)) (good : Lawful s im') (et : text' ≡ text + length (line m reply))
-          (small : text' ≤ text + most_line) (eo : out' ≡ written out text (line m reply)) where
-        left_is : Joins o out text taken (prints_on (n + taken) reply im' (λ next. printed_from s next (1 + (n + taken)) (drop (at + 6) bytes)))
-            (printed_from s first n bytes)
-        left_is = rw (ap (λ o. o.reply) is, ap (λ o. o.image) is, ← printed_step s im (n + taken) bytes at h) g.joins
+    -- one more is left
+    module _ (event after : List ℕ) (ee : rest ≡ event ++ after) (six : length event ≡ event_bytes) where
+      place_more : length bytes ≡ event_bytes * (taken + 1) + length after
+      place_more = omega (arith, g.place, ap length ee, length-append event after, six)
 
-        pub event_accepted : (a : Answer) → reply ≡ Ok a → Going s first n bytes o im' out' (at + 6) text' (taken + 1)
+      pub taken_more : taken + 1 ≤ length bytes
+      taken_more = omega (arith, place_more)
+
+      -- and is carried out
+      module _ (m : ℕ) (em : m ≡ n + taken) (out' : List ℕ) (text' : ℕ) (im' : List ℕ) (reply : Result Answer Refusal) (is : outcome reply im' ≡ happening s im (event_at s event 0)) (good : Lawful s im') (et : text' ≡ text + length (line m reply))
+          (small : text' ≤ text + most_line) (eo : out' ≡ written out text (line m reply)) where
+        left_is : Joins o out text taken (prints_on (n + taken) reply im' (λ next. printed_from s next (1 + (n + taken)) after)) (printed_from s first n bytes)
+        left_is = rw (ap (λ o. o.reply) is, ap (λ o. o.image) is, ← printed_step s im (n + taken) after event six, ← ee) g.joins
+
+        pub event_accepted : (a : Answer) → reply ≡ Ok a → Going s first n bytes o im' out' after text' (taken + 1)
         event_accepted a ea =
             let k : n + (taken + 1) ≡ 1 + (n + taken) = omega arith in
             let l = line (n + taken) (Ok a) in
-            let p = printed_from s im' (1 + (n + taken)) (drop (at + 6) bytes) in
+            let p = printed_from s im' (1 + (n + taken)) after in
             let j : Joins o out text taken (after_line l p) (printed_from s first n bytes) = rw ea at left_is in
             record {
               joins = rw (et, eo, em, ea, k) (joins_line o out text taken _ l p j);
               kept = rw eo (written_length out text (line m reply) ∙ g.kept);
-              place = omega (arith, g.place);
-              inside = h;
+              place = place_more;
               room = omega (arith, g.room);
               good = good;
             }
@@ -99,7 +105,7 @@ module _ (s : Shape) (first : List ℕ) (n : ℕ) (bytes o : List ℕ) where
             record {
               prints = rw (et, eo, em, ea) (joins_last o out text taken _ (n + taken) r im' j);
               good = good;
-              fits = omega (arith, line_room (omega arith) room, g.kept);
+              fits = omega (arith, line_room room, g.kept);
               few = omega (arith, g.place);
             }
 

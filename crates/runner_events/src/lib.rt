@@ -17,7 +17,8 @@ use runner_lines::put_line;
 // The bytes of an event: its kind, its device and its character, a word each.
 pub const EVENT_BYTES: usize = WORD_BYTES * EVENT_WORDS;
 
-// What came of the events of a buffer: how many bytes of text were written, how many events were taken, and whether one was refused.
+// What came of the events of a buffer: how many bytes of text were written and how many events were taken, which is so much also
+// where one was refused, and whether one was.
 #[derive(Clone, Copy)]
 pub struct Fed {
     pub text: usize,
@@ -25,23 +26,22 @@ pub struct Fed {
     pub stop: Result<(), Refusal>,
 }
 
-// Carries out the event whose bytes start at a place.
-fn step_at(
+// Carries out the event of some bytes.
+fn step_by(
     s: Shape,
     im: &mut [u16],
     table: &[u16; HIGH_BYTES],
-    bytes: &[u8],
-    at: usize,
+    event: &[u8],
 ) -> Result<Answer, Refusal>
     requires lawful { Lawful s im.old }
     requires order_table { OrderTable table.now }
-    requires event_bytes_in_bounds { at + event_bytes ≤ length bytes.now }
-    ensures im_after { outcome result im.new ≡ happening s im.old (event_at s bytes.now at) }
+    requires event_len { length event.now ≡ event_bytes }
+    ensures im_after { outcome result im.new ≡ happening s im.old (event_at s event.now 0) }
     ensures lawful_2 { Lawful s im.new }
 {
-    let kind = word(bytes[at], bytes[at + 1]);
-    let device = word(bytes[at + 2], bytes[at + 3]);
-    let character = word(bytes[at + 4], bytes[at + 5]);
+    let kind = word(event[0], event[1]);
+    let device = word(event[2], event[3]);
+    let character = word(event[4], event[5]);
     step(s, im, table, kind, device, character)
 }
 
@@ -54,7 +54,7 @@ fn feed_short(text: usize, taken: usize, n: u64, out: &mut [u8]) -> Fed
     let short = Err(Refusal::MalformedEvent);
     Fed {
         text: put_line(out, text, n + taken as u64, short),
-        taken: taken,
+        taken,
         stop: Err(Refusal::MalformedEvent),
     }
 }
@@ -74,30 +74,26 @@ fn feed(
     requires bytes_in_bounds { text_room bytes.now ≤ length out.old }
     ensures { Feeds s im.old n bytes.now out.old im.new out.new result.text result.taken result.stop }
 {
-    let mut at: usize = 0;
     let mut text: usize = 0;
     let mut taken: usize = 0;
-    while bytes.len() - at >= EVENT_BYTES {
-        let reply = step_at(s, im, table, bytes, at);
+    for event in bytes.chunks_exact(EVENT_BYTES) {
+        let reply = step_by(s, im, table, event);
         text = put_line(out, text, n + taken as u64, reply);
         match reply {
-            Ok(_) => {
-                taken += 1;
-                at += EVENT_BYTES;
-            }
+            Ok(_) => taken += 1,
             Err(r) => {
                 return Fed {
-                    text: text,
-                    taken: taken,
+                    text,
+                    taken,
                     stop: Err(r),
                 };
             }
         }
     }
-    if at == bytes.len() {
+    if bytes.len() % EVENT_BYTES == 0 {
         return Fed {
-            text: text,
-            taken: taken,
+            text,
+            taken,
             stop: Ok(()),
         };
     }
