@@ -5,6 +5,7 @@
 mod taking;
 
 ghost use Rattle.std.specs.Prelude.{◌≡◌, length, Ok};
+ghost use Rattle.std.specs.Result.{result_ok};
 ghost use Rattle.paper.specs.Image.{total};
 ghost use Rattle.paper.specs.Numbers.{check_plan};
 ghost use Rattle.laws.specs.Events.{Lawful};
@@ -14,8 +15,8 @@ ghost use Rattle.runner_files.specs.Turns.{LoadedPlan};
 
 use builds::build;
 use disk::{
-    IMAGE_BYTES, IMAGE_WORDS, Outcome, Source, Start, Words, ended, load_image, load_start,
-    open_source, put_text, save, say, standard_output,
+    IMAGE_BYTES, IMAGE_WORDS, Outcome, Start, ended, fail, load_image, load_start, open_source,
+    put_text, save, say, standard_output,
 };
 use files::{PLAN_BYTES, PLAN_WORDS, is_odd, read_plan};
 use inspect::inspect;
@@ -23,6 +24,8 @@ use paper::{MOST_WORDS, Refusal, Shape};
 use plans::{shape_of_plan, total_of};
 use runner_lines::{MOST_LINE, put_line};
 use saying::{say_refused_image, say_refused_plan};
+use std::fs::File;
+use std::io::ErrorKind;
 use taking::run_events;
 
 // The number that a refused plan or image has in place of an event's.
@@ -32,6 +35,21 @@ const REFUSED_START: u64 = 0;
 fn say_missing(rt: &HostRuntime, path: &[u8]) {
     say(rt, path);
     say(rt, b": missing, it counts as empty\n");
+}
+
+// Opens a file to read it; where it is missing, or cannot be opened, that is said.
+fn open_if_there(rt: &HostRuntime, path: &[u8]) -> Result<Option<File>, Outcome> {
+    match open_source(rt, path) {
+        Ok(file) => Ok(Some(file)),
+        Err(error) if error.kind() == ErrorKind::NotFound => {
+            say_missing(rt, path);
+            Ok(None)
+        }
+        Err(error) => {
+            fail(rt, path, error);
+            Err(Outcome::Unread)
+        }
+    }
 }
 
 // Prints the line of a refused plan or image.
@@ -63,13 +81,10 @@ fn refuse_image(rt: &HostRuntime, path: &[u8], im: &[u16], r: Refusal) -> Outcom
 fn run_events_file(rt: &HostRuntime, s: Shape, im: &mut [u16], path: &[u8]) -> Outcome
     requires { Lawful s im.old }
 {
-    match open_source(rt, path) {
-        Source::File(mut file) => run_events(rt, path, &mut file, s, im),
-        Source::Missing => {
-            say_missing(rt, path);
-            Outcome::Done
-        }
-        Source::Nothing => Outcome::Unread,
+    match open_if_there(rt, path) {
+        Ok(Some(mut file)) => run_events(rt, path, &mut file, s, im),
+        Ok(None) => Outcome::Done,
+        Err(outcome) => outcome,
     }
 }
 
@@ -90,7 +105,7 @@ fn run_image(rt: &HostRuntime, s: Shape, im: &mut [u16], events: &[u8], saved: &
     requires { Lawful s im.old }
 {
     let ran = run_events_file(rt, s, im, events);
-    if saved.len() == 0 {
+    if saved.is_empty() {
         return ran;
     }
     save_after(rt, ran, im, saved)
@@ -123,48 +138,49 @@ fn run_plan(rt: &HostRuntime, plan: &[u16], events: &[u8], saved: &[u8]) -> Outc
 }
 
 // Reads a plan's file to its end; a missing one counts as empty.
-fn load_plan(rt: &HostRuntime, path: &[u8], buffer: &mut [u8]) -> Start
-    ensures { Starts buffer.new result }
+fn load_plan(rt: &HostRuntime, path: &[u8], buffer: &mut [u8]) -> Result<Start, Outcome>
+    ensures { Starts buffer.new (result_ok result) }
 {
-    match open_source(rt, path) {
-        Source::File(mut file) => load_start(rt, path, &mut file, buffer),
-        Source::Missing => {
-            say_missing(rt, path);
-            Start::Bytes(0, false)
-        }
-        Source::Nothing => Start::Nothing,
-    }
+    let Some(mut file) = open_if_there(rt, path)? else {
+        return Ok(Start {
+            bytes: 0,
+            odd: false,
+        });
+    };
+    load_start(rt, path, &mut file, buffer).ok_or(Outcome::Unread)
 }
 
-// Runs on the plan of a file, of which so many bytes are in a buffer, with an odd count of bytes after them or not.
+// Runs on the plan of a file, the start of which is in a buffer.
 fn run_loaded_plan(
     rt: &HostRuntime,
     path: &[u8],
     buffer: &[u8],
-    found: usize,
-    odd: bool,
+    start: Start,
     events: &[u8],
     saved: &[u8],
 ) -> Outcome
-    requires { LoadedPlan buffer.now found odd }
+    requires { LoadedPlan buffer.now start.bytes start.odd }
 {
     let mut words = [0u16; PLAN_WORDS];
-    let plan = read_plan(buffer, found, odd, &mut words);
+    let plan = read_plan(buffer, start.bytes, start.odd, &mut words);
     let count = plan.words;
     let verdict = plan.verdict;
     match verdict {
         Ok(()) => run_plan(rt, &words[..count], events, saved),
-        Err(r) => refuse_plan(rt, path, &words[..count], is_odd(odd, found), r),
+        Err(r) => {
+            let odd = is_odd(start.odd, start.bytes);
+            refuse_plan(rt, path, &words[..count], odd, r)
+        }
     }
 }
 
 // Runs on the plan of a file.
 fn run_plan_file(rt: &HostRuntime, path: &[u8], events: &[u8], saved: &[u8]) -> Outcome {
     let mut buffer = [0u8; PLAN_BYTES];
-    let Start::Bytes(found, odd) = load_plan(rt, path, &mut buffer) else {
-        return Outcome::Unread;
-    };
-    run_loaded_plan(rt, path, &buffer, found, odd, events, saved)
+    match load_plan(rt, path, &mut buffer) {
+        Ok(start) => run_loaded_plan(rt, path, &buffer, start, events, saved),
+        Err(outcome) => outcome,
+    }
 }
 
 // Runs on the words of an image's file.
@@ -187,7 +203,7 @@ fn run_loaded_image(
 fn run_image_file(rt: &HostRuntime, path: &[u8], events: &[u8], saved: &[u8]) -> Outcome {
     let mut buffer = [0u8; IMAGE_BYTES];
     let mut words = [0u16; IMAGE_WORDS];
-    let Words::Count(count) = load_image(rt, path, &mut buffer, &mut words) else {
+    let Some(count) = load_image(rt, path, &mut buffer, &mut words) else {
         return Outcome::Unread;
     };
     run_loaded_image(rt, path, &mut words[..count], events, saved)
@@ -202,7 +218,7 @@ pub fn run_files(
     image: &[u8],
     saved: &[u8],
 ) -> Outcome {
-    if image.len() == 0 {
+    if image.is_empty() {
         return run_plan_file(rt, plan, events, saved);
     }
     run_image_file(rt, image, events, saved)

@@ -4,16 +4,15 @@ use Prim.Native.Nat.{ℕ}
 use native.Mathlib.Omega.{arith}
 use lib.ListN.{length-replicate}
 use borrow.Author.Rules.{rules}
-use Rattle.runner_files.proofs.Turning.{turned_few, turned_kept}
 use Rattle.runner_files.proofs.taking.run_events.Goals as goal
 
-pub loop-turns-init : goal.loop-turns-init
-loop-turns-init g c =
+pub loop-turn-init : goal.loop-turn-init
+loop-turn-init g c =
     ((c.requires, refl), (length-replicate {A = ℕ} 24576 0, length-replicate {A = ℕ} 131104 0), (omega arith, omega arith))
 
 pub run_turn-requires : goal.run_turn-requires
 run_turn-requires g c =
-    let l = c.loop-turns.invariant in
+    let l = c.loop-turn.invariant in
     record {
       lawful = l.0.0;
       order_table = c.laid_out-table.ensures;
@@ -22,10 +21,10 @@ run_turn-requires g c =
     }
 
 pub overflow_add-n : goal.overflow_add-n
-overflow_add-n g c = omega (arith, turned_few _ _ _ c.in-On.is c.run_turn.ensures.turns, c.loop-turns.invariant.2.1)
+overflow_add-n g c = omega (arith, c.in-Ok.ensures.turns.0, c.loop-turn.invariant.2.1)
 
-pub loop-turns-preserved : goal.loop-turns-preserved
-loop-turns-preserved g c =
-    let l = c.loop-turns.invariant in
+pub loop-turn-preserved : goal.loop-turn-preserved
+loop-turn-preserved g c =
+    let l = c.loop-turn.invariant in
     let e = c.run_turn.ensures in
-    ((e.lawful_2, search rules), (search rules, search rules), (search turned_kept, omega (arith, turned_few _ _ _ c.in-On.is e.turns, l.2.1)))
+    ((e.lawful_2, search rules), (search rules, search rules), (c.in-Ok.ensures.turns.1, omega (arith, c.in-Ok.ensures.turns.0, l.2.1)))
