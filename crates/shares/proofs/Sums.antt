@@ -2,14 +2,15 @@
 use mathlib.Core.Path.{◌≡◌, refl, sym, ap, ◌∙◌}
 use mathlib.Core.Bool.{Bool, true, false, cond}
 use mathlib.Core.List.{List, [], ◌∷◌, ◌++◌}
-use Prim.Native.Nat.{ℕ, suc, ◌+◌, ◌-◌, ◌*◌, ◌<◌, ◌≤◌}
+use Prim.Native.Nat.{ℕ, ◌+◌, ◌-◌, ◌*◌, ◌<◌, ◌≤◌}
 use native.Mathlib.Omega.{arith}
-use lib.ListN.{length, get_or, take, drop, length-drop, take-append-drop}
-use lib.Seq.{take-suc, take_all, get_or-drop}
+use lib.ListN.{take, drop, take-append-drop}
 use lib.Dec.{ltb}
 use borrow.Author.Tests.{lt-ltb, le-ltb}
+use Rattle.std.specs.Prelude.{sum as list_sum}
+use Rattle.std.proofs.lemmas.List.Recursion.{is_sum_by}
 use Rattle.paper.specs.Image.{most_tasks}
-use Rattle.paper.specs.Counts.{sum, all_counts, headings, task_ticks, all_ticks}
+use Rattle.paper.specs.Counts.{sum, headings, task_ticks, all_ticks}
 
 -- of two lists, one after the other
 pub sum_joined : (l m : List ℕ) → sum (l ++ m) ≡ sum l + sum m
@@ -27,36 +28,10 @@ sum_part from n l = omega (
   ap sum (take-append-drop from l),
 )
 
--- none yet; one count more
-pub sum_none : (from : ℕ) (l : List ℕ) → 0 ≡ sum (take (from - from) (drop from l))
+-- the library adds up as the paper does
+pub sum_listed : (l : List ℕ) → list_sum l ≡ sum l
 unfolding sum
-sum_none from l =
-    let e : 0 ≡ from - from = omega arith in
-    ap (λ (n : ℕ). sum (take n (drop from l))) e
-
-one_more : (from n : ℕ) (l : List ℕ) → from + n < length l → sum (take (suc n) (drop from l)) ≡ sum (take n (drop from l)) + get_or l (from + n) 0
-unfolding sum
-one_more from n l h =
-    ap sum (take-suc (drop from l) n 0 (omega (arith, length-drop from l))) ∙
-    sum_joined (take n (drop from l)) (get_or (drop from l) n 0 ∷ []) ∙
-    omega (arith, get_or-drop from l n 0)
-
-pub sum_next : (from k ticks : ℕ) (l : List ℕ) → from ≤ k → k < length l → ticks ≡ sum (take (k - from) (drop from l))
-    → ticks + get_or l k 0 ≡ sum (take (k + 1 - from) (drop from l))
-sum_next from k ticks l h p q =
-    let e : k + 1 - from ≡ suc (k - from) = omega arith in
-    let a : from + (k - from) ≡ k = omega arith in
-    ap (λ (t : ℕ). t + get_or l k 0) q ∙
-    ap (λ (j : ℕ). sum (take (k - from) (drop from l)) + get_or l j 0) (sym a) ∙
-    sym (one_more from (k - from) l (omega arith)) ∙ ap (λ (n : ℕ). sum (take n (drop from l))) (sym e)
-
--- up to the last of them
-pub sum_up_to : (from k to ticks : ℕ) (l : List ℕ) → k ≡ to → ticks ≡ sum (take (k - from) (drop from l)) → ticks ≡ sum (take (to - from) (drop from l))
-sum_up_to from k to ticks l e p = p ∙ ap (λ (n : ℕ). sum (take (n - from) (drop from l))) e
-
--- all of them are the list
-pub sum_all : (ticks : ℕ) (l : List ℕ) → length l ≡ all_counts → ticks ≡ sum (take (all_counts - 0) (drop 0 l)) → ticks ≡ sum l
-sum_all ticks l h p = p ∙ ap sum (take_all all_counts l (omega arith))
+sum_listed l = sym (is_sum_by sum (λ x. x) refl (λ n l. refl) l)
 
 -- the ticks of a task: those of its row; one that has no row has none
 pub row_ticks : (ticks i : ℕ) (l : List ℕ) → i < most_tasks → ticks ≡ sum (take (headings * i + headings - headings * i) (drop (headings * i) l))

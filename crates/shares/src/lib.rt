@@ -1,7 +1,7 @@
 // Who used the machine: the ticks of a task, all ticks, and the task's share of them.
 #![tactic(auto)]
 
-ghost use Rattle.std.specs.Prelude.{◌≡◌, ◌-◌, ◌<◌, ◌≤◌, length, take, drop};
+ghost use Rattle.std.specs.Prelude.{◌≡◌, ◌<◌, ◌≤◌, length};
 ghost use Rattle.paper.specs.Counts.{all_counts, sum, task_ticks as ticks_of_task, all_ticks as ticks_of_all};
 ghost use Rattle.paper.specs.Promises.{Shares};
 ghost use Rattle.shares.specs.Percent.{sums_end, percent};
@@ -13,20 +13,13 @@ const WHOLE: u64 = 10000;
 
 const HALVES: u64 = 2;
 
-// The sum of the counts from a place on, up to another.
-fn sum_of(counts: &[u32], from: usize, to: usize) -> u64
-    requires counts_len { length counts.now ≡ all_counts }
-    requires from_le_to { (from ≤ to) × (to ≤ all_counts) }
-    ensures value { result ≡ sum (take (to - from) (drop from counts.now)) }
+// The sum of counts, of which there are no more than all.
+fn sum_of(counts: &[u32]) -> u64
+    requires { length counts.now ≤ all_counts }
+    ensures value { result ≡ sum counts.now }
     ensures upper_bound { result < sums_end }
 {
-    let mut ticks: u64 = 0;
-    let mut k = from;
-    while k < to {
-        ticks += counts[k] as u64;
-        k += 1;
-    }
-    ticks
+    counts.iter().map(|count| u64::from(*count)).sum()
 }
 
 // The ticks of a task: its headings together; a task that cannot be has none.
@@ -38,7 +31,7 @@ pub fn task_ticks(counts: &[u32], task: u16) -> u64
     let i = task as usize;
     if i < MOST_TASKS {
         let row = HEADINGS * i;
-        return sum_of(counts, row, row + HEADINGS);
+        return sum_of(&counts[row..row + HEADINGS]);
     }
     0
 }
@@ -49,7 +42,7 @@ pub fn all_ticks(counts: &[u32]) -> u64
     ensures value { result ≡ ticks_of_all counts.now }
     ensures upper_bound { result < sums_end }
 {
-    sum_of(counts, 0, COUNTS)
+    sum_of(counts)
 }
 
 // A task's share of all ticks, of a list that has every count: one division, rounded once.
@@ -67,7 +60,7 @@ pub fn share_on(counts: &[u32], task: u16) -> Option<f64>
     Some(part / whole)
 }
 
-// A task's share of all ticks.
+// A task's share of all ticks: the public call (docs/PROMISES.md), on an array; share_on stays for C, which lends a list.
 pub fn share(counts: &[u32; COUNTS], task: u16) -> Option<f64>
     ensures { Shares counts.now task result }
 {

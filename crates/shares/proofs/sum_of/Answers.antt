@@ -1,24 +1,16 @@
--- The counts before k are added up.
-use native.Mathlib.Omega.{arith}
-use Rattle.shares.proofs.Sums.{sum_none, sum_next, sum_up_to}
+-- The library's sum of the counts is the paper's, and no count is above its end.
+use Rattle.std.proofs.Common.{◌≡◌, ◌∙◌, arith, rules}
+use Rattle.std.specs.Prelude.{sum as list_sum}
+use Rattle.counting.specs.Growing.{sum_bounded}
+use Rattle.shares.proofs.Sums.{sum_listed}
 use Rattle.shares.proofs.sum_of.Goals as goal
 
-pub loop-k-init : goal.loop-k-init
-loop-k-init c = (omega arith, omega arith, sum_none c.args.from c.args.counts.now, omega arith)
+pub returns-clause-value : goal.returns-clause-value
+returns-clause-value c =
+    let e : c.sum.result ≡ list_sum c.args.counts.now = search rules in
+    e ∙ sum_listed _
 
-pub overflow_cast-ticks : goal.overflow_cast-ticks
-overflow_cast-ticks c = omega (arith, c.type_inv.counts c.loop-k.k)
-
-pub overflow_add-ticks : goal.overflow_add-ticks
-overflow_add-ticks c = omega (arith, c.type_inv.counts c.loop-k.k)
-
-pub loop-k-preserved : goal.loop-k-preserved
-loop-k-preserved c = (
-  omega arith,
-  omega arith,
-  sum_next c.args.from c.loop-k.k c.loop-k.ticks c.args.counts.now (omega arith) (omega arith) c.loop-k.invariant.2,
-  omega (arith, c.type_inv.counts c.loop-k.k),
-)
-
-pub returns : goal.returns
-returns c = record { value = sum_up_to c.args.from c.loop-k.k c.args.to c.loop-k.ticks c.args.counts.now (omega arith) c.loop-k.invariant.2; upper_bound = omega arith }
+pub returns-clause-upper_bound : goal.returns-clause-upper_bound
+returns-clause-upper_bound c =
+    let e : c.sum.result ≡ list_sum c.args.counts.now = search rules in
+    omega (arith, sum_listed c.args.counts.now, sum_bounded c.args.counts.now (λ k. omega (arith, c.type_inv.counts k)))
