@@ -4,6 +4,8 @@
 ghost use Rattle.std.specs.Prelude.{◌≡◌, length};
 ghost use Rattle.paper.specs.Image.{ord, total};
 ghost use Rattle.paper.specs.Plans.{fresh_part, fresh};
+ghost use Rattle.paper.specs.Numbers.{check_build};
+ghost use Rattle.paper.specs.Calls.{built};
 ghost use Rattle.paper.specs.Promises.{Builds};
 ghost use Rattle.paper.specs.declared.Part.TheVariants.{Header, ReadyQueue, StatusTable, Ports};
 ghost use Rattle.plans.specs.Sizes.{Packed};
@@ -15,7 +17,7 @@ use fresh_parts::{
     put_header, put_lead, put_numbers, put_queues, put_segments, put_table, put_tasks,
 };
 use numbers::number_of_verdict;
-use paper::{NOT_REFUSED, PORT_WORDS, Place, Refusal, SEGMENTS, STATUS_WORDS, Shape};
+use paper::{PORT_WORDS, Place, Refusal, SEGMENTS, STATUS_WORDS, Shape};
 use plans::{shape_sized, size};
 use writes::put_zeros;
 
@@ -80,19 +82,22 @@ fn put_image(s: Shape, plan: &[u16], out: &mut [u16])
     put_rest(s, plan, out, ports);
 }
 
+// Builds the image of a plan in the target, where the target has just its words.
+fn build_in(plan: &[u16], target: &mut [u16]) -> Result<(), Refusal>
+    ensures verdict { result ≡ check_build plan.now target.old }
+    ensures left { target.new ≡ built plan.now target.old }
+{
+    let whole = size(plan)?;
+    if target.len() != whole {
+        return Err(Refusal::WrongTarget);
+    }
+    put_image(shape_sized(plan, whole), plan, target);
+    Ok(())
+}
+
 // Builds the image of a plan in the target: the number of the refusal, or 0.
 pub fn build(plan: &[u16], target: &mut [u16]) -> u16
     ensures { Builds plan.now target.old result target.new }
 {
-    let found = size(plan);
-    match found {
-        Err(r) => number_of_verdict(Err(r)),
-        Ok(whole) => {
-            if target.len() != whole {
-                return number_of_verdict(Err(Refusal::WrongTarget));
-            }
-            put_image(shape_sized(plan, whole), plan, target);
-            NOT_REFUSED
-        }
-    }
+    number_of_verdict(build_in(plan, target))
 }
