@@ -1,7 +1,7 @@
 // The rows and parts of a fresh image: each call writes words from a place of the image on, and answers where the next word goes.
 #![tactic(auto)]
 
-ghost use Rattle.std.specs.Prelude.{◌≡◌, true, [], ◌∷◌, ◌++◌, ◌+◌, ◌-◌, ◌≤◌, length as list_length, take, drop, replicate};
+ghost use Rattle.std.specs.Prelude.{◌≡◌, true, [], ◌∷◌, ◌++◌, ◌+◌, ◌-◌, ◌≤◌, length as list_length, replicate};
 ghost use Rattle.paper.specs.Image.{header_words, most_tasks, most_capacity, most_words, header, total, place_at};
 ghost use Rattle.paper.specs.Plans.{joined, fresh_queue, fresh_part};
 ghost use Rattle.paper.specs.declared.Part.TheVariants.{TaskTable, SegmentTable, Segments};

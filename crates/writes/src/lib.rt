@@ -1,7 +1,7 @@
 // Words written one after another into any list of words, from an index on: each call answers where the next word goes.
 #![tactic(auto)]
 
-ghost use Rattle.std.specs.Prelude.{◌≡◌, [], ◌∷◌, ◌+◌, ◌<◌, ◌≤◌, length, take, drop, replicate};
+ghost use Rattle.std.specs.Prelude.{◌≡◌, [], ◌∷◌, ◌+◌, ◌<◌, ◌≤◌, length, replicate};
 ghost use Rattle.writes.specs.Written.{written};
 
 // Writes one word.
