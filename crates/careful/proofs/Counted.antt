@@ -80,11 +80,15 @@ module _ (s : Shape) (im counts events : List ℕ) where
         rw e at one_next ∙ ap (λ (n : ℕ). record { taken = n; stop = Err f; image = out; counts = next }) none
 
   -- no event is left
-  pub counted_all : (k all : ℕ) (m more : List ℕ) → length events % 3 ≡ 0 → all ≡ length events / 3 → k ≤ all → all ≤ k → CountedFrom s im counts events k m more
+  counted_so_far : (k all : ℕ) (m more : List ℕ) → length events % 3 ≡ 0 → all ≡ length events / 3 → k ≤ all → all ≤ k → CountedFrom s im counts events k m more
       → CountsAll s im counts events k (Ok tt) m more
   unfolding CountedFrom CountsAll
-  counted_all k all m more whole ea low done h =
+  counted_so_far k all m more whole ea low done h =
       let end : 3 * k ≡ length events = omega arith in
       let none : k + 0 ≡ k = omega arith in
       h ∙ ap (λ l. after k (report_from s m more l)) (ap (λ (j : ℕ). drop j events) end ∙ drop-length events) ∙
       ap (λ (n : ℕ). record { taken = n; stop = Ok tt; image = m; counts = more }) none
+
+  pub counted_all : (k all : ℕ) (m more : List ℕ) → length events % 3 ≡ 0 → all ≡ length events / 3 → k ≤ all → all ≤ k → CountedFrom s im counts events k m more
+      → CountsAll s im counts events all (Ok tt) m more
+  counted_all k all m more whole ea low done h = let z : all ≡ k = omega arith in rw z (counted_so_far k all m more whole ea low done h)

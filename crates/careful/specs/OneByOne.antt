@@ -1,14 +1,10 @@
 -- Events counted one by one; shut, as contracts say it.
-use Rattle.std.specs.Prelude.{◌≡◌, List, ℕ, length, take, Result, ⊤}
+use Rattle.std.specs.Prelude.{◌≡◌, List, ℕ, Result, ⊤}
 use Rattle.paper.specs.Counts.{counted_event, report_from}
 use Rattle.paper.specs.declared.Shape.{Shape}
 use Rattle.paper.specs.declared.Event.{Event}
 use Rattle.paper.specs.declared.Answer.{Answer}
 use Rattle.paper.specs.declared.Refusal.{Refusal}
-
--- a list begins with the words of another
-unfoldable pub Begins : List ℕ → List ℕ → Type 0
-Begins l words = take (length words) l ≡ words
 
 -- a counted event comes to a reply, an image and counts
 unfoldable pub CountsOne : Shape → List ℕ → List ℕ → Event → Result Answer Refusal → List ℕ → List ℕ → Type 0

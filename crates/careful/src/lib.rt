@@ -1,28 +1,16 @@
 // Events counted one by one, where a count may be at its end: each event is tried on a copy of the image first, which tells its answer.
 #![tactic(auto)]
 
-ghost use Rattle.std.specs.Prelude.{◌≡◌, ◌%◌, ◌≤◌, length};
+ghost use Rattle.std.specs.Prelude.{◌≡◌, ◌%◌, length};
 ghost use Rattle.paper.specs.Image.{most_words};
 ghost use Rattle.paper.specs.Events.{event_of, happening};
 ghost use Rattle.laws.specs.Events.{Lawful};
 ghost use Rattle.order_table.specs.Entries.{OrderTable};
-ghost use Rattle.careful.specs.OneByOne.{Begins, CountsOne, CountsAll};
+ghost use Rattle.careful.specs.OneByOne.{CountsOne, CountsAll};
 
 use counting::{count, passes_end, tally_of};
 use happening::step;
 use paper::{Answer, EVENT_WORDS, Ended, HIGH_BYTES, MOST_WORDS, Refusal, Shape};
-
-// Copies the words of an image to the first words of a list.
-fn copy_words(im: &[u16], copy: &mut [u16])
-    requires { length im.now ≤ length copy.old }
-    ensures { Begins copy.new im.now }
-{
-    let mut k: usize = 0;
-    while k < im.len() {
-        copy[k] = im[k];
-        k += 1;
-    }
-}
 
 // The reply that an event would have.
 fn foretold(
@@ -39,9 +27,9 @@ fn foretold(
     requires copy_len { length copy.old ≡ most_words }
     ensures { result ≡ (happening s im.now (event_of s kind device character)).reply }
 {
-    copy_words(im, copy);
-    let words = im.len();
-    step(s, &mut copy[..words], table, kind, device, character)
+    let tried = &mut copy[..im.len()];
+    tried.copy_from_slice(im);
+    step(s, tried, table, kind, device, character)
 }
 
 // One event, counted: 17 is tested last, and what is refused alters nothing.
@@ -61,18 +49,13 @@ fn count_event(
     ensures counts_one { CountsOne s im.old counts.old (event_of s kind device character) result im.new counts.new }
     ensures lawful_2 { Lawful s im.new }
 {
-    let reply = foretold(s, im, table, copy, kind, device, character);
-    match reply {
-        Ok(a) => {
-            let t = tally_of(a);
-            if passes_end(counts, t) {
-                return Err(Refusal::CountFull);
-            }
-            count(counts, t);
-            step(s, im, table, kind, device, character)
-        }
-        Err(r) => Err(r),
+    let a = foretold(s, im, table, copy, kind, device, character)?;
+    let t = tally_of(a);
+    if passes_end(counts, t) {
+        return Err(Refusal::CountFull);
     }
+    count(counts, t);
+    step(s, im, table, kind, device, character)
 }
 
 // Counts the events of a list one by one, up to the first refused one, with room for a copy of the image.
@@ -92,8 +75,7 @@ fn count_all(
     ensures lawful_2 { Lawful s im.new }
 {
     let all = events.len() / EVENT_WORDS;
-    let mut taken: usize = 0;
-    while taken < all {
+    for taken in 0..all {
         let at = EVENT_WORDS * taken;
         let reply = count_event(
             s,
@@ -107,14 +89,13 @@ fn count_all(
         );
         if let Err(r) = reply {
             return Ended {
-                taken: taken,
+                taken,
                 stop: Err(r),
             };
         }
-        taken += 1;
     }
     Ended {
-        taken: taken,
+        taken: all,
         stop: Ok(()),
     }
 }

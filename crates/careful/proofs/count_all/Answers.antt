@@ -1,4 +1,5 @@
 -- So many events are counted, and the rest of the list is left.
+use mathlib.Core.Path.{refl}
 use native.Mathlib.Omega.{arith}
 use Rattle.happening.proofs.Taking.{lawful_long, event_there}
 use Rattle.careful.proofs.Counted.{counted_none, counted_more, counted_refused, counted_all}
@@ -6,7 +7,7 @@ use borrow.Author.Rules.{rules}
 use Rattle.careful.proofs.count_all.Goals as goal
 
 pub loop-taken-init : goal.loop-taken-init
-loop-taken-init c = (search rules, counted_none _ _ _ _, omega arith, search rules, search rules)
+loop-taken-init c = (search rules, counted_none _ _ _ _, search rules, search rules)
 
 pub count_event-reply-requires : goal.count_event-reply-requires
 count_event-reply-requires c = record { lawful = search rules; order_table = search rules; copy_len = omega arith }
@@ -18,7 +19,9 @@ pub returns-in-Err : goal.returns-in-Err
 returns-in-Err c = record { counts_all = search (counted_refused, event_there); lawful_2 = search rules }
 
 pub loop-taken-preserved : goal.loop-taken-preserved
-loop-taken-preserved c = (search rules, search (counted_more, event_there), omega arith, omega arith, omega arith)
+loop-taken-preserved c =
+    let whole = event_there c.args.events.now _ _ refl c.loop-taken-test.true in
+    (search rules, counted_more _ _ _ _ _ _ _ c.loop-taken.invariant.1 whole _ _ _ c.count_event-reply.ensures.counts_one _ c.in_default.is, omega arith, omega arith)
 
 pub shape_of-im : goal.shape_of-im
 shape_of-im c = search lawful_long
