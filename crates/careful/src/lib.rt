@@ -2,7 +2,6 @@
 #![tactic(auto)]
 
 ghost use Rattle.std.specs.Prelude.{◌≡◌, ◌%◌, length};
-ghost use Rattle.paper.specs.Image.{most_words};
 ghost use Rattle.paper.specs.Events.{event_of, happening};
 ghost use Rattle.laws.specs.Events.{Lawful};
 ghost use Rattle.order_table.specs.Entries.{OrderTable};
@@ -17,14 +16,13 @@ fn foretold(
     s: Shape,
     im: &[u16],
     table: &[u16; HIGH_BYTES],
-    copy: &mut [u16],
+    copy: &mut [u16; MOST_WORDS],
     kind: u16,
     device: u16,
     character: u16,
 ) -> Result<Answer, Refusal>
     requires lawful { Lawful s im.now }
     requires order_table { OrderTable table.now }
-    requires copy_len { length copy.old ≡ most_words }
     ensures { result ≡ (happening s im.now (event_of s kind device character)).reply }
 {
     let tried = &mut copy[..im.len()];
@@ -37,7 +35,7 @@ fn count_event(
     s: Shape,
     im: &mut [u16],
     table: &[u16; HIGH_BYTES],
-    copy: &mut [u16],
+    copy: &mut [u16; MOST_WORDS],
     counts: &mut [u32],
     kind: u16,
     device: u16,
@@ -45,7 +43,6 @@ fn count_event(
 ) -> Result<Answer, Refusal>
     requires lawful { Lawful s im.old }
     requires order_table { OrderTable table.now }
-    requires copy_len { length copy.old ≡ most_words }
     ensures counts_one { CountsOne s im.old counts.old (event_of s kind device character) result im.new counts.new }
     ensures lawful_2 { Lawful s im.new }
 {
@@ -63,13 +60,12 @@ fn count_all(
     s: Shape,
     im: &mut [u16],
     table: &[u16; HIGH_BYTES],
-    copy: &mut [u16],
+    copy: &mut [u16; MOST_WORDS],
     counts: &mut [u32],
     events: &[u16],
 ) -> Ended
     requires lawful { Lawful s im.old }
     requires order_table { OrderTable table.now }
-    requires copy_len { length copy.old ≡ most_words }
     requires events_len { length events.now % 3 ≡ 0 }
     ensures counts_all { CountsAll s im.old counts.old events.now result.taken result.stop im.new counts.new }
     ensures lawful_2 { Lawful s im.new }

@@ -7,10 +7,10 @@ use borrow.Author.Rules.{rules}
 use Rattle.careful.proofs.count_all.Goals as goal
 
 pub loop-taken-init : goal.loop-taken-init
-loop-taken-init c = (search rules, counted_none _ _ _ _, search rules, search rules)
+loop-taken-init c = (search rules, counted_none _ _ _ _, search rules)
 
 pub count_event-reply-requires : goal.count_event-reply-requires
-count_event-reply-requires c = record { lawful = search rules; order_table = search rules; copy_len = omega arith }
+count_event-reply-requires c = record { lawful = search rules; order_table = search rules }
 
 pub shape_of-im-in-Err : goal.shape_of-im-in-Err
 shape_of-im-in-Err c = search lawful_long
@@ -21,7 +21,7 @@ returns-in-Err c = record { counts_all = search (counted_refused, event_there); 
 pub loop-taken-preserved : goal.loop-taken-preserved
 loop-taken-preserved c =
     let whole = event_there c.args.events.now _ _ refl c.loop-taken-test.true in
-    (search rules, counted_more _ _ _ _ _ _ _ c.loop-taken.invariant.1 whole _ _ _ c.count_event-reply.ensures.counts_one _ c.in_default.is, omega arith, omega arith)
+    (search rules, counted_more _ _ _ _ _ _ _ c.loop-taken.invariant.1 whole _ _ _ c.count_event-reply.ensures.counts_one _ c.in_default.is, omega arith)
 
 pub shape_of-im : goal.shape_of-im
 shape_of-im c = search lawful_long

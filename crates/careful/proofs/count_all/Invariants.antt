@@ -6,4 +6,4 @@ use Rattle.careful.proofs.Counted.{CountedFrom}
 use Rattle.careful.proofs.count_all.Given as goal
 
 abbrev pub invariant-loop-taken : goal.invariant-loop-taken
-invariant-loop-taken l = Lawful l.s l.im × CountedFrom l.s l.initial.im l.initial.counts l.events l.taken l.im l.counts × (length l.copy ≡ length l.initial.copy) × (length l.counts ≡ length l.initial.counts)
+invariant-loop-taken l = Lawful l.s l.im × CountedFrom l.s l.initial.im l.initial.counts l.events l.taken l.im l.counts × (length l.counts ≡ length l.initial.counts)

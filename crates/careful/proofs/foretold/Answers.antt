@@ -9,10 +9,10 @@ pub slice_bounds-tried-end : goal.slice_bounds-tried-end
 slice_bounds-tried-end c = omega (arith, lawful_words _ _ c.requires.lawful)
 
 pub slice_bounds-tried-end-2 : goal.slice_bounds-tried-end-2
-slice_bounds-tried-end-2 c = sym (copy_long _ _ _ c.requires.lawful c.requires.copy_len)
+slice_bounds-tried-end-2 c = sym (copy_long _ _ _ c.requires.lawful (omega arith))
 
 pub copy_from_slice-requires : goal.copy_from_slice-requires
-copy_from_slice-requires c = copy_long _ _ _ c.requires.lawful c.requires.copy_len
+copy_from_slice-requires c = copy_long _ _ _ c.requires.lawful (omega arith)
 
 pub step-requires : goal.step-requires
 step-requires c = record { lawful = search copy_lawful; order_table = search rules }
