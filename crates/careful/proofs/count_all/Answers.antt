@@ -9,9 +9,6 @@ use Rattle.careful.proofs.count_all.Goals as goal
 pub loop-taken-init : goal.loop-taken-init
 loop-taken-init c = (search rules, counted_none _ _ _ _, search rules)
 
-pub count_event-reply-requires : goal.count_event-reply-requires
-count_event-reply-requires c = record { lawful = search rules; order_table = search rules }
-
 pub shape_of-im-in-Err : goal.shape_of-im-in-Err
 shape_of-im-in-Err c = search lawful_long
 

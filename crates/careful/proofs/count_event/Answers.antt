@@ -1,5 +1,4 @@
 -- The reply is foretold: an accepted event whose count is at its end is not carried out, any other accepted one is counted and carried out.
-use mathlib.Core.Path.{sym, ◌∙◌}
 use Rattle.std.proofs.lemmas.Result.{err_from_is_err_and}
 use Rattle.careful.proofs.Counted.{one_full, one_counted, one_refused}
 use borrow.Author.Rules.{rules}
@@ -12,9 +11,6 @@ returns-in_err-a c =
 
 pub returns-then-passes_end : goal.returns-then-passes_end
 returns-then-passes_end c = record { counts_one = one_full _ _ _ _ _ c.foretold.ensures _ c.in_ok-a.was _ c.tally_of-t.ensures _ c.passes_end.ensures c.if-passes_end.true; lawful_2 = search rules }
-
-pub count-requires : goal.count-requires
-count-requires c = sym c.passes_end.ensures ∙ c.if-passes_end.false
 
 pub returns : goal.returns
 returns c = record { counts_one = one_counted _ _ _ _ _ c.foretold.ensures _ c.in_ok-a.was _ c.tally_of-t.ensures _ c.passes_end.ensures c.if-passes_end.false _ c.count.ensures _ _ c.step.ensures.im_after; lawful_2 = search rules }
