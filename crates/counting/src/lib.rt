@@ -2,8 +2,8 @@
 #![tactic(auto)]
 
 ghost use Rattle.std.specs.Prelude.{◌≡◌, false, ◌<◌, length};
-ghost use Rattle.paper.specs.Counts.{tally, count_place, column, grown, counted, at_end as end_at, passes_end};
-ghost use Rattle.counting.specs.Room.{RoomAt, AllUpto, RoomIf};
+ghost use Rattle.paper.specs.Counts.{tally, count_place, grown, counted, at_end as end_at, passes_end};
+ghost use Rattle.counting.specs.Room.{RoomAt, AllUpto, RoomIf, tally_place};
 
 use paper::{Answer, HEADINGS, Heading, IDLE_COUNT, MOST_COUNT, Tally, Task};
 
@@ -20,22 +20,7 @@ pub fn tally_of(a: Answer) -> Tally
         Answer::ServiceFaulted(t) => Tally::Under(t, Heading::Faults),
         Answer::OrderDone(t) => Tally::Under(t, Heading::Orders),
         Answer::OrderFaulted(t) => Tally::Under(t, Heading::Faults),
-        Answer::Input(_) => Tally::Nowhere,
-        Answer::OutputDone(_) => Tally::Nowhere,
-    }
-}
-
-// The place of a heading in a task's row.
-fn column_of(h: Heading) -> usize
-    ensures { result ≡ column h }
-{
-    match h {
-        Heading::Orders => 0,
-        Heading::Services => 1,
-        Heading::Waits => 2,
-        Heading::Faults => 3,
-        Heading::ErrorStops => 4,
-        Heading::PassedTurns => 5,
+        Answer::Input(_) | Answer::OutputDone(_) => Tally::Nowhere,
     }
 }
 
@@ -43,7 +28,18 @@ fn column_of(h: Heading) -> usize
 pub fn place_of(t: Task, h: Heading) -> usize
     ensures { result ≡ count_place t h }
 {
-    HEADINGS * t.0 as usize + column_of(h)
+    HEADINGS * t.0 as usize + h as usize
+}
+
+// The place of the count where an answer is counted, if it is counted.
+fn counted_at(t: Tally) -> Option<usize>
+    ensures { result ≡ tally_place t }
+{
+    match t {
+        Tally::Nowhere => None,
+        Tally::Idle => Some(IDLE_COUNT),
+        Tally::Under(i, h) => Some(place_of(i, h)),
+    }
 }
 
 // A count that is there grows by n.
@@ -70,10 +66,8 @@ pub fn count(counts: &mut [u32], t: Tally)
     requires { passes_end counts.old t ≡ false }
     ensures { counts.new ≡ counted counts.old t }
 {
-    match t {
-        Tally::Nowhere => {}
-        Tally::Idle => add_one(counts, IDLE_COUNT),
-        Tally::Under(i, h) => add_one(counts, place_of(i, h)),
+    if let Some(k) = counted_at(t) {
+        add_one(counts, k);
     }
 }
 
@@ -81,36 +75,21 @@ pub fn count(counts: &mut [u32], t: Tally)
 fn at_end(counts: &[u32], k: usize) -> bool
     ensures { result ≡ end_at counts.now k }
 {
-    if k < counts.len() {
-        return counts[k] == MOST_COUNT;
-    }
-    false
+    counts.get(k).is_some_and(|count| *count == MOST_COUNT)
 }
 
 // Whether the count of an answer would pass its end.
 pub fn passes_end(counts: &[u32], t: Tally) -> bool
     ensures { result ≡ passes_end counts.now t }
 {
-    match t {
-        Tally::Nowhere => false,
-        Tally::Idle => at_end(counts, IDLE_COUNT),
-        Tally::Under(i, h) => at_end(counts, place_of(i, h)),
-    }
+    counted_at(t).is_some_and(|k| at_end(counts, k))
 }
 
 // The greatest of the counts.
 fn greatest(counts: &[u32]) -> u32
     ensures { AllUpto counts.now result }
 {
-    let mut most: u32 = 0;
-    let mut k: usize = 0;
-    while k < counts.len() {
-        if most < counts[k] {
-            most = counts[k];
-        }
-        k += 1;
-    }
-    most
+    counts.iter().copied().max().unwrap_or(0)
 }
 
 // Whether every count has room for n more.
