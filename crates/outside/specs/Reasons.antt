@@ -1,9 +1,8 @@
 -- A word that a reason tells lies in its line, and each token of a sum leaves fewer. Assumes nothing.
-use Rattle.std.specs.Prelude.{◌≡◌, List, ℕ, ◌<◌, ◌≤◌, length, drop}
+use Rattle.std.specs.Prelude.{◌≡◌, List, Result, Ok, Err, ℕ, ◌<◌, ◌≤◌, length, drop}
 use Rattle.grammar.specs.Tokens.{tokens}
 use Rattle.outside.specs.declared.Reason.{Reason}
-use Rattle.outside.specs.declared.Step.{Step}
-use Rattle.outside.specs.declared.Operand.{Operand}
+use Rattle.outside.specs.declared.Going.{Going}
 
 -- a part of a line
 abbrev pub Lies : List ℕ → ℕ → ℕ → Type 0
@@ -27,15 +26,16 @@ abbrev pub left : List ℕ → ℕ → ℕ
 left l at = length (tokens (drop at l))
 
 -- a step that goes on leaves fewer than n tokens
-abbrev pub Steps : List ℕ → ℕ → Step → Type 0
-Steps l n (Step.Stops r) = Fits l r
-Steps l n (Step.Goes to depth wanted) = left l to < n
+abbrev pub Steps : List ℕ → ℕ → Result Going Reason → Type 0
+Steps l n (Err r) = Fits l r
+Steps l n (Ok next) = left l next.at < n
 
 -- a step that goes on at a place, or stops with a reason that tells no word
-abbrev pub StepsTo : ℕ → Step → Type 0
-StepsTo to (Step.Stops r) = (l : List ℕ) → Fits l r
-StepsTo to (Step.Goes k depth wanted) = k ≡ to
+abbrev pub StepsTo : ℕ → Result Going Reason → Type 0
+StepsTo to (Err r) = (l : List ℕ) → Fits l r
+StepsTo to (Ok next) = next.at ≡ to
 
-abbrev pub OperandFits : List ℕ → Operand → Type 0
-OperandFits l (Operand.Stops r) = Fits l r
-OperandFits l (Operand.Goes to) = Unit {0}
+-- a register's place after it, or why there is none
+abbrev pub OperandFits : List ℕ → Result ℕ Reason → Type 0
+OperandFits l (Err r) = Fits l r
+OperandFits l (Ok to) = Unit {0}

@@ -24,19 +24,12 @@ pub enum Reason {
     NoRoom,
 }
 
-// How a line goes on after a token of a sum: it stops, or goes on at a place, with so many brackets open, and a term wanted
-// there or not.
+// How a line goes on after a token of a sum: at a place, with so many brackets open, and a term wanted there or not.
 #[derive(Clone, Copy)]
-enum Step {
-    Stops(Reason),
-    Goes(usize, usize, bool),
-}
-
-// How a line goes on after a register.
-#[derive(Clone, Copy)]
-enum Operand {
-    Stops(Reason),
-    Goes(usize),
+struct Going {
+    at: usize,
+    depth: usize,
+    wanted: bool,
 }
 
 // A token that no line goes on with.
@@ -44,133 +37,134 @@ fn unfit(t: Token) -> Reason
     ensures { (l : List ℕ) → Fits l result }
 {
     match t {
-        Token::End => Reason::Other,
-        Token::Number(_, _) => Reason::Other,
-        Token::Word(_, _) => Reason::Other,
-        Token::Mark(_, _) => Reason::Other,
         Token::Stray(_) => Reason::StrayByte,
+        _ => Reason::Other,
     }
 }
 
 // A mark where a term is wanted.
-fn mark_step(b: u8, to: usize, depth: usize) -> Step
+fn mark_step(b: u8, to: usize, depth: usize) -> Result<Going, Reason>
     ensures { StepsTo to result }
 {
     if b != OPEN {
-        return Step::Stops(Reason::Other);
+        return Err(Reason::Other);
     }
     if depth < DEEPEST {
-        return Step::Goes(to, depth + 1, true);
+        return Ok(Going {
+            at: to,
+            depth: depth + 1,
+            wanted: true,
+        });
     }
-    Step::Stops(Reason::NinthBracket)
+    Err(Reason::NinthBracket)
 }
 
 // A token where a term is wanted.
-fn term_step(line: &[u8], t: Token, depth: usize) -> Step
+fn term_step(line: &[u8], t: Token, depth: usize) -> Result<Going, Reason>
     requires { Inside line.now t }
     ensures { Steps line.now (length (shown line.now t)) result }
 {
     match t {
-        Token::End => Step::Stops(Reason::Other),
-        Token::Number(_, to) => Step::Goes(to, depth, false),
-        Token::Word(from, to) => {
-            let Kept::Free = kept(&line[from..to]) else {
-                return Step::Stops(Reason::KeptWord(from, to));
+        Token::Number(_, at) => Ok(Going {
+            at,
+            depth,
+            wanted: false,
+        }),
+        Token::Word(from, at) => {
+            let Kept::Free = kept(&line[from..at]) else {
+                return Err(Reason::KeptWord(from, at));
             };
-            Step::Goes(to, depth, false)
+            Ok(Going {
+                at,
+                depth,
+                wanted: false,
+            })
         }
         Token::Mark(b, to) => mark_step(b, to, depth),
-        Token::Stray(_) => Step::Stops(Reason::StrayByte),
+        _ => Err(unfit(t)),
     }
 }
 
 // A mark after a term.
-fn sign_step(b: u8, to: usize, depth: usize) -> Step
+fn sign_step(b: u8, to: usize, depth: usize) -> Result<Going, Reason>
     ensures { StepsTo to result }
 {
     match b {
-        PLUS | MINUS | TIMES => Step::Goes(to, depth, true),
-        CLOSE => {
-            if depth == 0 {
-                return Step::Stops(Reason::Other);
-            }
-            Step::Goes(to, depth - 1, false)
-        }
-        _ => Step::Stops(Reason::Other),
+        PLUS | MINUS | TIMES => Ok(Going {
+            at: to,
+            depth,
+            wanted: true,
+        }),
+        CLOSE if 0 < depth => Ok(Going {
+            at: to,
+            depth: depth - 1,
+            wanted: false,
+        }),
+        _ => Err(Reason::Other),
     }
 }
 
 // A token after a term; a line that is one of the grammar to its end can only give a name too many.
-fn next_step(t: Token, depth: usize) -> Step
+fn next_step(t: Token, depth: usize) -> Result<Going, Reason>
     ensures { (l : List ℕ) → Steps l (length (shown l t)) result }
 {
     match t {
-        Token::End => {
-            if depth == 0 {
-                return Step::Stops(Reason::TooManyNames);
-            }
-            Step::Stops(Reason::Other)
-        }
-        Token::Number(_, _) => Step::Stops(Reason::Other),
-        Token::Word(_, _) => Step::Stops(Reason::Other),
+        Token::End if depth == 0 => Err(Reason::TooManyNames),
         Token::Mark(b, to) => sign_step(b, to, depth),
-        Token::Stray(_) => Step::Stops(Reason::StrayByte),
+        _ => Err(unfit(t)),
     }
 }
 
 // A token of a sum.
-fn sum_step(line: &[u8], at: usize, depth: usize, wanted: bool) -> Step
-    ensures { Steps line.now (left line.now at) result }
+fn sum_step(line: &[u8], now: Going) -> Result<Going, Reason>
+    ensures { Steps line.now (left line.now now.at) result }
 {
-    let t = next_token(line, at);
-    if wanted {
-        return term_step(line, t, depth);
+    let t = next_token(line, now.at);
+    if now.wanted {
+        return term_step(line, t, now.depth);
     }
-    next_step(t, depth)
+    next_step(t, now.depth)
 }
 
 // Why a line is outside the grammar whose sum begins at a place.
 fn sum_reason(line: &[u8], at: usize) -> Reason
     ensures { Fits line.now result }
 {
-    let mut k = at;
-    let mut depth: usize = 0;
-    let mut wanted = true;
+    let mut now = Going {
+        at,
+        depth: 0,
+        wanted: true,
+    };
     loop {
-        match sum_step(line, k, depth, wanted) {
-            Step::Stops(r) => return r,
-            Step::Goes(to, open, term) => {
-                k = to;
-                depth = open;
-                wanted = term;
-            }
+        match sum_step(line, now) {
+            Ok(next) => now = next,
+            Err(r) => return r,
         }
     }
 }
 
-// A register, from a place on.
-fn register(line: &[u8], at: usize) -> Operand
+// A register, from a place on, and the place after it.
+fn register(line: &[u8], at: usize) -> Result<usize, Reason>
     ensures { OperandFits line.now result }
 {
     let t = next_token(line, at);
     let Token::Word(from, to) = t else {
-        return Operand::Stops(unfit(t));
+        return Err(unfit(t));
     };
     let Kept::Register(_) = kept(&line[from..to]) else {
-        return Operand::Stops(Reason::Other);
+        return Err(Reason::Other);
     };
-    Operand::Goes(to)
+    Ok(to)
 }
 
 // Why a line is outside the grammar that is to end at a place.
 fn end_reason(line: &[u8], at: usize) -> Reason
     ensures { Fits line.now result }
 {
-    let t = next_token(line, at);
-    let Token::End = t else {
-        return unfit(t);
-    };
-    Reason::TooManyNames
+    match next_token(line, at) {
+        Token::End => Reason::TooManyNames,
+        t => unfit(t),
+    }
 }
 
 // Why a line is outside the grammar whose last register is to stand at a place.
@@ -178,8 +172,8 @@ fn last_reason(line: &[u8], at: usize) -> Reason
     ensures { Fits line.now result }
 {
     match register(line, at) {
-        Operand::Stops(r) => r,
-        Operand::Goes(to) => end_reason(line, to),
+        Ok(to) => end_reason(line, to),
+        Err(r) => r,
     }
 }
 
@@ -191,12 +185,12 @@ fn order_reason(line: &[u8], at: usize, operands: Operands) -> Reason
         Operands::Nothing => end_reason(line, at),
         Operands::Sum => sum_reason(line, at),
         Operands::RegisterSum => match register(line, at) {
-            Operand::Stops(r) => r,
-            Operand::Goes(to) => sum_reason(line, to),
+            Ok(to) => sum_reason(line, to),
+            Err(r) => r,
         },
         Operands::Registers => match register(line, at) {
-            Operand::Stops(r) => r,
-            Operand::Goes(to) => last_reason(line, to),
+            Ok(to) => last_reason(line, to),
+            Err(r) => r,
         },
     }
 }
@@ -205,17 +199,15 @@ fn order_reason(line: &[u8], at: usize, operands: Operands) -> Reason
 fn body_reason(line: &[u8], at: usize) -> Reason
     ensures { Fits line.now result }
 {
-    let t = next_token(line, at);
-    match t {
+    match next_token(line, at) {
         Token::End => Reason::TooManyNames,
-        Token::Number(_, _) => sum_reason(line, at),
+        Token::Number(_, _) | Token::Mark(_, _) => sum_reason(line, at),
         Token::Word(from, to) => match kept(&line[from..to]) {
             Kept::Free => sum_reason(line, at),
             Kept::Register(_) => Reason::KeptWord(from, to),
             Kept::Order(operands, _) => order_reason(line, to, operands),
             Kept::Later => Reason::LaterOrder(from, to),
         },
-        Token::Mark(_, _) => sum_reason(line, at),
         Token::Stray(_) => Reason::StrayByte,
     }
 }

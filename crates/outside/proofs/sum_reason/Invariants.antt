@@ -2,5 +2,5 @@
 use Rattle.outside.specs.Reasons.{left}
 use Rattle.outside.proofs.sum_reason.Given as goal
 
-abbrev pub decreases-loop-r : goal.decreases-loop-r
-decreases-loop-r l = left l.line l.k
+abbrev pub decreases-loop-next : goal.decreases-loop-next
+decreases-loop-next l = left l.line l.now.at
