@@ -1,7 +1,6 @@
 -- The names that a line uses lie in it, and each token passed leaves fewer. Assumes nothing.
-use Rattle.std.specs.Prelude.{List, ℕ, ◌<◌}
+use Rattle.std.specs.Prelude.{List, Option, Some, None, ℕ, ◌<◌}
 use Rattle.outside.specs.Reasons.{Lies, left}
-use Rattle.reasons.specs.declared.Word.{Word}
 use Rattle.reasons.specs.declared.Step.{Step}
 
 -- the longest text
@@ -9,9 +8,9 @@ abbrev pub most_text : ℕ
 most_text = 524288
 
 -- a word that was found lies in the line
-abbrev pub Held : List ℕ → Word → Type 0
-Held l Word.Nothing = Unit {0}
-Held l (Word.At from to) = Lies l from to
+abbrev pub Held : List ℕ → Option (ℕ × ℕ) → Type 0
+Held l None = Unit {0}
+Held l (Some w) = Lies l w.0 w.1
 
 -- a step past a token leaves fewer than n
 abbrev pub Steps : List ℕ → ℕ → Step → Type 0

@@ -17,13 +17,6 @@ use tables::{MOST_NAMES, NO_ENTRY, look};
 use texts::read_texts;
 use tokens::{Token, next_token};
 
-// A word of a line, with its first byte and the place after it.
-#[derive(Clone, Copy)]
-enum Word {
-    Nothing,
-    At(usize, usize),
-}
-
 // The next token of a line: none, a name that is not given, or another, with the place after it.
 #[derive(Clone, Copy)]
 enum Step {
@@ -36,15 +29,7 @@ enum Step {
 pub fn line_number(text: &[u8], from: usize) -> usize
     requires { (from ≤ length text.now) × (length text.now ≤ most_text) }
 {
-    let mut lines: usize = 1;
-    let mut k: usize = 0;
-    while k < from {
-        if text[k] == LINE_END {
-            lines += 1;
-        }
-        k += 1;
-    }
-    lines
+    1 + text[..from].iter().filter(|b| **b == LINE_END).count()
 }
 
 // The token of a line that stands next: whether it is a name that is not given.
@@ -67,7 +52,7 @@ fn missing_step<'a>(
 {
     match next_token(line, at) {
         Token::End => Step::Ends,
-        Token::Number(_, to) => Step::Past(to),
+        Token::Number(_, to) | Token::Mark(_, to) | Token::Stray(to) => Step::Past(to),
         Token::Word(from, to) => {
             let word = &line[from..to];
             let Kept::Free = kept(word) else {
@@ -80,12 +65,10 @@ fn missing_step<'a>(
             };
             Step::Missing(from, to)
         }
-        Token::Mark(_, to) => Step::Past(to),
-        Token::Stray(to) => Step::Past(to),
     }
 }
 
-// The first name of a line from a place on that is not given.
+// The first name of a line from a place on that is not given: its first byte and the place after it.
 fn missing_from<'a>(
     names: &'a [u8],
     script: &'a [u8],
@@ -98,7 +81,7 @@ fn missing_from<'a>(
     heads: &[u16; MOST_NAMES],
     line: &[u8],
     at: usize,
-) -> Word
+) -> Option<(usize, usize)>
     requires chained { Chained (table names.now script.now split froms.now counts.now values.now nexts.now) filled }
     requires headed { Headed (table names.now script.now split froms.now counts.now values.now nexts.now) filled heads.now }
     ensures { Held line.now result }
@@ -108,15 +91,20 @@ fn missing_from<'a>(
         match missing_step(
             names, script, split, filled, froms, counts, values, nexts, heads, line, k,
         ) {
-            Step::Ends => return Word::Nothing,
-            Step::Missing(from, to) => return Word::At(from, to),
+            Step::Ends => return None,
+            Step::Missing(from, to) => return Some((from, to)),
             Step::Past(to) => k = to,
         }
     }
 }
 
 // The first name of a line from a place on that two texts do not give.
-fn missing_word<'a>(names: &'a [u8], script: &'a [u8], line: &[u8], at: usize) -> Word
+fn missing_word<'a>(
+    names: &'a [u8],
+    script: &'a [u8],
+    line: &[u8],
+    at: usize,
+) -> Option<(usize, usize)>
     ensures { Held line.now result }
 {
     let mut froms: [usize; MOST_NAMES] = [0; MOST_NAMES];
@@ -145,17 +133,14 @@ fn use_reason<'a>(names: &'a [u8], script: &'a [u8], line: &[u8], at: usize) -> 
     ensures { Fits line.now result }
 {
     match missing_word(names, script, line, at) {
-        Word::Nothing => Reason::Other,
-        Word::At(from, to) => Reason::NotGiven(from, to),
+        Some((from, to)) => Reason::NotGiven(from, to),
+        None => Reason::Other,
     }
 }
 
 // Whether two texts give a word.
 fn gives<'a>(names: &'a [u8], script: &'a [u8], word: &[u8]) -> bool {
-    match missing_word(names, script, word, 0) {
-        Word::Nothing => true,
-        Word::At(_, _) => false,
-    }
+    missing_word(names, script, word, 0).is_none()
 }
 
 // The reason of a line of the names that gives a name again or uses one that is not given above.
