@@ -7,10 +7,10 @@ use Rattle.planner.proofs.put_program.Goals as goal
 
 pub overflow_add-result : goal.overflow_add-result
 overflow_add-result c =
-    let few : c.in-Count.count ≤ most_program = search few_words in
+    let few : c.in-Some.count ≤ most_program = search few_words in
     omega (arith, few, c.requires)
 
 pub returns : goal.returns
 returns c =
-    let few : c.in-Count.count ≤ most_program = search few_words in
+    let few : c.in-Some.count ≤ most_program = search few_words in
     (omega arith, omega (arith, few))
