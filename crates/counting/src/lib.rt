@@ -32,7 +32,7 @@ pub fn place_of(t: Task, h: Heading) -> usize
 }
 
 // The place of the count where an answer is counted, if it is counted.
-fn counted_at(t: Tally) -> Option<usize>
+pub fn counted_at(t: Tally) -> Option<usize>
     ensures { result ≡ tally_place t }
 {
     match t {

@@ -1,4 +1,5 @@
 // The kinds of orders, as the table has them and the machine goes by them: sixteen in all.
+// They are numbers and no enum: an entry packs its kind with the bits that are 0 in its order, and an enum would be made of the number by a match of sixteen arms, only for the machine to match it again.
 pub const SERVICE_OR_UNKNOWN: u16 = 0;
 
 pub const LOAD: u16 = 1;
