@@ -64,6 +64,7 @@ fn file_verdict(bytes: &[u8], words: &[u16], odd: bool) -> Result<(), Refusal>
 }
 
 // Reads a plan's file: the words of the bytes that were found for the buffer, and the verdict on the whole file, whose rest has an odd count of bytes or not.
+// The count stands beside the buffer, whose own length says how many bytes were asked for (`ReadsPlan`).
 pub fn read_plan(buffer: &[u8], found: usize, odd: bool, words: &mut [u16]) -> PlanRead
     requires found_in_bounds { found ≤ length buffer.now }
     requires enough_in_bounds { enough ≤ length buffer.now }

@@ -25,7 +25,7 @@ fn too_long(rt: &HostRuntime, path: &[u8]) -> Outcome {
     Outcome::Unread
 }
 
-// Runs as the arguments say.
+// Runs as the arguments say. Each lies in a buffer of the length of any path, so that no memory can run out.
 fn run_given(rt: &HostRuntime) -> Outcome {
     let mut plan = [0u8; ARG_BYTES];
     let Some(plan_end) = arg(rt, PLAN_AT, &mut plan) else {

@@ -100,7 +100,8 @@ fn feed(
     feed_short(text, taken, n, out)
 }
 
-// Takes the events of the bytes that were found for a buffer, the first of which has the number n, and writes their lines.
+// Takes the events of the bytes that were found for a buffer, the first of which has the number n, and writes their lines. The count
+// stands beside the buffer, since `Buffered` asks for room and numbers by the whole buffer.
 pub fn feed_buffer(
     s: Shape,
     im: &mut [u16],

@@ -31,7 +31,7 @@ fn put_byte(out: &mut [u8], at: usize, b: u8) -> usize
     at + 1
 }
 
-// Writes the decimal digits of a number.
+// Writes the decimal digits of a number. By hand, since the clause names the paper's `decimal`, and a line has a fixed room.
 pub fn put_decimal(out: &mut [u8], at: usize, n: u64) -> usize
     requires { at + length (decimal n) ≤ length out.old }
     ensures value { result ≡ at + length (decimal n) }
