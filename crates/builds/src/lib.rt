@@ -21,6 +21,8 @@ use paper::{PORT_WORDS, Place, Refusal, SEGMENTS, STATUS_WORDS, Shape};
 use plans::{shape_sized, size};
 use writes::put_zeros;
 
+// Shape, plan, target and place stay four arguments: a struct of them would be taken apart for each call of fresh_parts, no two of which take the same.
+
 // The ready queue: all tasks in order.
 fn put_ready(s: Shape, plan: &[u16], out: &mut [u16], at: Place) -> Place
     requires plan { Plan s plan.now }

@@ -115,6 +115,8 @@ fn put_segment(out: &mut [u16], at: Place, program: &[u16], length: u16, zeroed:
     Place(put_zeros(out, zeros, whole - program.len()))
 }
 
+// Each part is a loop of its own: one function over a closure that writes a row would have to say of any closure what the calls in these loops ask and make.
+
 // The numbers 0..n-1.
 pub fn put_numbers(out: &mut [u16], at: Place, n: usize) -> Place
     requires n_le_most_tasks { n ≤ most_tasks }

@@ -16,7 +16,7 @@ pub fn number_of_verdict(v: Result<(), Refusal>) -> u16
     }
 }
 
-// The paper's number of an answer's kind.
+// The paper's number of an answer's kind, as C is told it: an enum whose variants have fields has no number of its own.
 pub fn kind_of(a: Answer) -> u16
     ensures { result ≡ kind a }
 {

@@ -1,4 +1,5 @@
 // Words written one after another into any list of words, from an index on: each call answers where the next word goes.
+// One function over what is written would save nothing: a store, a fill and a copy are a line each, and each the fastest of its kind.
 #![tactic(auto)]
 
 ghost use Rattle.std.specs.Prelude.{◌≡◌, [], ◌∷◌, ◌+◌, ◌<◌, ◌≤◌, length, replicate};
