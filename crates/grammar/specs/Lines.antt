@@ -1,5 +1,5 @@
 -- The rules of a line: a line of the names, and a line of the script, each by its tokens.
-use Rattle.std.specs.Prelude.{List, [], ◌∷◌, true, false, ℕ, ◌+◌, ◌*◌, Err, Ok, Result}
+use Rattle.std.specs.Prelude.{List, [], ◌∷◌, true, false, ℕ, ◌+◌, ◌*◌, Err, Ok, Result, None, Option, Some}
 use Rattle.grammar.specs.Tokens.{Token, label_mark, equals_mark, begins, rest}
 use Rattle.grammar.specs.Kept.{kept_as}
 use Rattle.grammar.specs.Sums.{Entry, Reading, sum_of}
@@ -95,49 +95,49 @@ register (Token.mark b ∷ ts) = Operand.missing
 register (Token.stray ∷ ts) = Operand.missing
 
 -- order = order-name operands: its first word, with the registers a and b, and its second
-abbrev pub one : ℕ → List Token → Given
-one f [] = Given.One (Ok f)
-one f (t ∷ ts) = Given.Outside
+abbrev pub one : ℕ → List Token → Option Given
+one f [] = Some (Given.One (Ok f))
+one f (t ∷ ts) = None
 
-abbrev pub two : ℕ → Reading → Given
-two f Reading.outside = Given.Outside
-two f (Reading.read v ts) = Given.Two f v
+abbrev pub two : ℕ → Reading → Option Given
+two f Reading.outside = None
+two f (Reading.read v ts) = Some (Given.Two f v)
 
-abbrev pub with_sum : List Entry → ℕ → Operand → Given
-with_sum es f Operand.missing = Given.Outside
+abbrev pub with_sum : List Entry → ℕ → Operand → Option Given
+with_sum es f Operand.missing = None
 with_sum es f (Operand.at a ts) = two (f + 16 * a) (sum_of es ts)
 
-abbrev pub with_second : ℕ → Operand → Given
-with_second f Operand.missing = Given.Outside
+abbrev pub with_second : ℕ → Operand → Option Given
+with_second f Operand.missing = None
 with_second f (Operand.at b ts) = one (f + b) ts
 
-abbrev pub with_registers : ℕ → Operand → Given
-with_registers f Operand.missing = Given.Outside
+abbrev pub with_registers : ℕ → Operand → Option Given
+with_registers f Operand.missing = None
 with_registers f (Operand.at a ts) = with_second (f + 16 * a) (register ts)
 
-abbrev pub order : List Entry → Operands → ℕ → List Token → Given
+abbrev pub order : List Entry → Operands → ℕ → List Token → Option Given
 order es Operands.Nothing f ts = one f ts
 order es Operands.Sum f ts = two f (sum_of es ts)
 order es Operands.RegisterSum f ts = with_sum es f (register ts)
 order es Operands.Registers f ts = with_registers f (register ts)
 
 -- a sum as a line of its own gives one word
-abbrev pub sum_line : Reading → Given
-sum_line Reading.outside = Given.Outside
-sum_line (Reading.read v ts) = Given.One v
+abbrev pub sum_line : Reading → Option Given
+sum_line Reading.outside = None
+sum_line (Reading.read v ts) = Some (Given.One v)
 
-abbrev pub body_by : List Entry → Kept → List Token → List Token → Given
+abbrev pub body_by : List Entry → Kept → List Token → List Token → Option Given
 body_by es Kept.Free line ts = sum_line (sum_of es line)
-body_by es (Kept.Register a) line ts = Given.Outside
+body_by es (Kept.Register a) line ts = None
 body_by es (Kept.Order o f) line ts = order es o f ts
-body_by es Kept.Later line ts = Given.Outside
+body_by es Kept.Later line ts = None
 
-unfoldable pub given : List Entry → List Token → Given
-given es [] = Given.Nothing
+unfoldable pub given : List Entry → List Token → Option Given
+given es [] = Some Given.Nothing
 given es (Token.number ds ∷ ts) = sum_line (sum_of es (Token.number ds ∷ ts))
 given es (Token.word w ∷ ts) = body_by es (kept_as w) (Token.word w ∷ ts) ts
 given es (Token.mark b ∷ ts) = sum_line (sum_of es (Token.mark b ∷ ts))
-given es (Token.stray ∷ ts) = Given.Outside
+given es (Token.stray ∷ ts) = None
 
 -- the words that a line gives
 abbrev pub worked_word : ℕ → Result ℕ NoValue → List ℕ
@@ -148,8 +148,8 @@ abbrev pub one_word : Result ℕ NoValue → List ℕ
 one_word (Ok v) = v ∷ []
 one_word (Err e) = []
 
-abbrev pub line_words : Given → List ℕ
-line_words Given.Outside = []
-line_words Given.Nothing = []
-line_words (Given.One v) = one_word v
-line_words (Given.Two f v) = worked_word f v
+abbrev pub line_words : Option Given → List ℕ
+line_words None = []
+line_words (Some Given.Nothing) = []
+line_words (Some (Given.One v)) = one_word v
+line_words (Some (Given.Two f v)) = worked_word f v

@@ -68,11 +68,11 @@ abbrev pub label_flaw : List Entry → Label → Option Refusal
 label_flaw es Label.none = None
 label_flaw es (Label.label w) = give_flaw es w
 
-abbrev pub given_flaw : Given → Option Refusal
-given_flaw Given.Outside = Some Refusal.OutsideGrammar
-given_flaw Given.Nothing = None
-given_flaw (Given.One v) = worked_flaw v
-given_flaw (Given.Two f v) = worked_flaw v
+abbrev pub given_flaw : Option Given → Option Refusal
+given_flaw None = Some Refusal.OutsideGrammar
+given_flaw (Some Given.Nothing) = None
+given_flaw (Some (Given.One v)) = worked_flaw v
+given_flaw (Some (Given.Two f v)) = worked_flaw v
 
 -- the fault that is named: the lowest number, and of lines with that number the first
 abbrev pub noted : Option (Refusal × Line) → Option Refusal → Line → Option (Refusal × Line)

@@ -1,6 +1,9 @@
 // The types that the definitions of the text form name, and the numbers of the grammar that stand in more than one crate.
 #![tactic(auto)]
 
+ghost use Rattle.std.specs.Prelude.{◌≡◌};
+ghost use Rattle.grammar.specs.Texts.{number};
+
 // Why a sum, or a part of one, has no value: a name in it is not given, or a value in it lies out of range.
 #[derive(Clone, Copy)]
 pub enum NoValue {
@@ -48,22 +51,35 @@ pub enum Kept {
     Later,
 }
 
-// What the order or the sum of a line gives: no word, a word, or a fixed word and one that is worked.
+// What the order or the sum of a line of the grammar gives: no word, a word, or a fixed word and one that is worked.
 #[derive(Clone, Copy)]
 pub enum Given {
-    Outside,
     Nothing,
     One(Result<u16, NoValue>),
     Two(u16, Result<u16, NoValue>),
 }
 
 // Why a text is refused.
-#[derive(Clone, Copy)]
+#[derive(Clone, Copy, PartialEq, Eq)]
 pub enum Refusal {
     OutsideGrammar,
     NameFault,
     OutOfRange,
     NoRoom,
+}
+
+// The number of a refusal.
+impl From<Refusal> for u16 {
+    ghost from_gives = { λ r n. n ≡ number r };
+
+    fn from(r: Refusal) -> u16 {
+        match r {
+            Refusal::OutsideGrammar => 13,
+            Refusal::NameFault => 14,
+            Refusal::OutOfRange => 15,
+            Refusal::NoRoom => 16,
+        }
+    }
 }
 
 // The two texts.

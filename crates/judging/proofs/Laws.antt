@@ -1,13 +1,13 @@
 -- A line of the script judged, and what the lines so far come to. Assumes nothing.
-use Rattle.std.specs.Prelude.{Err, None, Ok, Option, Result, Some}
+use Rattle.std.specs.Prelude.{Option, Result, ℕ}
 use mathlib.Core.Path.{◌≡◌, refl, sym, ap, subst, ◌∙◌}
 use mathlib.Core.Bool.{Bool, true, false}
 use mathlib.Core.List.{List, [], ◌∷◌, ◌++◌, append_assoc}
 use Prim.Native.Nat.{ℕ, suc, ◌+◌, ◌-◌, ◌*◌, ◌<◌, ◌≤◌, min}
 use native.Mathlib.Numerals.{add-one}
-use native.Mathlib.Nat.{add-zero, zero-add}
+use native.Mathlib.Nat.{add-zero}
 use native.Mathlib.Omega.{arith}
-use borrow.Author.Tests.{lt-ltb, le-ltb, le-leb, lt-leb, ltb-true, ltb-false}
+use borrow.Author.Tests.{lt-ltb, le-ltb, ltb-true, ltb-false}
 use lib.Dec.{ltb}
 use lib.ListN.{length, drop, length-append}
 use lib.Seq.{drop_at}
@@ -15,20 +15,15 @@ use Rattle.grammar.specs.Tokens.{tokens, lines, first_line}
 use Rattle.grammar.specs.Sums.{Entry, end_of_range}
 use Rattle.grammar.specs.Lines as Lines
 use Rattle.grammar.specs.Lines.{label_of, body_of, size_of, given, line_words}
-use Rattle.grammar.specs.Texts.{give, label_gives, label_flaw, given_flaw, lower, noted, nowhere, room_flaw, judged_as, labels_given, script_fault, script_words, last_line}
-use Rattle.grammar.specs.declared.Given.{Given}
+use Rattle.grammar.specs.Texts.{give, label_gives, noted, nowhere, room_flaw, judged_as, labels_given, script_fault, script_words, last_line}
 use Rattle.grammar.specs.declared.Line.{Line}
-use Rattle.grammar.specs.declared.NoValue.{NoValue}
 use Rattle.grammar.specs.declared.Refusal.{Refusal}
 use Rattle.grammar.specs.declared.Text.{Text}
-use Rattle.tokens.specs.Shown.{part, shown}
-use Rattle.tokens.specs.declared.Token.{Token}
-use Rattle.phrases.specs.Phrases.{shown_label, LabelInside, Starts}
-use Rattle.phrases.specs.declared.Label.{Label}
+use Rattle.tokens.specs.Shown.{part}
 use Rattle.tables.specs.Tables.{Table, entries, entry_word, most}
 use Rattle.tables.proofs.Laws.{entries_count, earlier_entries}
 use Rattle.giving.proofs.Lines.{line_splits, line_is_part, line_within, part_count}
-use Rattle.giving.specs.Passes.{Known, KnownLabel, one_more, above_after, LineJudged, Labelled, line_at, ScriptJudged}
+use Rattle.giving.specs.Passes.{KnownLabel, one_more, above_after, LineJudged, line_at, ScriptJudged}
 
 -- one entry more, and none where the table is full
 pub has_one_more : (m : ℕ) → m < most → m + 1 ≡ one_more m
@@ -36,68 +31,6 @@ has_one_more m h = rw (lt-ltb m most h, one_more)
 
 pub has_no_more : (m : ℕ) → most ≤ m → m ≡ one_more m
 has_no_more m h = rw (le-ltb m most h, one_more)
-
--- the room of the target
-pub room_enough : (fault : Option (Refusal × Line)) (words room last stop : ℕ) → words ≤ room → fault ≡ noted fault (room_flaw words room) (line_at last stop)
-room_enough fault words room last stop h =
-    let e : room_flaw words room ≡ None = rw (le-leb words room h, room_flaw) in
-    ap (λ (f : Option Refusal). noted fault f (line_at last stop)) (sym e)
-
-pub room_short : (fault after : Option (Refusal × Line)) (words room last stop : ℕ) → room < words → after ≡ noted fault (Some Refusal.NoRoom) (line_at last stop) →
-    after ≡ noted fault (room_flaw words room) (line_at last stop)
-room_short fault after words room last stop h e =
-    let f : room_flaw words room ≡ Some Refusal.NoRoom = rw (lt-leb words room h, room_flaw) in
-    e ∙ ap (λ (f : Option Refusal). noted fault f (line_at last stop)) (sym f)
-
--- a line gives at most two words
-few_words : (g : Given) → length (line_words g) ≤ 2
-few_words Given.Outside = omega arith
-few_words Given.Nothing = omega arith
-few_words (Given.One (Ok v)) = omega arith
-few_words (Given.One (Err NoValue.Missing)) = omega arith
-few_words (Given.One (Err NoValue.Beyond)) = omega arith
-few_words (Given.Two f (Ok v)) = omega arith
-few_words (Given.Two f (Err NoValue.Missing)) = omega arith
-few_words (Given.Two f (Err NoValue.Beyond)) = omega arith
-
-pub few_counted : (g : Given) (count : ℕ) → count ≡ length (line_words g) → count ≤ 2
-few_counted g count e = omega (arith, few_words g)
-
--- a line with a label, and one without
-module _ (l : List ℕ) (label : Label) (body : Token) (from to : ℕ) (starts : Starts l label body) (is : label ≡ Label.At from to) where
-  pub label_stands : (from ≤ to) × (to ≤ length l)
-  label_stands = subst (λ (x : Label). LabelInside l x) is starts.label_inside
-
-  pub label_known : (t : Table) (n m : ℕ) → KnownLabel t n m (label_of (tokens l)) → Known t n m (part l from to)
-  label_known t n m known = subst (λ (x : Lines.Label). KnownLabel t n m x) (starts.labelled ∙ ap (shown_label l) is) known
-
-module _ (t : Table) (n m at end : ℕ) (script : List ℕ) (label : Label) (body : Token) (starts : Starts (part script at end) label body) where
-  module _ (before after : Option (Refusal × Line)) (words above count : ℕ) (g : Given) (gf : Option Refusal) (p : at ≤ end) (q : end ≤ length script)
-      (gave : g ≡ given (entries t n) (shown (part script at end) body)) (counted : count ≡ length (line_words g)) (flaw : gf ≡ given_flaw g) where
-    line_judged : (lab : Lines.Label) → label_of (tokens (part script at end)) ≡ lab →
-        after ≡ noted before (lower (label_flaw (entries t m) lab) gf) (line_at at end) → above ≡ above_after m lab →
-        LineJudged t n m at (part script at end) before words above after (words + count)
-    line_judged lab is noting stands =
-        let long : length (part script at end) ≡ end - at = part_count script at end p q in
-        let g-is : g ≡ given (entries t n) (body_of (tokens (part script at end))) = gave ∙ ap (given (entries t n)) (sym starts.follows) in
-        let gf-is : gf ≡ given_flaw (given (entries t n) (body_of (tokens (part script at end)))) = flaw ∙ ap given_flaw g-is in
-        record {
-          fault = noting ∙ (λ i. noted before (lower (label_flaw (entries t m) (sym is i)) (gf-is i)) (record { text = Text.Script; from = at; count = sym long i }));
-          counted = rw (← g-is, counted);
-          few = omega (arith, few_counted g count counted);
-          stands = rw is stands;
-        }
-
-    pub line_unlabelled : label ≡ Label.Nothing → after ≡ noted before gf (line_at at end) → above ≡ m →
-        LineJudged t n m at (part script at end) before words above after (words + count)
-    line_unlabelled e noting stands = line_judged Lines.Label.none (starts.labelled ∙ ap (shown_label (part script at end)) e) noting stands
-
-    pub line_labelled : (from to : ℕ) (flaws both : Option Refusal) → label ≡ Label.At from to →
-        flaws ≡ label_flaw (entries t m) (Lines.Label.label (part (part script at end) from to)) → both ≡ lower flaws gf →
-        after ≡ noted before both (line_at at end) → above ≡ one_more m → LineJudged t n m at (part script at end) before words above after (words + count)
-    line_labelled from to flaws both e flawed lowered noting stands =
-        line_judged (Lines.Label.label (part (part script at end) from to)) (starts.labelled ∙ ap (shown_label (part script at end)) e)
-        (rw (← flawed, ← lowered) noting) stands
 
 -- the entries given later stand before those given above
 record Later (es all : List Entry) : Type 0 where
@@ -196,18 +129,6 @@ pub record SoFar (t : Table) (split n : ℕ) (script : List ℕ) (before fault :
   pub few : words ≤ 2 * at
 
 module _ (t : Table) (split n : ℕ) (script : List ℕ) (before : Option (Refusal × Line)) where
-  pub none_so_far : Labelled t split n script → SoFar t split n script before before split 0 0 0 0
-  none_so_far labelled =
-      record {
-        place = 0;
-        labels = sym labelled;
-        faults = refl;
-        counted = zero-add _;
-        lasts = refl;
-        ordered = omega arith;
-        few = omega arith;
-      }
-
   module _ (fault : Option (Refusal × Line)) (above words at last stop : ℕ) (so : SoFar t split n script before fault above words at last stop) where
     module _ (count : ℕ) (h : at < length script) (is : count ≡ length (first_line (drop at script))) where
       here : List ℕ

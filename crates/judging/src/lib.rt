@@ -12,7 +12,7 @@ ghost use Rattle.giving.specs.Passes.{KnownLabel, LineJudged, Labelled, ScriptJu
 use flaws::{count_of, given_flaw, judge_by, lower, noted};
 use giving::label_flaw;
 use grammar::{Fault, Line, Refusal, Text};
-use phrases::{Label, given, start_of};
+use phrases::{Start, given, start_of};
 use reader::line_count;
 use tables::MOST_NAMES;
 
@@ -64,20 +64,18 @@ fn judge_line<'a>(
         from: at,
         count: end - at,
     };
-    let start = start_of(line);
-    let label = start.label;
-    let body = start.body;
+    let Start { label, body } = start_of(line);
     let g = given(
         names, script, split, filled, froms, counts, values, nexts, heads, line, body,
     );
     let more = words + count_of(g);
     match label {
-        Label::Nothing => ScriptPast {
-            above: above,
+        None => ScriptPast {
+            above,
             fault: noted(fault, given_flaw(g), here),
             words: more,
         },
-        Label::At(from, to) => {
+        Some((from, to)) => {
             let flaw = label_flaw(
                 names,
                 script,
@@ -100,7 +98,13 @@ fn judge_line<'a>(
 }
 
 // The fault with the room of the target taken into account.
-fn with_room(fault: Option<Fault>, words: usize, room: usize, last: usize, stop: usize) -> Option<Fault>
+fn with_room(
+    fault: Option<Fault>,
+    words: usize,
+    room: usize,
+    last: usize,
+    stop: usize,
+) -> Option<Fault>
     requires { last ≤ stop }
     ensures { result ≡ noted_by fault (room_flaw words room) (line_at last stop) }
 {
@@ -144,6 +148,7 @@ pub fn judge_script<'a>(
     let mut at: usize = 0;
     let mut last: usize = 0;
     let mut stop: usize = 0;
+    // A line ends where its byte 10 stands, so the place of the next is computed: no range gives these places.
     while at < script.len() {
         let end = at + line_count(script, at);
         let past = judge_line(

@@ -3,7 +3,6 @@ ghost use Rattle.std.specs.Prelude.{◌≡◌};
 ghost use Rattle.grammar.specs.Printing.{printing_bytes, printing_number};
 ghost use Rattle.kernel_c.specs.Promises.{PrintsC, MeasuresTextC};
 
-use flaws::number_of;
 use grammar::Refusal;
 use paper::NOT_REFUSED;
 use printing::{print, print_size};
@@ -28,7 +27,7 @@ fn tell_printing(answer: Result<usize, Refusal>) -> Printed
         },
         Err(r) => Printed {
             bytes: 0,
-            number: number_of(r),
+            number: u16::from(r),
         },
     }
 }

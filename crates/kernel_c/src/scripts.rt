@@ -3,7 +3,6 @@ ghost use Rattle.std.specs.Prelude.{◌≡◌};
 ghost use Rattle.grammar.specs.Texts.{text_number, translation_words, translation_number, translation_text, named_line};
 ghost use Rattle.kernel_c.specs.Promises.{TranslatesC, NamesLineC};
 
-use flaws::number_of;
 use grammar::{Fault, Refusal, Text};
 use paper::NOT_REFUSED;
 use texts::{judge, translate};
@@ -57,7 +56,7 @@ fn tell_translation(answer: Result<usize, (Refusal, Text)>) -> Translated
         },
         Err((r, text)) => Translated {
             words: 0,
-            number: number_of(r),
+            number: u16::from(r),
             text: number_of_text(text),
         },
     }

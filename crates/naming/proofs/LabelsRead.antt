@@ -1,4 +1,5 @@
 -- The lines of the script, read for their labels: what one line gives, and what the lines so far do. Assumes nothing.
+use Rattle.std.specs.Prelude.{Option, Some, ℕ}
 use mathlib.Core.Path.{◌≡◌, refl, sym, ap, ◌∙◌}
 use mathlib.Core.List.{List, ◌∷◌}
 use Prim.Native.Nat.{ℕ, ◌+◌, ◌-◌, ◌*◌, ◌<◌, ◌≤◌, min}
@@ -14,35 +15,16 @@ use Rattle.tokens.specs.declared.Token.{Token}
 use Rattle.tables.specs.Tables.{Table, table, entries, text_at, Chained, Headed}
 use Rattle.tables.proofs.Laws.{earlier_entries}
 use Rattle.phrases.specs.Phrases.{Starts}
-use Rattle.phrases.specs.declared.Label.{Label}
 use Rattle.giving.proofs.Lines.{line_splits, line_is_part, no_lines, Stands, word_stands, word_in_text}
 use Rattle.giving.specs.Passes.{GiveMade, LabelRead, LabelsRead}
 
--- a line without a label
-pub none_read : (t : Table) (n : ℕ) (heads l : List ℕ) (place : ℕ) → Chained t n → Headed t n heads → {label : Label} {body : Token} → Starts l label body →
-    label ≡ Label.Nothing → (count : ℕ) → count ≡ size_of (shown l body) → count ≤ 2 → LabelRead t t n heads l place n (place + count)
-none_read t n heads l place chained headed starts e count size few =
-    record {
-      given = rw (starts.labelled, e);
-      counted = rw starts.follows (ap (λ (k : ℕ). place + k) size);
-      few = omega arith;
-      stay = refl;
-      grows = omega arith;
-      chained = chained;
-      headed = headed;
-    }
-
 -- a label stands in the script, as its entry does
-pub label_stands : (script : List ℕ) (at end : ℕ) → (at ≤ end) × (end ≤ length script) → {label : Label} {body : Token} → Starts (part script at end) label body →
-    {from to : ℕ} → label ≡ Label.At from to → Stands script at end from to
+pub label_stands : (script : List ℕ) (at end : ℕ) → (at ≤ end) × (end ≤ length script) → {label : Option (ℕ × ℕ)} {body : Token} → Starts (part script at end) label body →
+    {from to : ℕ} → label ≡ Some (from, to) → Stands script at end from to
 label_stands script at end inside starts {from} {to} e = word_stands script at end from to inside (rw e at starts.label_inside)
 
-pub label_in_text : (names script : List ℕ) (split n : ℕ) → split ≤ n → {at end from to : ℕ} → Stands script at end from to →
-    at + from + (to - from) ≤ length (text_at names script split n)
-label_in_text names script split n h stands = rw (le-ltb n split h, text_at) (omega arith)
-
 pub label_read : (names script : List ℕ) (split : ℕ) (froms counts values nexts : List ℕ) (u : Table) (n : ℕ) (heads : List ℕ) (at end place : ℕ) → split ≤ n →
-    {label : Label} {body : Token} → Starts (part script at end) label body → {from to : ℕ} → label ≡ Label.At from to → Stands script at end from to →
+    {label : Option (ℕ × ℕ)} {body : Token} → Starts (part script at end) label body → {from to : ℕ} → label ≡ Some (from, to) → Stands script at end from to →
     (count : ℕ) → count ≡ size_of (shown (part script at end) body) → count ≤ 2 → (value more : ℕ) → value ≡ min place end_of_range →
     GiveMade (table names script split froms counts values nexts) u n heads (at + from) (to - from) value more →
     LabelRead (table names script split froms counts values nexts) u n heads (part script at end) place more (place + count)

@@ -40,46 +40,24 @@ give_alike es w x v alike = go (ltb (length es) most) refl
     go false e = rw (e, give)
 
 -- one line of the names
-abbrev pub LineShown : Table → ℕ → List ℕ → NamesLine → Type 0
+abbrev pub LineShown : Table → ℕ → List ℕ → Option NamesLine → Type 0
 LineShown t n l r = names_line (entries t n) (tokens l) ≡ shown_names l r
 
-pub outside_read : (t : Table) (n : ℕ) (heads names : List ℕ) (at end : ℕ) (before : Option (Refusal × Line)) → Chained t n → Headed t n heads → (at ≤ end) × (end ≤ length names) →
-    (r : NamesLine) → LineShown t n (part names at end) r → r ≡ NamesLine.Outside → (after : Option (Refusal × Line)) →
-    after ≡ noted before (Some Refusal.OutsideGrammar) (here at end) → NameRead t t n heads at (part names at end) before n after
-outside_read t n heads names at end before chained headed inside r shown e after noting =
-    let is : LineShown t n (part names at end) NamesLine.Outside = shown ∙ ap (shown_names (part names at end)) e in
-    record {
-      given = rw is;
-      fault = rw is (noting ∙ ap (noted before (Some Refusal.OutsideGrammar)) (same_line names at end inside.0 inside.1));
-      chained = chained;
-      headed = headed;
-    }
-
-pub blank_read : (t : Table) (n : ℕ) (heads names : List ℕ) (at end : ℕ) (before : Option (Refusal × Line)) → Chained t n → Headed t n heads →
-    (r : NamesLine) → LineShown t n (part names at end) r → r ≡ NamesLine.Blank → NameRead t t n heads at (part names at end) before n before
-blank_read t n heads names at end before chained headed r shown e =
-    let is : LineShown t n (part names at end) NamesLine.Blank = shown ∙ ap (shown_names (part names at end)) e in
-    record { given = rw is; fault = rw is; chained = chained; headed = headed }
-
 -- a name that a line gives stands in the names, where an entry has it unless the table is full
-pub name_stands : (names : List ℕ) (at end : ℕ) → (at ≤ end) × (end ≤ length names) → (r : NamesLine) → NamesInside (part names at end) r →
-    {from to : ℕ} {v : Result ℕ NoValue} → r ≡ NamesLine.Gives from to v → Stands names at end from to
+pub name_stands : (names : List ℕ) (at end : ℕ) → (at ≤ end) × (end ≤ length names) → (r : Option NamesLine) → NamesInside (part names at end) r →
+    {from to : ℕ} {v : Result ℕ NoValue} → r ≡ Some (NamesLine.Gives from to v) → Stands names at end from to
 name_stands names at end inside r stands {from} {to} e = word_stands names at end from to inside (rw e at stands)
 
-pub name_in_text : (names script : List ℕ) (n : ℕ) {at end from to : ℕ} → Stands names at end from to → n < most →
-    at + from + (to - from) ≤ length (text_at names script most n)
-name_in_text names script n stands h = rw (lt-ltb n most h, text_at) (omega arith)
-
 pub name_read : (names script : List ℕ) (froms counts values nexts : List ℕ) (u : Table) (n : ℕ) (heads : List ℕ) (at end : ℕ) (before : Option (Refusal × Line)) →
-    (r : NamesLine) → LineShown (table names script most froms counts values nexts) n (part names at end) r →
-    {from to : ℕ} {v : Result ℕ NoValue} → r ≡ NamesLine.Gives from to v → Stands names at end from to → (at ≤ end) × (end ≤ length names) →
+    (r : Option NamesLine) → LineShown (table names script most froms counts values nexts) n (part names at end) r →
+    {from to : ℕ} {v : Result ℕ NoValue} → r ≡ Some (NamesLine.Gives from to v) → Stands names at end from to → (at ≤ end) × (end ≤ length names) →
     (again worked flaw : Option Refusal) → again ≡ give_flaw (entries (table names script most froms counts values nexts) n) (part (part names at end) from to) →
     worked ≡ worked_flaw v → flaw ≡ lower again worked → (value more : ℕ) → value ≡ kept_value v →
     GiveMade (table names script most froms counts values nexts) u n heads (at + from) (to - from) value more →
     (after : Option (Refusal × Line)) → after ≡ noted before flaw (here at end) → NameRead (table names script most froms counts values nexts) u n heads at (part names at end) before more after
 name_read names script froms counts values nexts u n heads at end before r shown {from} {to} {v} e stands inside again worked flaw p q s value more k made after noting =
     let t : Table = table names script most froms counts values nexts in
-    let is : LineShown t n (part names at end) (NamesLine.Gives from to v) = shown ∙ ap (shown_names (part names at end)) e in
+    let is : LineShown t n (part names at end) (Some (NamesLine.Gives from to v)) = shown ∙ ap (shown_names (part names at end)) e in
     let w : List ℕ = part (part names at end) from to in
     record {
       given =

@@ -6,7 +6,7 @@ ghost use Rattle.giving.specs.Passes.{LabelRead, LabelsRead};
 
 use flaws::label_value;
 use giving::give;
-use phrases::{Label, size, start_of};
+use phrases::{Start, size, start_of};
 use reader::line_count;
 use tables::MOST_NAMES;
 
@@ -40,16 +40,14 @@ fn read_label<'a>(
     ensures { LabelRead (table names.now script.now split froms.old counts.old values.old nexts.old) (table names.now script.now split froms.new counts.new values.new nexts.new) filled heads.new (part script.now at end) place result.filled result.place }
 {
     let line = &script[at..end];
-    let start = start_of(line);
-    let label = start.label;
-    let body = start.body;
+    let Start { label, body } = start_of(line);
     let next = place + size(line, body);
     match label {
-        Label::Nothing => LabelsPast {
-            filled: filled,
+        None => LabelsPast {
+            filled,
             place: next,
         },
-        Label::At(from, to) => {
+        Some((from, to)) => {
             let more = give(
                 names,
                 script,
@@ -90,6 +88,7 @@ pub fn read_labels<'a>(
     let mut filled = split;
     let mut place: usize = 0;
     let mut at: usize = 0;
+    // A line ends where its byte 10 stands, so the place of the next is computed: no range gives these places.
     while at < script.len() {
         let end = at + line_count(script, at);
         let past = read_label(

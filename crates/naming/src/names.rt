@@ -46,15 +46,12 @@ fn read_name<'a>(
     match names_line(
         names, script, MOST_NAMES, filled, froms, counts, values, nexts, heads, line,
     ) {
-        NamesLine::Outside => NamesPast {
-            filled: filled,
+        None => NamesPast {
+            filled,
             fault: noted(fault, Some(Refusal::OutsideGrammar), here),
         },
-        NamesLine::Blank => NamesPast {
-            filled: filled,
-            fault: fault,
-        },
-        NamesLine::Gives(from, to, v) => {
+        Some(NamesLine::Blank) => NamesPast { filled, fault },
+        Some(NamesLine::Gives(from, to, v)) => {
             let word = &line[from..to];
             let flaw = lower(
                 name_flaw(
@@ -101,6 +98,7 @@ pub fn read_names<'a>(
     let mut filled: usize = 0;
     let mut fault = None;
     let mut at: usize = 0;
+    // A line ends where its byte 10 stands, so the place of the next is computed: no range gives these places.
     while at < names.len() {
         let end = at + line_count(names, at);
         let past = read_name(
@@ -110,8 +108,5 @@ pub fn read_names<'a>(
         fault = past.fault;
         at = end + 1;
     }
-    NamesPast {
-        filled: filled,
-        fault: fault,
-    }
+    NamesPast { filled, fault }
 }

@@ -2,9 +2,8 @@
 use mathlib.Core.Path.{◌≡◌, refl, sym, ap, ◌∙◌}
 use mathlib.Core.Bool.{Bool, true, false, ◌&&◌, and-eq-true_iff, true≢false, false≢true}
 use mathlib.Core.List.{List, [], ◌∷◌}
-use Rattle.std.specs.Prelude.{Some, None}
+use Rattle.std.specs.Prelude.{Some, None, Option, ℕ}
 use Prim.Native.Nat.{ℕ, ◌<◌, ◌≤◌}
-use native.Mathlib.Omega.{arith}
 use borrow.Author.Tests.{ltb-true}
 use lib.Dec.{ltb}
 use lib.ListN.{length, drop}
@@ -13,15 +12,12 @@ use Rattle.grammar.specs.Tokens.{tokens, begins, rest, equals_mark, label_mark}
 use Rattle.grammar.specs.Kept.{Row, kept_words, kept_in, kept_as}
 use Rattle.grammar.specs.Sums.{Entry, sum_of}
 use Rattle.grammar.specs.Lines as Lines
-use Rattle.grammar.specs.Lines.{gives_sum, gives_name, names_line, label_of, words_by, register_as, register, one}
-use Rattle.grammar.specs.declared.Given.{Given}
+use Rattle.grammar.specs.Lines.{gives_sum, gives_name, names_line, label_of, register_as, register}
 use Rattle.grammar.specs.declared.Kept.{Kept}
 use Rattle.grammar.specs.declared.Operands.{Operands}
 use Rattle.tokens.specs.Shown.{shown, Inside, part, marks, is_end}
 use Rattle.tokens.specs.declared.Token.{Token}
 use Rattle.sums.proofs.Laws.{marked_at, not_marked}
-use Rattle.phrases.specs.declared.Label.{Label}
-use Rattle.phrases.specs.declared.Operand.{Operand}
 use Rattle.phrases.specs.Phrases.{free, is_name, Starts, order_end, OperandInside}
 use Rattle.phrases.proofs.Phrases.{is_word, is_register}
 
@@ -61,13 +57,6 @@ order_small w o f r e g = ltb-true f order_end (ap (λ (k : Kept). small k) (sym
 pub word_inside : (l : List ℕ) (from to : ℕ) (t : Token) → t ≡ Token.Word from to → Inside l t → (from ≤ to) × (to ≤ length l)
 word_inside l from to t e h = rw e at h
 
--- an order has two words at most
-pub few_words : (o : Operands) → words_by o ≤ 2
-few_words Operands.Nothing = omega arith
-few_words Operands.Sum = omega arith
-few_words Operands.RegisterSum = omega arith
-few_words Operands.Registers = omega arith
-
 -- a register as an operand
 pub no_word_register : (l : List ℕ) (t : Token) → is_word t ≡ false → register (shown l t) ≡ Lines.Operand.missing
 unfolding register
@@ -84,7 +73,7 @@ no_register (Kept.Order o f) ts h = refl
 no_register Kept.Later ts h = refl
 
 -- an operand that was read
-pub operand_inside : (l : List ℕ) (r : Operand) (a : ℕ) (t : Token) → r ≡ Operand.At a t → OperandInside l r → (a < 8) × Inside l t
+pub operand_inside : (l : List ℕ) (r : Option (ℕ × Token)) (a : ℕ) (t : Token) → r ≡ Some (a, t) → OperandInside l r → (a < 8) × Inside l t
 operand_inside l r a t e h = rw e at h
 
 -- where no token is left
@@ -94,14 +83,6 @@ no_token (Token.Number from to) h = absurd (false≢true h)
 no_token (Token.Word from to) h = absurd (false≢true h)
 no_token (Token.Mark b to) h = absurd (false≢true h)
 no_token (Token.Stray to) h = absurd (false≢true h)
-
--- one word, where more tokens follow
-pub one_goes_on : (f : ℕ) (t : Token) → is_end t ≡ false → (l : List ℕ) → Given.Outside ≡ one f (shown l t)
-one_goes_on f Token.End h l = absurd (true≢false h)
-one_goes_on f (Token.Number from to) h l = refl
-one_goes_on f (Token.Word from to) h l = refl
-one_goes_on f (Token.Mark b to) h l = refl
-one_goes_on f (Token.Stray to) h l = refl
 
 -- a line of the names that starts with no word
 pub names_no_word : (es : List Entry) (l : List ℕ) (t : Token) → is_end t ≡ false → is_word t ≡ false → names_line es (shown l t) ≡ Lines.NamesLine.outside
@@ -148,7 +129,7 @@ names_sum es l t w after next h m g =
     free_word es (kept_as w) w (shown l t) h e.0 ∙ rw (e.1.0, g)
 
 -- a line of the script with no label
-pub starts_alone : (l : List ℕ) (t : Token) → tokens l ≡ shown l t → Inside l t → label_of (shown l t) ≡ Lines.Label.none → Starts l Label.Nothing t
+pub starts_alone : (l : List ℕ) (t : Token) → tokens l ≡ shown l t → Inside l t → label_of (shown l t) ≡ Lines.Label.none → Starts l None t
 starts_alone l t e h g = record { labelled = rw e g; follows = rw (e, g); label_inside = tt; body_inside = h }
 
 pub no_word_label : (l : List ℕ) (t : Token) → is_word t ≡ false → label_of (shown l t) ≡ Lines.Label.none
@@ -174,19 +155,19 @@ free_label Kept.Later w h = absurd (false≢true h)
 
 -- a word at the start of a line of the script, by the token after it
 module _ (l : List ℕ) (t : Token) (from to : ℕ) (second : Token) (e : tokens l ≡ shown l t) (h : Inside l t) (f : t ≡ Token.Word from to) (g : tokens (drop to l) ≡ shown l second) where
-  word_alone : label_of (Tokens.Token.word (part l from to) ∷ shown l second) ≡ Lines.Label.none → Starts l Label.Nothing (Token.Word from to)
+  word_alone : label_of (Tokens.Token.word (part l from to) ∷ shown l second) ≡ Lines.Label.none → Starts l None (Token.Word from to)
   word_alone k = starts_alone l (Token.Word from to) (rw f at e) (rw f at h) (rw g k)
 
-  pub starts_no_mark : marks label_mark second ≡ None → Starts l Label.Nothing (Token.Word from to)
+  pub starts_no_mark : marks label_mark second ≡ None → Starts l None (Token.Word from to)
   unfolding label_of
   starts_no_mark k = word_alone (rw (not_marked label_mark l second k, label_of))
 
-  pub starts_kept : (after : ℕ) → marks label_mark second ≡ Some after → is_name (part l from to) ≡ false → Starts l Label.Nothing (Token.Word from to)
+  pub starts_kept : (after : ℕ) → marks label_mark second ≡ Some after → is_name (part l from to) ≡ false → Starts l None (Token.Word from to)
   unfolding label_of
   starts_kept after k n = word_alone (rw ((marked_at label_mark after l second k).0, label_of) (kept_label (kept_as (part l from to)) (part l from to) n))
 
   pub starts_labelled : (after : ℕ) (body : Token) → marks label_mark second ≡ Some after → is_name (part l from to) ≡ true
-      → tokens (drop after l) ≡ shown l body → Inside l body → Starts l (Label.At from to) body
+      → tokens (drop after l) ≡ shown l body → Inside l body → Starts l (Some (from, to)) body
   unfolding label_of
   starts_labelled after body k n b i =
       let m = marked_at label_mark after l second k in

@@ -12,38 +12,22 @@ ghost use Rattle.phrases.specs.Phrases.{is_name, shown_names, NamesInside, Start
 
 use grammar::{Given, Kept, NoValue, Operands};
 use kept::kept;
-use sums::{Total, sum_of};
+use sums::sum_of;
 use tables::MOST_NAMES;
 use tokens::{EQUALS, LABEL, Token, ends, mark_of, next_token};
 
-// What a line of the names comes to: outside the grammar, blank, or a name with its first byte and the place after it, and
-// what its sum comes to.
+// What a line of the names comes to: nothing, or a name with its first byte and the place after it, and what its sum comes to.
 #[derive(Clone, Copy)]
 pub enum NamesLine {
-    Outside,
     Blank,
     Gives(usize, usize, Result<u16, NoValue>),
 }
 
-// A line's label, with its first byte and the place after it.
-#[derive(Clone, Copy)]
-pub enum Label {
-    Nothing,
-    At(usize, usize),
-}
-
-// How a line of the script starts: its label, and the first token of its body.
+// How a line of the script starts: its label, with its first byte and the place after it, and the first token of its body.
 #[derive(Clone, Copy)]
 pub struct Start {
-    pub label: Label,
+    pub label: Option<(usize, usize)>,
     pub body: Token,
-}
-
-// A register as an operand, and the token after it.
-#[derive(Clone, Copy)]
-pub enum Operand {
-    Missing,
-    At(u16, Token),
 }
 
 // An order's first word has its first register sixteenfold.
@@ -53,15 +37,10 @@ const SIXTEEN: u16 = 16;
 fn is_free(word: &[u8]) -> bool
     ensures { result ≡ is_name word.now }
 {
-    match kept(word) {
-        Kept::Free => true,
-        Kept::Register(_) => false,
-        Kept::Order(_, _) => false,
-        Kept::Later => false,
-    }
+    matches!(kept(word), Kept::Free)
 }
 
-// A line of the names.
+// A line of the names, if it is one of the grammar.
 pub fn names_line<'a>(
     names: &'a [u8],
     script: &'a [u8],
@@ -73,7 +52,7 @@ pub fn names_line<'a>(
     nexts: &[u16; MOST_NAMES],
     heads: &[u16; MOST_NAMES],
     line: &[u8],
-) -> NamesLine
+) -> Option<NamesLine>
     requires chained { Chained (table names.now script.now split froms.now counts.now values.now nexts.now) filled }
     requires headed { Headed (table names.now script.now split froms.now counts.now values.now nexts.now) filled heads.now }
     ensures line_value { names_line (entries (table names.now script.now split froms.now counts.now values.now nexts.now) filled) (tokens line.now) ≡ shown_names line.now result }
@@ -81,18 +60,16 @@ pub fn names_line<'a>(
 {
     let first = next_token(line, 0);
     if ends(first) {
-        return NamesLine::Blank;
+        return Some(NamesLine::Blank);
     }
     let Token::Word(from, to) = first else {
-        return NamesLine::Outside;
+        return None;
     };
     if !is_free(&line[from..to]) {
-        return NamesLine::Outside;
+        return None;
     }
-    let Some(after) = mark_of(next_token(line, to), EQUALS) else {
-        return NamesLine::Outside;
-    };
-    let Total::Comes(v) = sum_of(
+    let after = mark_of(next_token(line, to), EQUALS)?;
+    let v = sum_of(
         names,
         script,
         split,
@@ -104,10 +81,8 @@ pub fn names_line<'a>(
         heads,
         line,
         next_token(line, after),
-    ) else {
-        return NamesLine::Outside;
-    };
-    NamesLine::Gives(from, to, v)
+    )?;
+    Some(NamesLine::Gives(from, to, v))
 }
 
 // How a line of the script starts.
@@ -117,24 +92,24 @@ pub fn start_of(line: &[u8]) -> Start
     let first = next_token(line, 0);
     let Token::Word(from, to) = first else {
         return Start {
-            label: Label::Nothing,
+            label: None,
             body: first,
         };
     };
     let Some(after) = mark_of(next_token(line, to), LABEL) else {
         return Start {
-            label: Label::Nothing,
+            label: None,
             body: first,
         };
     };
     if is_free(&line[from..to]) {
         return Start {
-            label: Label::At(from, to),
+            label: Some((from, to)),
             body: next_token(line, after),
         };
     }
     Start {
-        label: Label::Nothing,
+        label: None,
         body: first,
     }
 }
@@ -144,14 +119,13 @@ fn words_by(operands: Operands) -> usize
     ensures { result ≡ words_of operands }
 {
     match operands {
-        Operands::Nothing => 1,
-        Operands::Sum => 2,
-        Operands::RegisterSum => 2,
-        Operands::Registers => 1,
+        Operands::Nothing | Operands::Registers => 1,
+        Operands::Sum | Operands::RegisterSum => 2,
     }
 }
 
 // How many words the body of a line gives, by its first token.
+#[tactic(auto, unfolding(grammar::specs::Lines::size_of))]
 pub fn size(line: &[u8], body: Token) -> usize
     requires { Inside line.now body }
     ensures value { result ≡ size_of (shown line.now body) }
@@ -159,55 +133,44 @@ pub fn size(line: &[u8], body: Token) -> usize
 {
     match body {
         Token::End => 0,
-        Token::Number(_, _) => 1,
         Token::Word(from, to) => match kept(&line[from..to]) {
-            Kept::Free => 1,
-            Kept::Register(_) => 1,
-            Kept::Order(o, _) => words_by(o),
-            Kept::Later => 1,
+            Kept::Order(operands, _) => words_by(operands),
+            Kept::Free | Kept::Register(_) | Kept::Later => 1,
         },
-        Token::Mark(_, _) => 1,
-        Token::Stray(_) => 1,
+        Token::Number(_, _) | Token::Mark(_, _) | Token::Stray(_) => 1,
     }
 }
 
-// A register as an operand.
-fn register(line: &[u8], t: Token) -> Operand
+// A register as an operand, and the token after it.
+fn register(line: &[u8], t: Token) -> Option<(u16, Token)>
     requires { Inside line.now t }
     ensures t_value { register_of (shown line.now t) ≡ shown_operand line.now result }
     ensures operand_inside { OperandInside line.now result }
 {
     let Token::Word(from, to) = t else {
-        return Operand::Missing;
+        return None;
     };
     let Kept::Register(a) = kept(&line[from..to]) else {
-        return Operand::Missing;
+        return None;
     };
-    Operand::At(a, next_token(line, to))
+    Some((a, next_token(line, to)))
 }
 
 // One word, where the line ends.
-fn one(word: u16, t: Token) -> Given
+fn one(word: u16, t: Token) -> Option<Given>
     ensures { (l : List ℕ) → result ≡ one_of word (shown l t) }
 {
-    if ends(t) {
-        return Given::One(Ok(word));
-    }
-    Given::Outside
+    ends(t).then_some(Given::One(Ok(word)))
 }
 
 // Two registers.
-fn with_registers(word: u16, line: &[u8], t: Token) -> Given
+fn with_registers(word: u16, line: &[u8], t: Token) -> Option<Given>
     requires inside { Inside line.now t }
     requires word_lt_order_end { word < order_end }
     ensures { result ≡ registers_of word (register_of (shown line.now t)) }
 {
-    let Operand::At(a, second) = register(line, t) else {
-        return Given::Outside;
-    };
-    let Operand::At(b, last) = register(line, second) else {
-        return Given::Outside;
-    };
+    let (a, second) = register(line, t)?;
+    let (b, last) = register(line, second)?;
     one(word + SIXTEEN * a + b, last)
 }
 
@@ -225,18 +188,16 @@ fn two<'a>(
     word: u16,
     line: &[u8],
     t: Token,
-) -> Given
+) -> Option<Given>
     requires chained { Chained (table names.now script.now split froms.now counts.now values.now nexts.now) filled }
     requires headed { Headed (table names.now script.now split froms.now counts.now values.now nexts.now) filled heads.now }
     requires inside { Inside line.now t }
     ensures { result ≡ two_of word (sum_by (entries (table names.now script.now split froms.now counts.now values.now nexts.now) filled) (shown line.now t)) }
 {
-    let Total::Comes(v) = sum_of(
+    let v = sum_of(
         names, script, split, filled, froms, counts, values, nexts, heads, line, t,
-    ) else {
-        return Given::Outside;
-    };
-    Given::Two(word, v)
+    )?;
+    Some(Given::Two(word, v))
 }
 
 // An order with its operands.
@@ -254,7 +215,7 @@ fn order<'a>(
     word: u16,
     line: &[u8],
     t: Token,
-) -> Given
+) -> Option<Given>
     requires chained { Chained (table names.now script.now split froms.now counts.now values.now nexts.now) filled }
     requires headed { Headed (table names.now script.now split froms.now counts.now values.now nexts.now) filled heads.now }
     requires inside { Inside line.now t }
@@ -267,9 +228,7 @@ fn order<'a>(
             names, script, split, filled, froms, counts, values, nexts, heads, word, line, t,
         ),
         Operands::RegisterSum => {
-            let Operand::At(a, second) = register(line, t) else {
-                return Given::Outside;
-            };
+            let (a, second) = register(line, t)?;
             two(
                 names,
                 script,
@@ -302,21 +261,20 @@ fn alone<'a>(
     heads: &[u16; MOST_NAMES],
     line: &[u8],
     t: Token,
-) -> Given
+) -> Option<Given>
     requires chained { Chained (table names.now script.now split froms.now counts.now values.now nexts.now) filled }
     requires headed { Headed (table names.now script.now split froms.now counts.now values.now nexts.now) filled heads.now }
     requires inside { Inside line.now t }
     ensures { result ≡ sum_line (sum_by (entries (table names.now script.now split froms.now counts.now values.now nexts.now) filled) (shown line.now t)) }
 {
-    let Total::Comes(v) = sum_of(
+    let v = sum_of(
         names, script, split, filled, froms, counts, values, nexts, heads, line, t,
-    ) else {
-        return Given::Outside;
-    };
-    Given::One(v)
+    )?;
+    Some(Given::One(v))
 }
 
 // What the body of a script's line gives, from its first token.
+#[tactic(auto, unfolding(grammar::specs::Lines::given))]
 pub fn given<'a>(
     names: &'a [u8],
     script: &'a [u8],
@@ -329,22 +287,19 @@ pub fn given<'a>(
     heads: &[u16; MOST_NAMES],
     line: &[u8],
     body: Token,
-) -> Given
+) -> Option<Given>
     requires chained { Chained (table names.now script.now split froms.now counts.now values.now nexts.now) filled }
     requires headed { Headed (table names.now script.now split froms.now counts.now values.now nexts.now) filled heads.now }
     requires inside { Inside line.now body }
     ensures { result ≡ given_by (entries (table names.now script.now split froms.now counts.now values.now nexts.now) filled) (shown line.now body) }
 {
     match body {
-        Token::End => Given::Nothing,
-        Token::Number(_, _) => alone(
-            names, script, split, filled, froms, counts, values, nexts, heads, line, body,
-        ),
+        Token::End => Some(Given::Nothing),
+        Token::Stray(_) => None,
         Token::Word(from, to) => match kept(&line[from..to]) {
             Kept::Free => alone(
                 names, script, split, filled, froms, counts, values, nexts, heads, line, body,
             ),
-            Kept::Register(_) => Given::Outside,
             Kept::Order(o, word) => order(
                 names,
                 script,
@@ -360,11 +315,10 @@ pub fn given<'a>(
                 line,
                 next_token(line, to),
             ),
-            Kept::Later => Given::Outside,
+            Kept::Register(_) | Kept::Later => None,
         },
-        Token::Mark(_, _) => alone(
+        Token::Number(_, _) | Token::Mark(_, _) => alone(
             names, script, split, filled, froms, counts, values, nexts, heads, line, body,
         ),
-        Token::Stray(_) => Given::Outside,
     }
 }

@@ -1,5 +1,5 @@
 -- A printed text gives the words that were printed, line by line. Assumes nothing.
-use Rattle.std.specs.Prelude.{◌≡◌, refl, true, List, [], ◌∷◌, ◌++◌, ℕ, ◌+◌, ◌*◌, ◌<◌, ◌≤◌, length, None, Ok}
+use Rattle.std.specs.Prelude.{◌≡◌, refl, true, List, [], ◌∷◌, ◌++◌, ℕ, ◌+◌, ◌*◌, ◌<◌, ◌≤◌, length, None, Ok, Option, Some}
 use Rattle.std.proofs.Common.{ap, sym, subst, ◌∙◌, arith, length-append}
 use Rattle.paper.specs.Runner.{decimal, newline}
 use Rattle.laws.specs.Decimal.{decimal_short}
@@ -24,7 +24,7 @@ unfolding lines labels_given script_lines script_words
 nothing_spells = record { labels = λ p. refl; clean = λ p at. tt; words = refl; short = omega arith }
 
 -- one more line in front
-line_spells : (l t ws : List ℕ) (g : Given) → Line l g → given_flaw g ≡ None → length l + 1 ≤ 16 * length (line_words g) → Spells t ws
+line_spells : (l t ws : List ℕ) (g : Option Given) → Line l g → given_flaw g ≡ None → length l + 1 ≤ 16 * length (line_words g) → Spells t ws
     → Spells (l ++ (newline ++ t)) (line_words g ++ ws)
 unfolding labels_given script_lines script_words
 line_spells l t ws g h fine few s =
@@ -51,10 +51,10 @@ whole_of s w n later past =
 module _ (w : ℕ) (small : w < end_of_range) where
   plain_spells : (t ws : List ℕ) → Spells t ws → Spells (decimal w ++ (newline ++ t)) (w ∷ ws)
   plain_spells t ws h =
-      line_spells (decimal w) t ws (Given.One (Ok w)) (number_line w small) refl (omega (arith, decimal_short 4 w (omega arith))) h
+      line_spells (decimal w) t ws (Some (Given.One (Ok w))) (number_line w small) refl (omega (arith, decimal_short 4 w (omega arith))) h
 
   one_spells : (l t ws : List ℕ) → passes w (Spelling.one l) ≡ true → Spells t ws → Spells (l ++ (newline ++ t)) (w ∷ ws)
-  one_spells l t ws e h = let x = one_line w l e in line_spells l t ws (Given.One (Ok w)) x.0 refl (omega (arith, x.1)) h
+  one_spells l t ws e h = let x = one_line w l e in line_spells l t ws (Some (Given.One (Ok w))) x.0 refl (omega (arith, x.1)) h
 
   pub last_spells : (s : Spelling) → passes w s ≡ true → Spells (line_alone s w ++ newline) (w ∷ [])
   last_spells Spelling.plain e = plain_spells [] [] nothing_spells
@@ -68,4 +68,4 @@ module _ (w : ℕ) (small : w < end_of_range) where
   first_spells (Spelling.two l) n later past ws e r h g =
       let x = two_line w n l e r in
       let long : length (l ++ number_text n) + 1 ≤ 32 = rw (length-append l (number_text n)) (omega (arith, x.1, decimal_short 4 n (omega arith))) in
-      line_spells (l ++ number_text n) past ws (Given.Two w (Ok n)) x.0 refl (omega arith) g
+      line_spells (l ++ number_text n) past ws (Some (Given.Two w (Ok n))) x.0 refl (omega arith) g

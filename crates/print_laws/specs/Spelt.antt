@@ -1,5 +1,5 @@
 -- Each line of a printed text is read as the words that it was printed for. Assumes nothing.
-use Rattle.std.specs.Prelude.{◌≡◌, refl, Bool, true, false, not, ◌&&◌, ℕ, ◌+◌, ◌*◌, ◌<◌, ◌≤◌, eqb, leb, length, Err, Ok}
+use Rattle.std.specs.Prelude.{◌≡◌, refl, Bool, true, false, not, ◌&&◌, ℕ, ◌+◌, ◌*◌, ◌<◌, ◌≤◌, eqb, leb, length, Err, Ok, None, Option, Some}
 use Rattle.std.proofs.Common.{ap, sym, ◌∙◌, true≢false, arith, eqb-true, leb-true, ne_eqb}
 use Rattle.std.proofs.Math.Bool.{and-eq-true_iff}
 use mathlib.Core.List.{List, [], ◌∷◌, ◌++◌, append_assoc}
@@ -64,13 +64,13 @@ unfolding tokens
 parted l m e = parted_on Open.none l m e
 
 -- what is shown of a line: it is one line, has no label and gives this
-pub record Line (l : List ℕ) (g : Given) : Type 0 where
+pub record Line (l : List ℕ) (g : Option Given) : Type 0 where
   pub whole : each calm l ≡ true
   pub bare : label_of (tokens l) ≡ Label.none
   pub gives : given [] (tokens l) ≡ g
 
 -- a number
-pub number_line : (n : ℕ) → n < end_of_range → Line (decimal n) (Given.One (Ok n))
+pub number_line : (n : ℕ) → n < end_of_range → Line (decimal n) (Some (Given.One (Ok n)))
 unfolding label_of given
 number_line n h =
     record {
@@ -80,13 +80,12 @@ number_line n h =
     }
 
 -- the tests of a line of one word, and of the part of a line before its second word; neither is longer than 15 bytes
-abbrev is_one : ℕ → Given → Bool
-is_one w Given.Outside = false
-is_one w Given.Nothing = false
-is_one w (Given.One (Ok v)) = eqb v w
-is_one w (Given.One (Err NoValue.Missing)) = false
-is_one w (Given.One (Err NoValue.Beyond)) = false
-is_one w (Given.Two f v) = false
+abbrev is_one : ℕ → Option Given → Bool
+is_one w None = false
+is_one w (Some Given.Nothing) = false
+is_one w (Some (Given.One (Ok v))) = eqb v w
+is_one w (Some (Given.One (Err x))) = false
+is_one w (Some (Given.Two f v)) = false
 
 abbrev no_label : Label → Bool
 no_label Label.none = true
@@ -131,19 +130,18 @@ short_parts l t e =
     let two = (and-eq-true_iff (each calm l) (leb (length l) 15)).0 both.0 in
     (two.0, leb-true (length l) 15 two.1, both.1)
 
-one_is : (w : ℕ) (g : Given) → is_one w g ≡ true → g ≡ Given.One (Ok w)
-one_is w Given.Outside e = absurd (true≢false (sym e))
-one_is w Given.Nothing e = absurd (true≢false (sym e))
-one_is w (Given.One (Ok v)) e = ap (λ x. Given.One (Ok x)) (eqb-true v w e)
-one_is w (Given.One (Err NoValue.Missing)) e = absurd (true≢false (sym e))
-one_is w (Given.One (Err NoValue.Beyond)) e = absurd (true≢false (sym e))
-one_is w (Given.Two f v) e = absurd (true≢false (sym e))
+one_is : (w : ℕ) (g : Option Given) → is_one w g ≡ true → g ≡ Some (Given.One (Ok w))
+one_is w None e = absurd (true≢false (sym e))
+one_is w (Some Given.Nothing) e = absurd (true≢false (sym e))
+one_is w (Some (Given.One (Ok v))) e = ap (λ x. Some (Given.One (Ok x))) (eqb-true v w e)
+one_is w (Some (Given.One (Err x))) e = absurd (true≢false (sym e))
+one_is w (Some (Given.Two f v)) e = absurd (true≢false (sym e))
 
 label_is : (x : Label) → no_label x ≡ true → x ≡ Label.none
 label_is Label.none e = refl
 label_is (Label.label w) e = absurd (true≢false (sym e))
 
-pub one_line : (w : ℕ) (l : List ℕ) → passes w (Spelling.one l) ≡ true → Line l (Given.One (Ok w)) × (length l ≤ 15)
+pub one_line : (w : ℕ) (l : List ℕ) → passes w (Spelling.one l) ≡ true → Line l (Some (Given.One (Ok w))) × (length l ≤ 15)
 one_line w l e =
     let h = short_parts l (no_label (label_of (tokens l)) && is_one w (given [] (tokens l))) e in
     let both = (and-eq-true_iff (no_label (label_of (tokens l))) (is_one w (given [] (tokens l)))).0 h.2 in (
@@ -202,7 +200,7 @@ module _ (w : ℕ) (ds : List ℕ) where
   opened (Token.stray ∷ ts) e = absurd (true≢false (sym e))
 
 pub two_line : (w n : ℕ) (l : List ℕ) → passes w (Spelling.two l) ≡ true → n < end_of_range
-    → Line (l ++ number_text n) (Given.Two w (Ok n)) × (length l ≤ 15)
+    → Line (l ++ number_text n) (Some (Given.Two w (Ok n))) × (length l ≤ 15)
 two_line w n l e r =
     let h = short_parts l (opens w (tokens l)) e in
     let ts : tokens (l ++ number_text n) ≡ tokens l ++ (Token.number (decimal n) ∷ []) = parted l (decimal n) h.0 ∙ rw (token_back n) in

@@ -9,7 +9,6 @@ use disk::{
     ARG_BYTES, Outcome, Output, arg_count, blank, ended, load_words, misused, put_text, say,
     short_arg, standard_error, standard_output, tell,
 };
-use flaws::number_of;
 use inspect::inspect;
 use joining::{Asked, read_word};
 use paper::{Shape, Task};
@@ -43,7 +42,7 @@ fn print_words(rt: &HostRuntime, path: &[u8], words: &[u16]) -> Outcome {
         Ok(bytes) => ended(rt, put_text(standard_output(rt), &text[..bytes])),
         Err(r) => {
             let named = put_text(standard_error(rt), path);
-            let numbered = put_refused(named, number_of(r));
+            let numbered = put_refused(named, u16::from(r));
             let _ = put_text(numbered, b"more than 32715 words\n");
             Outcome::Refused
         }

@@ -12,7 +12,7 @@ ghost use Rattle.reasons.specs.UsedNames.{most_text, Held, Steps};
 use grammar::{Kept, LINE_END, Line, Refusal, Text};
 use kept::kept;
 use outside::{Reason, names_reason, script_reason};
-use phrases::{Label, start_of};
+use phrases::start_of;
 use tables::{MOST_NAMES, NO_ENTRY, look};
 use texts::read_texts;
 use tokens::{Token, next_token};
@@ -162,7 +162,7 @@ fn label_reason<'a>(names: &'a [u8], script: &'a [u8], above: &'a [u8], line: &[
 {
     let start = start_of(line);
     let label = start.label;
-    let Label::At(from, to) = label else {
+    let Some((from, to)) = label else {
         return use_reason(names, script, line, 0);
     };
     if gives(names, above, &line[from..to]) {

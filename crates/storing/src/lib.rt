@@ -16,27 +16,19 @@ use tables::MOST_NAMES;
 use writes::put_word;
 
 // Stores the words that a line gives, and answers where the next go.
-fn store_given(g: Given, k: usize, target: &mut [u16]) -> usize
+#[tactic(auto, unfolding(writes::specs::Written::written))]
+fn store_given(g: Option<Given>, k: usize, target: &mut [u16]) -> usize
     requires { k + length (line_words g) ≤ length target.old }
     ensures value { result ≡ k + length (line_words g) }
     ensures target_after { target.new ≡ written target.old k (line_words g) }
 {
     match g {
-        Given::Outside => k,
-        Given::Nothing => k,
-        Given::One(v) => {
-            let Ok(n) = v else {
-                return k;
-            };
-            put_word(target, k, n)
-        }
-        Given::Two(first, v) => {
-            let Ok(n) = v else {
-                return k;
-            };
+        Some(Given::One(Ok(n))) => put_word(target, k, n),
+        Some(Given::Two(first, Ok(n))) => {
             let second = put_word(target, k, first);
             put_word(target, second, n)
         }
+        _ => k,
     }
 }
 
@@ -64,8 +56,7 @@ fn store_line<'a>(
     ensures target_after { target.new ≡ written target.old k (line_words (given_by (entries (table names.now script.now split froms.now counts.now values.now nexts.now) filled) (body_of (tokens (part script.now at end))))) }
 {
     let line = &script[at..end];
-    let start = start_of(line);
-    let body = start.body;
+    let body = start_of(line).body;
     store_given(
         given(
             names, script, split, filled, froms, counts, values, nexts, heads, line, body,
@@ -95,6 +86,7 @@ pub fn store_words<'a>(
 {
     let mut k: usize = 0;
     let mut at: usize = 0;
+    // A line ends where its byte 10 stands, so the place of the next is computed: no range gives these places.
     while at < script.len() {
         let end = at + line_count(script, at);
         k = store_line(

@@ -1,5 +1,5 @@
 -- The three readers, a step at a time, for any count of steps that is enough. Assumes nothing.
-use Rattle.std.specs.Prelude.{None, Ok, Option, Result, Some}
+use Rattle.std.specs.Prelude.{None, Ok, Option, Result, Some, ℕ}
 use mathlib.Core.Path.{◌≡◌, refl, ap}
 use mathlib.Core.Bool.{Bool, true, false}
 use mathlib.Core.List.{List, [], ◌∷◌}
@@ -17,7 +17,6 @@ use Rattle.grammar.specs.declared.NoValue.{NoValue}
 use Rattle.grammar.specs.declared.Sign.{Sign}
 use Rattle.tokens.specs.Shown.{shown, marks}
 use Rattle.tokens.specs.declared.Token.{Token}
-use Rattle.sums.specs.declared.Reading.{Reading}
 use Rattle.sums.specs.Told.{ToldInside}
 
 -- a mark that stands next, and what is left after it; or that none does
@@ -50,9 +49,9 @@ not_marked b l (Token.Mark c k) e = no_if (lib.Dec.eqb c b) k e
 not_marked b l (Token.Stray x) e = refl
 
 -- a reading whose token is inside a row is inside any longer row
-pub still_inside : (l : List ℕ) (a b : Token) (r : Reading) → ToldInside l a r → length (shown l a) ≤ length (shown l b) → ToldInside l b r
-still_inside l a b Reading.Outside h k = tt
-still_inside l a b (Reading.Read v t) h k = (h.0, omega arith)
+pub still_inside : (l : List ℕ) (a b : Token) (r : Option (Result ℕ NoValue × Token)) → ToldInside l a r → length (shown l a) ≤ length (shown l b) → ToldInside l b r
+still_inside l a b None h k = tt
+still_inside l a b (Some (v, t)) h k = (h.0, omega arith)
 
 -- what comes of every count of steps that is enough
 abbrev pub Enough : ℕ → (ℕ → Sums.Reading) → Sums.Reading → Type 0

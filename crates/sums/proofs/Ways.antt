@@ -1,5 +1,6 @@
 -- The ways through the readers' code, each from what its calls come to. Assumes nothing.
-use Rattle.std.specs.Prelude.{Err, None, Ok, Option, Result, Some}
+use Rattle.std.specs.Prelude.{Err, None, Ok, Option, Result, Some, ℕ}
+use Rattle.std.specs.Bool.{then_some}
 use mathlib.Core.Path.{◌≡◌, refl, sym, ap, ◌∙◌}
 use mathlib.Core.Bool.{Bool, true, false}
 use mathlib.Core.List.{List, []}
@@ -15,24 +16,11 @@ use Rattle.grammar.specs.declared.NoValue.{NoValue}
 use Rattle.grammar.specs.declared.Sign.{Sign}
 use Rattle.tokens.specs.Shown.{shown, part, Inside, marks, is_end}
 use Rattle.tokens.specs.declared.Token.{Token}
-use Rattle.sums.specs.declared.Reading.{Reading}
-use Rattle.sums.specs.declared.Total.{Total}
 use Rattle.sums.specs.Told.{told, total, ToldInside}
 use Rattle.sums.proofs.Laws.{sum_ends, sum_plus, sum_minus, product_ends, product_times, bracket_open, bracket_closed, Enough, marked_at, not_marked, still_inside, sum_outside, product_outside, term_end, term_number, term_name, term_stray, term_mark, term_kept, bracket_deep, bracket_outside}
 
--- the value of a word that was looked up
-pub value_missing : (es : List Entry) (w : List ℕ) (f : Option ℕ) → f ≡ find es w → f ≡ None → Err NoValue.Missing ≡ value_of es w
-value_missing es w f e k = ap found_as (sym k ∙ e)
-
-pub value_found : (es : List Entry) (w : List ℕ) (f : Option ℕ) (n : ℕ) (v : Result ℕ NoValue) → f ≡ find es w → f ≡ Some n → v ≡ in_range n → v ≡ value_of es w
-value_found es w f n v e k i = i ∙ ap found_as (sym k ∙ e)
-
--- a token that stands in a line, by what it is
-pub inside_as : (l : List ℕ) (a b : Token) → a ≡ b → Inside l a → Inside l b
-inside_as l a b e i = rw e at i
-
 -- what a reader comes to at a token
-abbrev pub Reads : ℕ → (ℕ → Sums.Reading) → List ℕ → Token → Reading → Type 0
+abbrev pub Reads : ℕ → (ℕ → Sums.Reading) → List ℕ → Token → Option (Result ℕ NoValue × Token) → Type 0
 Reads least f l next r = Enough least f (told l r) × ToldInside l next r
 
 -- the row after a mark that stands next
@@ -42,26 +30,23 @@ after b to l t u m f o g =
     let h = marked_at b to l t (sym f ∙ o) in
     (h.0, (h.1.0 ∙ g, rw g at h.1.1))
 
-pub fewer : (b to : ℕ) (l : List ℕ) (next t u : Token) (v : Result ℕ NoValue) (r : Reading) (m : Option ℕ) → r ≡ Reading.Read v t → ToldInside l next r
+pub fewer : (b to : ℕ) (l : List ℕ) (next t u : Token) (v : Result ℕ NoValue) (r : Option (Result ℕ NoValue × Token)) (m : Option ℕ) → r ≡ Some (v, t) → ToldInside l next r
     → m ≡ marks b t → m ≡ Some to → tokens (drop to l) ≡ shown l u → suc (length (shown l u)) < length (shown l next)
 fewer b to l next t u v r m e h f o g =
-    let i : ToldInside l next (Reading.Read v t) = rw e at h in
+    let i : ToldInside l next (Some (v, t)) = rw e at h in
     omega (arith, i.1, (after b to l t u m f o g).1.1)
-
-pub inner_fewer : (b to : ℕ) (l : List ℕ) (next u : Token) → next ≡ Token.Mark b to → tokens (drop to l) ≡ shown l u → length (shown l next) ≡ suc (length (shown l u))
-inner_fewer b to l next u e g = rw (e, ← g) refl
 
 module _ (es : List Entry) (d : ℕ) (l : List ℕ) (next : Token) where
   -- a product: its term, and what stands after it
-  module _ (v : Result ℕ NoValue) (r : Reading) (h : Reads (3 * length (shown l next) + 1) (λ n. term n es d (shown l next)) l next r) where
-    pub product_fails : r ≡ Reading.Outside → Reads (3 * length (shown l next) + 2) (λ n. product n es d v (shown l next)) l next Reading.Outside
+  module _ (v : Result ℕ NoValue) (r : Option (Result ℕ NoValue × Token)) (h : Reads (3 * length (shown l next) + 1) (λ n. term n es d (shown l next)) l next r) where
+    pub product_fails : r ≡ None → Reads (3 * length (shown l next) + 2) (λ n. product n es d v (shown l next)) l next None
     product_fails e = (product_outside es d v (shown l next) (rw e at h.0), tt)
 
-    module _ (p w : Result ℕ NoValue) (t : Token) (m : Option ℕ) (e : r ≡ Reading.Read p t) (k : w ≡ both times v p) (f : m ≡ marks times_mark t) where
-      pub product_stops : m ≡ None → Reads (3 * length (shown l next) + 2) (λ n. product n es d v (shown l next)) l next (Reading.Read w t)
+    module _ (p w : Result ℕ NoValue) (t : Token) (m : Option ℕ) (e : r ≡ Some (p, t)) (k : w ≡ both times v p) (f : m ≡ marks times_mark t) where
+      pub product_stops : m ≡ None → Reads (3 * length (shown l next) + 2) (λ n. product n es d v (shown l next)) l next (Some (w, t))
       product_stops o = (rw k (product_ends es d v (shown l next) p (shown l t) (rw e at h.0) (not_marked times_mark l t (sym f ∙ o))), rw e at h.1)
 
-      pub product_goes_on : (to : ℕ) (u : Token) (q : Reading) → m ≡ Some to → tokens (drop to l) ≡ shown l u
+      pub product_goes_on : (to : ℕ) (u : Token) (q : Option (Result ℕ NoValue × Token)) → m ≡ Some to → tokens (drop to l) ≡ shown l u
           → Reads (3 * length (shown l u) + 2) (λ n. product n es d w (shown l u)) l u q
           → Reads (3 * length (shown l next) + 2) (λ n. product n es d v (shown l next)) l next q
       product_goes_on to u q o g i =
@@ -72,12 +57,12 @@ module _ (es : List Entry) (d : ℕ) (l : List ℕ) (next : Token) where
           )
 
   -- a sum: its product, and what stands after it
-  module _ (s : Sign) (v : Result ℕ NoValue) (r : Reading) (h : Reads (3 * length (shown l next) + 2) (λ n. product n es d (Ok 1) (shown l next)) l next r) where
-    pub sum_fails : r ≡ Reading.Outside → Reads (3 * length (shown l next) + 3) (λ n. sum n es d s v (shown l next)) l next Reading.Outside
+  module _ (s : Sign) (v : Result ℕ NoValue) (r : Option (Result ℕ NoValue × Token)) (h : Reads (3 * length (shown l next) + 2) (λ n. product n es d (Ok 1) (shown l next)) l next r) where
+    pub sum_fails : r ≡ None → Reads (3 * length (shown l next) + 3) (λ n. sum n es d s v (shown l next)) l next None
     sum_fails e = (sum_outside es d s v (shown l next) (rw e at h.0), tt)
 
-    module _ (p w : Result ℕ NoValue) (t : Token) (m : Option ℕ) (e : r ≡ Reading.Read p t) (k : w ≡ joins s v p) (f : m ≡ marks plus_mark t) where
-      pub sum_goes_up : (to : ℕ) (u : Token) (q : Reading) → m ≡ Some to → tokens (drop to l) ≡ shown l u
+    module _ (p w : Result ℕ NoValue) (t : Token) (m : Option ℕ) (e : r ≡ Some (p, t)) (k : w ≡ joins s v p) (f : m ≡ marks plus_mark t) where
+      pub sum_goes_up : (to : ℕ) (u : Token) (q : Option (Result ℕ NoValue × Token)) → m ≡ Some to → tokens (drop to l) ≡ shown l u
           → Reads (3 * length (shown l u) + 3) (λ n. sum n es d Sign.Plus w (shown l u)) l u q
           → Reads (3 * length (shown l next) + 3) (λ n. sum n es d s v (shown l next)) l next q
       sum_goes_up to u q o g i =
@@ -88,7 +73,7 @@ module _ (es : List Entry) (d : ℕ) (l : List ℕ) (next : Token) where
           )
 
       module _ (j : Option ℕ) (no : m ≡ None) (b : j ≡ marks minus_mark t) where
-        pub sum_goes_down : (to : ℕ) (u : Token) (q : Reading) → j ≡ Some to → tokens (drop to l) ≡ shown l u
+        pub sum_goes_down : (to : ℕ) (u : Token) (q : Option (Result ℕ NoValue × Token)) → j ≡ Some to → tokens (drop to l) ≡ shown l u
             → Reads (3 * length (shown l u) + 3) (λ n. sum n es d Sign.Minus w (shown l u)) l u q
             → Reads (3 * length (shown l next) + 3) (λ n. sum n es d s v (shown l next)) l next q
         sum_goes_down to u q o g i =
@@ -98,7 +83,7 @@ module _ (es : List Entry) (d : ℕ) (l : List ℕ) (next : Token) where
               still_inside l u next q i.1 (omega arith),
             )
 
-        pub sum_stops : j ≡ None → Reads (3 * length (shown l next) + 3) (λ n. sum n es d s v (shown l next)) l next (Reading.Read w t)
+        pub sum_stops : j ≡ None → Reads (3 * length (shown l next) + 3) (λ n. sum n es d s v (shown l next)) l next (Some (w, t))
         sum_stops o = (
           rw k (sum_ends es d s v (shown l next) p (shown l t) (rw e at h.0) (not_marked plus_mark l t (sym f ∙ no)) (not_marked minus_mark l t (sym b ∙ o))),
           rw e at h.1,
@@ -109,10 +94,7 @@ abbrev pub On : ℕ → (ℕ → Sums.Reading) → (ℕ → Sums.Reading) → Li
 On k f g l a b =
     Inside l b ×
     ((length (shown l b) ≤ length (shown l a)) ×
-    ((q : Reading) → Reads (3 * length (shown l b) + k) g l b q → Reads (3 * length (shown l a) + k) f l a q))
-
-pub starts_on : (k : ℕ) (f : ℕ → Sums.Reading) (l : List ℕ) (a : Token) → Inside l a → On k f f l a a
-starts_on k f l a i = (i, (omega arith, λ q h. h))
+    ((q : Option (Result ℕ NoValue × Token)) → Reads (3 * length (shown l b) + k) g l b q → Reads (3 * length (shown l a) + k) f l a q))
 
 abbrev pub ProductOn : List Entry → ℕ → List ℕ → Result ℕ NoValue → Token → Result ℕ NoValue → Token → Type 0
 ProductOn es d l v a w b = On 2 (λ n. product n es d v (shown l a)) (λ n. product n es d w (shown l b)) l a b
@@ -120,7 +102,7 @@ ProductOn es d l v a w b = On 2 (λ n. product n es d v (shown l a)) (λ n. prod
 abbrev pub SumOn : List Entry → ℕ → List ℕ → Sign → Result ℕ NoValue → Token → Sign → Result ℕ NoValue → Token → Type 0
 SumOn es d l s v a t w b = On 3 (λ n. sum n es d s v (shown l a)) (λ n. sum n es d t w (shown l b)) l a b
 
-module _ (es : List Entry) (d : ℕ) (l : List ℕ) (b to : ℕ) (first t u : Token) (p : Result ℕ NoValue) (r : Reading) (m : Option ℕ) (e : r ≡ Reading.Read p t)
+module _ (es : List Entry) (d : ℕ) (l : List ℕ) (b to : ℕ) (first t u : Token) (p : Result ℕ NoValue) (r : Option (Result ℕ NoValue × Token)) (m : Option ℕ) (e : r ≡ Some (p, t))
     (f : m ≡ marks b t) (o : m ≡ Some to) (g : tokens (drop to l) ≡ shown l u) (i : Inside l u) where
   -- one term more
   pub product_on : (a : Token) (v₀ v w : Result ℕ NoValue) → b ≡ times_mark → ProductOn es d l v₀ a v first
@@ -144,60 +126,60 @@ module _ (es : List Entry) (d : ℕ) (l : List ℕ) (b to : ℕ) (first t u : To
 
 -- the last term, and the last product
 module _ (es : List Entry) (d : ℕ) (l : List ℕ) (a first : Token) where
-  pub product_done : (v₀ v w p : Result ℕ NoValue) (t : Token) (r : Reading) (m : Option ℕ) → ProductOn es d l v₀ a v first
-      → Reads (3 * length (shown l first) + 1) (λ n. term n es d (shown l first)) l first r → r ≡ Reading.Read p t → w ≡ both times v p
-      → m ≡ marks times_mark t → m ≡ None → Reads (3 * length (shown l a) + 2) (λ n. product n es d v₀ (shown l a)) l a (Reading.Read w t)
-  product_done v₀ v w p t r m on h e k f o = on.1.1 (Reading.Read w t) (product_stops es d l first v r h p w t m e k f o)
+  pub product_done : (v₀ v w p : Result ℕ NoValue) (t : Token) (r : Option (Result ℕ NoValue × Token)) (m : Option ℕ) → ProductOn es d l v₀ a v first
+      → Reads (3 * length (shown l first) + 1) (λ n. term n es d (shown l first)) l first r → r ≡ Some (p, t) → w ≡ both times v p
+      → m ≡ marks times_mark t → m ≡ None → Reads (3 * length (shown l a) + 2) (λ n. product n es d v₀ (shown l a)) l a (Some (w, t))
+  product_done v₀ v w p t r m on h e k f o = on.1.1 (Some (w, t)) (product_stops es d l first v r h p w t m e k f o)
 
-  pub sum_done : (s₀ s : Sign) (v₀ v w p : Result ℕ NoValue) (t : Token) (r : Reading) (m j : Option ℕ) → SumOn es d l s₀ v₀ a s v first
-      → Reads (3 * length (shown l first) + 2) (λ n. product n es d (Ok 1) (shown l first)) l first r → r ≡ Reading.Read p t → w ≡ joins s v p
+  pub sum_done : (s₀ s : Sign) (v₀ v w p : Result ℕ NoValue) (t : Token) (r : Option (Result ℕ NoValue × Token)) (m j : Option ℕ) → SumOn es d l s₀ v₀ a s v first
+      → Reads (3 * length (shown l first) + 2) (λ n. product n es d (Ok 1) (shown l first)) l first r → r ≡ Some (p, t) → w ≡ joins s v p
       → m ≡ marks plus_mark t → m ≡ None → j ≡ marks minus_mark t → j ≡ None
-      → Reads (3 * length (shown l a) + 3) (λ n. sum n es d s₀ v₀ (shown l a)) l a (Reading.Read w t)
-  sum_done s₀ s v₀ v w p t r m j on h e k f o b z = on.1.1 (Reading.Read w t) (sum_stops es d l first s v r h p w t m e k f j o b z)
+      → Reads (3 * length (shown l a) + 3) (λ n. sum n es d s₀ v₀ (shown l a)) l a (Some (w, t))
+  sum_done s₀ s v₀ v w p t r m j on h e k f o b z = on.1.1 (Some (w, t)) (sum_stops es d l first s v r h p w t m e k f j o b z)
 
 -- a term, by the token that stands next
-abbrev Term : List Entry → ℕ → List ℕ → Token → Reading → Type 0
+abbrev Term : List Entry → ℕ → List ℕ → Token → Option (Result ℕ NoValue × Token) → Type 0
 Term es d l next r = Reads (3 * length (shown l next) + 1) (λ n. term n es d (shown l next)) l next r
 
 module _ (es : List Entry) (d : ℕ) (l : List ℕ) (next : Token) where
-  pub end_read : next ≡ Token.End → Term es d l next Reading.Outside
+  pub end_read : next ≡ Token.End → Term es d l next None
   end_read e = rw e (term_end es d [], tt)
 
-  pub stray_read : (to : ℕ) → next ≡ Token.Stray to → Term es d l next Reading.Outside
+  pub stray_read : (to : ℕ) → next ≡ Token.Stray to → Term es d l next None
   stray_read to e = rw e ((λ n k. term_stray es d (tokens (drop to l)) n (omega arith)), tt)
 
   module _ (from to : ℕ) (v : Result ℕ NoValue) (u : Token) (g : tokens (drop to l) ≡ shown l u) (i : Inside l u) where
-    pub number_read : next ≡ Token.Number from to → v ≡ in_range (decimal 0 (part l from to)) → Term es d l next (Reading.Read v u)
+    pub number_read : next ≡ Token.Number from to → v ≡ in_range (decimal 0 (part l from to)) → Term es d l next (Some (v, u))
     number_read e k = rw (e, k, ← g) ((λ n h. term_number es d (tokens (drop to l)) (part l from to) n (omega arith)), (i, omega arith))
 
     pub name_read : (k : Kept) → next ≡ Token.Word from to → k ≡ kept_as (part l from to) → k ≡ Kept.Free → v ≡ value_of es (part l from to)
-        → Term es d l next (Reading.Read v u)
+        → Term es d l next (Some (v, u))
     name_read k e f z w =
         rw (e, w, ← g) ((λ n h. term_name es d (tokens (drop to l)) (part l from to) (sym f ∙ z) n (omega arith)), (i, omega arith))
 
-  pub kept_read : (from to : ℕ) (k : Kept) → next ≡ Token.Word from to → k ≡ kept_as (part l from to) → (k ≡ Kept.Free → ⊥) → Term es d l next Reading.Outside
+  pub kept_read : (from to : ℕ) (k : Kept) → next ≡ Token.Word from to → k ≡ kept_as (part l from to) → (k ≡ Kept.Free → ⊥) → Term es d l next None
   kept_read from to k e f z =
       rw e ((λ n h. term_kept es d (tokens (drop to l)) (part l from to) (λ o. z (f ∙ o)) n (omega arith)), tt)
 
   -- a mark: none but a bracket, and no bracket where none may be opened
   module _ (b to : ℕ) (e : next ≡ Token.Mark b to) where
-    pub mark_read : (b ≡ 40 → ⊥) → Term es d l next Reading.Outside
+    pub mark_read : (b ≡ 40 → ⊥) → Term es d l next None
     mark_read z = rw e ((λ n h. term_mark es d (tokens (drop to l)) b z n (omega arith)), tt)
 
-    pub deep_read : b ≡ 40 → d ≡ 0 → Term es d l next Reading.Outside
+    pub deep_read : b ≡ 40 → d ≡ 0 → Term es d l next None
     deep_read o z = rw e ((λ n h. bracket_deep es d (tokens (drop to l)) b o z n (omega arith)), tt)
 
     module _ (u : Token) (g : tokens (drop to l) ≡ shown l u) where
-      module _ (o : b ≡ 40) (z : d ≡ 0 → ⊥) (r : Reading) (h : Reads (3 * length (shown l u) + 3) (λ n. sum n es (d - 1) Sign.Plus (Ok 0) (shown l u)) l u r) where
-        pub bracket_fails : r ≡ Reading.Outside → Term es d l next Reading.Outside
+      module _ (o : b ≡ 40) (z : d ≡ 0 → ⊥) (r : Option (Result ℕ NoValue × Token)) (h : Reads (3 * length (shown l u) + 3) (λ n. sum n es (d - 1) Sign.Plus (Ok 0) (shown l u)) l u r) where
+        pub bracket_fails : r ≡ None → Term es d l next None
         bracket_fails f = rw (e, g) (bracket_outside es d (d - 1) (shown l u) b o (omega arith) (rw f at h.0), tt)
 
-        module _ (v : Result ℕ NoValue) (t : Token) (m : Option ℕ) (f : r ≡ Reading.Read v t) (c : m ≡ marks close_mark t) where
-          pub bracket_unclosed : m ≡ None → Term es d l next Reading.Outside
+        module _ (v : Result ℕ NoValue) (t : Token) (m : Option ℕ) (f : r ≡ Some (v, t)) (c : m ≡ marks close_mark t) where
+          pub bracket_unclosed : m ≡ None → Term es d l next None
           bracket_unclosed k =
               rw (e, g) (bracket_open es d (d - 1) (shown l u) b o (omega arith) v (shown l t) (rw f at h.0) (not_marked close_mark l t (sym c ∙ k)), tt)
 
-          pub bracket_read : (to' : ℕ) (x : Token) → m ≡ Some to' → tokens (drop to' l) ≡ shown l x → Inside l x → Term es d l next (Reading.Read v x)
+          pub bracket_read : (to' : ℕ) (x : Token) → m ≡ Some to' → tokens (drop to' l) ≡ shown l x → Inside l x → Term es d l next (Some (v, x))
           bracket_read to' x k y i =
               let a = after close_mark to' l t x m c k y in
               let s = fewer close_mark to' l u t x v r m f h.1 c k y in
@@ -218,17 +200,25 @@ more_left l v (Token.Word x y) e = refl
 more_left l v (Token.Mark b x) e = refl
 more_left l v (Token.Stray x) e = refl
 
-module _ (es : List Entry) (l : List ℕ) (next : Token) (r : Reading) (h : Reads (3 * length (shown l next) + 3) (λ n. sum n es deepest Sign.Plus (Ok 0) (shown l next)) l next r) where
+module _ (es : List Entry) (l : List ℕ) (next : Token) (r : Option (Result ℕ NoValue × Token)) (h : Reads (3 * length (shown l next) + 3) (λ n. sum n es deepest Sign.Plus (Ok 0) (shown l next)) l next r) where
   whole_told : sum_of es (shown l next) ≡ whole (told l r)
   unfolding sum_of
   whole_told = ap whole (h.0 (3 * length (shown l next) + 3) (omega arith))
 
-  pub total_fails : r ≡ Reading.Outside → sum_of es (shown l next) ≡ total Total.Outside
-  total_fails e = whole_told ∙ ap (λ (x : Reading). whole (told l x)) e
+  pub total_fails : r ≡ None → sum_of es (shown l next) ≡ total None
+  total_fails e = whole_told ∙ ap (λ (x : Option (Result ℕ NoValue × Token)). whole (told l x)) e
 
-  module _ (v : Result ℕ NoValue) (t : Token) (b : Bool) (e : r ≡ Reading.Read v t) (f : b ≡ is_end t) where
-    pub total_comes : b ≡ true → sum_of es (shown l next) ≡ total (Total.Comes v)
-    total_comes k = whole_told ∙ ap (λ (x : Reading). whole (told l x)) e ∙ ended l v t (sym f ∙ k)
+  module _ (v : Result ℕ NoValue) (t : Token) (b : Bool) (e : r ≡ Some (v, t)) (f : b ≡ is_end t) where
+    total_comes : b ≡ true → sum_of es (shown l next) ≡ total (Some v)
+    total_comes k = whole_told ∙ ap (λ (x : Option (Result ℕ NoValue × Token)). whole (told l x)) e ∙ ended l v t (sym f ∙ k)
 
-    pub total_goes_on : b ≡ false → sum_of es (shown l next) ≡ total Total.Outside
-    total_goes_on k = whole_told ∙ ap (λ (x : Reading). whole (told l x)) e ∙ more_left l v t (sym f ∙ k)
+    total_goes_on : b ≡ false → sum_of es (shown l next) ≡ total None
+    total_goes_on k = whole_told ∙ ap (λ (x : Option (Result ℕ NoValue × Token)). whole (told l x)) e ∙ more_left l v t (sym f ∙ k)
+
+    -- the value, where no token is left
+    pub total_told : (x : Option (Result ℕ NoValue)) → x ≡ then_some b v → sum_of es (shown l next) ≡ total x
+    total_told x k = rw k (go b refl)
+      where
+        go : (c : Bool) → b ≡ c → sum_of es (shown l next) ≡ total (then_some c v)
+        go true h = total_comes h
+        go false h = total_goes_on h

@@ -14,20 +14,6 @@ use tables::{MOST_NAMES, look};
 use tokens::{CLOSE, MINUS, OPEN, PLUS, TIMES, Token, ends, mark_of, next_token};
 use values::{in_range, joined, number, times};
 
-// What reading comes to: tokens outside the grammar, or a value and the token after it.
-#[derive(Clone, Copy)]
-pub enum Reading {
-    Outside,
-    Read(Result<u16, NoValue>, Token),
-}
-
-// What a sum to the end of a line comes to.
-#[derive(Clone, Copy)]
-pub enum Total {
-    Outside,
-    Comes(Result<u16, NoValue>),
-}
-
 // The value of a name or label.
 fn value<'a>(
     names: &'a [u8],
@@ -45,12 +31,10 @@ fn value<'a>(
     requires headed { Headed (table names.now script.now split froms.now counts.now values.now nexts.now) filled heads.now }
     ensures { result ≡ value_of (entries (table names.now script.now split froms.now counts.now values.now nexts.now) filled) word.now }
 {
-    match look(
+    let found = look(
         names, script, split, filled, froms, counts, values, nexts, heads, word,
-    ) {
-        None => Err(NoValue::Missing),
-        Some(v) => in_range(v),
-    }
+    );
+    in_range(found.ok_or(NoValue::Missing)?)
 }
 
 // A sum, from the token that stands next: product after product, with no call deeper than its brackets.
@@ -68,7 +52,7 @@ fn sum<'a>(
     line: &[u8],
     next: Token,
     depth: usize,
-) -> Reading
+) -> Option<(Result<u16, NoValue>, Token)>
     requires chained { Chained (table names.now script.now split froms.now counts.now values.now nexts.now) filled }
     requires headed { Headed (table names.now script.now split froms.now counts.now values.now nexts.now) filled heads.now }
     requires inside { Inside line.now next }
@@ -79,11 +63,9 @@ fn sum<'a>(
     let mut sign = Sign::Plus;
     let mut value = Ok(0);
     loop {
-        let Reading::Read(p, then) = product(
+        let (p, then) = product(
             names, script, split, filled, froms, counts, values, nexts, heads, line, first, depth,
-        ) else {
-            return Reading::Outside;
-        };
+        )?;
         value = joined(sign, value, p);
         if let Some(to) = mark_of(then, PLUS) {
             sign = Sign::Plus;
@@ -91,7 +73,7 @@ fn sum<'a>(
             continue;
         }
         let Some(to) = mark_of(then, MINUS) else {
-            return Reading::Read(value, then);
+            return Some((value, then));
         };
         sign = Sign::Minus;
         first = next_token(line, to);
@@ -113,7 +95,7 @@ fn product<'a>(
     line: &[u8],
     next: Token,
     depth: usize,
-) -> Reading
+) -> Option<(Result<u16, NoValue>, Token)>
     requires chained { Chained (table names.now script.now split froms.now counts.now values.now nexts.now) filled }
     requires headed { Headed (table names.now script.now split froms.now counts.now values.now nexts.now) filled heads.now }
     requires inside { Inside line.now next }
@@ -123,14 +105,12 @@ fn product<'a>(
     let mut first = next;
     let mut value = Ok(1);
     loop {
-        let Reading::Read(t, then) = term(
+        let (t, then) = term(
             names, script, split, filled, froms, counts, values, nexts, heads, line, first, depth,
-        ) else {
-            return Reading::Outside;
-        };
+        )?;
         value = times(value, t);
         let Some(to) = mark_of(then, TIMES) else {
-            return Reading::Read(value, then);
+            return Some((value, then));
         };
         first = next_token(line, to);
     }
@@ -151,7 +131,7 @@ fn term<'a>(
     line: &[u8],
     next: Token,
     depth: usize,
-) -> Reading
+) -> Option<(Result<u16, NoValue>, Token)>
     requires chained { Chained (table names.now script.now split froms.now counts.now values.now nexts.now) filled }
     requires headed { Headed (table names.now script.now split froms.now counts.now values.now nexts.now) filled heads.now }
     requires inside { Inside line.now next }
@@ -159,28 +139,25 @@ fn term<'a>(
     ensures told_inside { ToldInside line.now next result }
 {
     match next {
-        Token::End => Reading::Outside,
-        Token::Number(from, to) => Reading::Read(number(&line[from..to]), next_token(line, to)),
+        Token::End | Token::Stray(_) => None,
+        Token::Number(from, to) => Some((number(&line[from..to]), next_token(line, to))),
         Token::Word(from, to) => {
             let word = &line[from..to];
             let Kept::Free = kept(word) else {
-                return Reading::Outside;
+                return None;
             };
-            Reading::Read(
+            Some((
                 value(
                     names, script, split, filled, froms, counts, values, nexts, heads, word,
                 ),
                 next_token(line, to),
-            )
+            ))
         }
         Token::Mark(b, to) => {
-            if b != OPEN {
-                return Reading::Outside;
+            if b != OPEN || depth == 0 {
+                return None;
             }
-            if depth == 0 {
-                return Reading::Outside;
-            }
-            let Reading::Read(v, then) = sum(
+            let (v, then) = sum(
                 names,
                 script,
                 split,
@@ -193,15 +170,10 @@ fn term<'a>(
                 line,
                 next_token(line, to),
                 depth - 1,
-            ) else {
-                return Reading::Outside;
-            };
-            let Some(after) = mark_of(then, CLOSE) else {
-                return Reading::Outside;
-            };
-            Reading::Read(v, next_token(line, after))
+            )?;
+            let after = mark_of(then, CLOSE)?;
+            Some((v, next_token(line, after)))
         }
-        Token::Stray(_) => Reading::Outside,
     }
 }
 
@@ -218,19 +190,14 @@ pub fn sum_of<'a>(
     heads: &[u16; MOST_NAMES],
     line: &[u8],
     next: Token,
-) -> Total
+) -> Option<Result<u16, NoValue>>
     requires chained { Chained (table names.now script.now split froms.now counts.now values.now nexts.now) filled }
     requires headed { Headed (table names.now script.now split froms.now counts.now values.now nexts.now) filled heads.now }
     requires inside { Inside line.now next }
     ensures { sum_of (entries (table names.now script.now split froms.now counts.now values.now nexts.now) filled) (shown line.now next) ≡ total result }
 {
-    let Reading::Read(v, then) = sum(
+    let (v, then) = sum(
         names, script, split, filled, froms, counts, values, nexts, heads, line, next, DEEPEST,
-    ) else {
-        return Total::Outside;
-    };
-    if ends(then) {
-        return Total::Comes(v);
-    }
-    Total::Outside
+    )?;
+    ends(then).then_some(v)
 }

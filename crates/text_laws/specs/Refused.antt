@@ -102,11 +102,11 @@ label_of_line : (es : List Entry) (x : Label) → OfLine (label_flaw es x)
 label_of_line es Label.none = tt
 label_of_line es (Label.label w) = give_of_line es w
 
-given_of_line : (x : Given) → OfLine (given_flaw x)
-given_of_line Given.Outside = omega arith
-given_of_line Given.Nothing = tt
-given_of_line (Given.One v) = worked_of_line v
-given_of_line (Given.Two f v) = worked_of_line v
+given_of_line : (x : Option Given) → OfLine (given_flaw x)
+given_of_line None = omega arith
+given_of_line (Some Given.Nothing) = tt
+given_of_line (Some (Given.One v)) = worked_of_line v
+given_of_line (Some (Given.Two f v)) = worked_of_line v
 
 names_of_lines : (es : List Entry) (at : ℕ) (ls : List (List ℕ)) → Each OfLine (names_lines es at ls)
 unfolding names_lines

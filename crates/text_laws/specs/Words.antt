@@ -20,11 +20,11 @@ abbrev entry : List ℕ → ℕ → Entry
 entry w v = record { spelt = w; value = v }
 
 -- what a body inside the grammar gives has so many words
-abbrev Gives : ℕ → Given → Type 0
-Gives n Given.Outside = Unit {0}
-Gives n Given.Nothing = n ≡ 0
-Gives n (Given.One v) = n ≡ 1
-Gives n (Given.Two f v) = n ≡ 2
+abbrev Gives : ℕ → Option Given → Type 0
+Gives n None = Unit {0}
+Gives n (Some Given.Nothing) = n ≡ 0
+Gives n (Some (Given.One v)) = n ≡ 1
+Gives n (Some (Given.Two f v)) = n ≡ 2
 
 sum_gives : (x : Reading) → Gives 1 (sum_line x)
 sum_gives Reading.outside = tt
@@ -71,15 +71,15 @@ given_gives es (Token.mark b ∷ ts) = sum_gives (sum_of es (Token.mark b ∷ ts
 given_gives es (Token.stray ∷ ts) = tt
 
 -- a body with nothing wrong gives as many words as its first token says
-words_by_size : (n : ℕ) (x : Given) → Gives n x → given_flaw x ≡ None → length (line_words x) ≡ n
-words_by_size n Given.Outside g e = absurd (let z : ◌≡◌ {A = ℕ} 0 1 = cc in omega arith)
-words_by_size n Given.Nothing g e = sym g
-words_by_size n (Given.One (Ok v)) g e = sym g
-words_by_size n (Given.One (Err NoValue.Missing)) g e = absurd (let z : ◌≡◌ {A = ℕ} 0 1 = cc in omega arith)
-words_by_size n (Given.One (Err NoValue.Beyond)) g e = absurd (let z : ◌≡◌ {A = ℕ} 0 1 = cc in omega arith)
-words_by_size n (Given.Two f (Ok v)) g e = sym g
-words_by_size n (Given.Two f (Err NoValue.Missing)) g e = absurd (let z : ◌≡◌ {A = ℕ} 0 1 = cc in omega arith)
-words_by_size n (Given.Two f (Err NoValue.Beyond)) g e = absurd (let z : ◌≡◌ {A = ℕ} 0 1 = cc in omega arith)
+words_by_size : (n : ℕ) (x : Option Given) → Gives n x → given_flaw x ≡ None → length (line_words x) ≡ n
+words_by_size n None g e = absurd (let z : ◌≡◌ {A = ℕ} 0 1 = cc in omega arith)
+words_by_size n (Some Given.Nothing) g e = sym g
+words_by_size n (Some (Given.One (Ok v))) g e = sym g
+words_by_size n (Some (Given.One (Err NoValue.Missing))) g e = absurd (let z : ◌≡◌ {A = ℕ} 0 1 = cc in omega arith)
+words_by_size n (Some (Given.One (Err NoValue.Beyond))) g e = absurd (let z : ◌≡◌ {A = ℕ} 0 1 = cc in omega arith)
+words_by_size n (Some (Given.Two f (Ok v))) g e = sym g
+words_by_size n (Some (Given.Two f (Err NoValue.Missing))) g e = absurd (let z : ◌≡◌ {A = ℕ} 0 1 = cc in omega arith)
+words_by_size n (Some (Given.Two f (Err NoValue.Beyond))) g e = absurd (let z : ◌≡◌ {A = ℕ} 0 1 = cc in omega arith)
 
 pub size_is_words : (es : List Entry) (ts : List Token) → given_flaw (given es ts) ≡ None → size_of ts ≡ length (line_words (given es ts))
 size_is_words es ts e = sym (words_by_size (size_of ts) (given es ts) (given_gives es ts) e)

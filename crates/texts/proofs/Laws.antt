@@ -8,20 +8,20 @@ use native.Mathlib.Nat.{zero-add}
 use native.Mathlib.Omega.{arith}
 use borrow.Author.Tests.{leb-true}
 use lib.Dec.{leb, ltb}
-use lib.ListN.{length, take, drop}
+use lib.ListN.{length, drop}
 use lib.Seq.{sets-eq}
 use Rattle.grammar.specs.Tokens.{lines, first_line, tokens}
 use Rattle.grammar.specs.Sums.{Entry}
 use Rattle.grammar.specs.Lines.{names_line}
 use Rattle.grammar.specs.Texts.{noted, room_flaw, judged_as, names_flaw, script_flaw, names_fault, labels_given, script_fault, script_words, last_line, nowhere, line, program, judged, texts_fault, fault_of, given_names, given_all, number}
 use denote.Ref.{Bor}
-use Rattle.grammar.specs.Promises.{Translates, IsLine, NamesLine}
+use Rattle.grammar.specs.Promises.{Translates}
 use Rattle.grammar.specs.declared.Line.{Line}
 use Rattle.grammar.specs.declared.Refusal.{Refusal}
 use Rattle.grammar.specs.declared.Text.{Text}
 use Rattle.tables.specs.Tables.{Table, table, entries, Chained, Headed, most}
 use Rattle.tables.proofs.Laws.{entries_resplit, chained_resplit, headed_resplit, entries_are_few}
-use Rattle.giving.specs.Passes.{NamesRead, LabelsRead, Labelled, script_judged}
+use Rattle.giving.specs.Passes.{NamesRead, LabelsRead, script_judged}
 use Rattle.giving.proofs.Lines.{line_splits, line_inside, no_lines, by_lines}
 use Rattle.writes.specs.Written.{written}
 use Rattle.texts.specs.Reads.{TextsRead, Within}
@@ -138,9 +138,6 @@ module _ (names script : List ℕ) (n : ℕ) (f : Option (Refusal × Line)) (a b
 
 -- what the judging and storing passes ask, and what they leave
 module _ (t : Table) (heads : List ℕ) (split filled : ℕ) (before : Option (Refusal × Line)) (x : TextsRead t heads split filled before) where
-  pub labelled_by : Labelled t split filled t.script
-  labelled_by = x.all ∙ ap (λ (es : List Entry). labels_given es 0 (lines t.script)) (sym x.named)
-
   program_is : script_words (entries t filled) (lines t.script) ≡ program t.names t.script
   unfolding program
   program_is = rw x.all
@@ -171,12 +168,6 @@ module _ (names script : Bor (List ℕ)) (room : ℕ) (j : Result ℕ (Refusal �
   pub line_within : (r : Refusal) (l : Line) → j ≡ Err (r, l) → Within names.now script.now l
   line_within r l h = refused_within names.now script.now room r l (sym e ∙ h)
 
-  pub line_named : (r : Refusal) (l : Line) (p : Bor (List ℕ)) → j ≡ Err (r, l) → IsLine names script l p → NamesLine names script room p
-  line_named r l p h k = record { named = rw (sym e ∙ h) k }
-
-  pub none_named : (n : ℕ) (p : Bor (List ℕ)) → j ≡ Ok n → p.now ≡ [] → p.ref_ptr.0 ≡ script.ref_ptr.0 → p.ref_ptr.1 ≡ script.ref_ptr.1 + 0 → NamesLine names script room p
-  none_named n p h k b o = record { named = rw (sym e ∙ h) (record { bytes = k; block = b; place = o }) }
-
 -- where a line ends
 pub within_fits : (names script : List ℕ) (l : Line) (m : ℕ) → Within names script l → length names < m → length script < m → l.from + l.count < m
 within_fits names script l m h a b = go l.text refl
@@ -190,17 +181,3 @@ within_names names script l h e = rw e at h
 
 pub within_script : (names script : List ℕ) (l : Line) → Within names script l → l.text ≡ Text.Script → l.from + l.count ≤ length script
 within_script names script l h e = rw e at h
-
--- a part of a text from a line's first byte to its end is the line
-module _ (names script : Bor (List ℕ)) (l : Line) (p : Bor (List ℕ)) (to : ℕ) (e : to ≡ l.from + l.count) where
-  pub names_line_of : l.text ≡ Text.Names → p.now ≡ take (to - l.from) (drop l.from names.now) → p.ref_ptr.0 ≡ names.ref_ptr.0 → p.ref_ptr.1 ≡ names.ref_ptr.1 + l.from
-      → IsLine names script l p
-  names_line_of h k b o =
-      let n : to - l.from ≡ l.count = omega arith in
-      record { bytes = rw h (k ∙ rw n); block = rw h b; place = rw h o }
-
-  pub script_line_of : l.text ≡ Text.Script → p.now ≡ take (to - l.from) (drop l.from script.now) → p.ref_ptr.0 ≡ script.ref_ptr.0 → p.ref_ptr.1 ≡ script.ref_ptr.1 + l.from
-      → IsLine names script l p
-  script_line_of h k b o =
-      let n : to - l.from ≡ l.count = omega arith in
-      record { bytes = rw h (k ∙ rw n); block = rw h b; place = rw h o }

@@ -40,14 +40,18 @@ pub fn read_texts<'a>(
     let fault = past.fault;
     let filled = read_labels(names, script, split, froms, counts, values, nexts, heads);
     TextsPast {
-        split: split,
-        filled: filled,
-        fault: fault,
+        split,
+        filled,
+        fault,
     }
 }
 
 // Translates a script with a list of names into the target's first words; a refusal alters none.
-pub fn translate<'a>(names: &'a [u8], script: &'a [u8], target: &mut [u16]) -> Result<usize, (Refusal, Text)>
+pub fn translate<'a>(
+    names: &'a [u8],
+    script: &'a [u8],
+    target: &mut [u16],
+) -> Result<usize, (Refusal, Text)>
     ensures { Translates names.now script.now target.old result target.new }
 {
     let mut froms: [usize; MOST_NAMES] = [0; MOST_NAMES];
@@ -55,7 +59,11 @@ pub fn translate<'a>(names: &'a [u8], script: &'a [u8], target: &mut [u16]) -> R
     let mut values: [u32; MOST_NAMES] = [0; MOST_NAMES];
     let mut nexts: [u16; MOST_NAMES] = [NO_ENTRY; MOST_NAMES];
     let mut heads: [u16; MOST_NAMES] = [NO_ENTRY; MOST_NAMES];
-    let past = read_texts(
+    let TextsPast {
+        split,
+        filled,
+        fault,
+    } = read_texts(
         names,
         script,
         &mut froms,
@@ -64,9 +72,6 @@ pub fn translate<'a>(names: &'a [u8], script: &'a [u8], target: &mut [u16]) -> R
         &mut nexts,
         &mut heads,
     );
-    let split = past.split;
-    let filled = past.filled;
-    let fault = past.fault;
     match judge_script(
         names,
         script,
@@ -80,10 +85,7 @@ pub fn translate<'a>(names: &'a [u8], script: &'a [u8], target: &mut [u16]) -> R
         fault,
         target.len(),
     ) {
-        Err((r, line)) => {
-            let text = line.text;
-            Err((r, text))
-        }
+        Err((r, line)) => Err((r, line.text)),
         Ok(words) => {
             store_words(
                 names, script, split, filled, &froms, &counts, &values, &nexts, &heads, target,
@@ -102,7 +104,11 @@ pub fn judge<'a>(names: &'a [u8], script: &'a [u8], room: usize) -> Result<usize
     let mut values: [u32; MOST_NAMES] = [0; MOST_NAMES];
     let mut nexts: [u16; MOST_NAMES] = [NO_ENTRY; MOST_NAMES];
     let mut heads: [u16; MOST_NAMES] = [NO_ENTRY; MOST_NAMES];
-    let past = read_texts(
+    let TextsPast {
+        split,
+        filled,
+        fault,
+    } = read_texts(
         names,
         script,
         &mut froms,
@@ -111,9 +117,6 @@ pub fn judge<'a>(names: &'a [u8], script: &'a [u8], room: usize) -> Result<usize
         &mut nexts,
         &mut heads,
     );
-    let split = past.split;
-    let filled = past.filled;
-    let fault = past.fault;
     judge_script(
         names, script, split, filled, &froms, &counts, &values, &nexts, &heads, fault, room,
     )

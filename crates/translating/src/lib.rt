@@ -9,7 +9,6 @@ ghost use Rattle.reasons.specs.UsedNames.{most_text};
 ghost use Rattle.translating.specs.Files.{Short};
 
 use disk::{Outcome, blank, load, save, say, say_number};
-use flaws::number_of;
 use grammar::{Line, Refusal, Text};
 use outside::Reason;
 use reasons::{line_number, reason};
@@ -78,7 +77,7 @@ fn say_refusal(
     say(rt, b": line ");
     say_number(rt, line_number(text, from));
     say(rt, b": refused ");
-    say_number(rt, number_of(r) as usize);
+    say_number(rt, u16::from(r) as usize);
     say(rt, b": ");
     say_reason(rt, why, line);
     say(rt, b"\n");

@@ -1,9 +1,8 @@
 -- Two values worked to one, by the pair that the code has of them.
-use Rattle.std.specs.Prelude.{ℕ, Result}
-use Rattle.values.specs.declared.Pair.{Pair}
+use Rattle.std.specs.Prelude.{ℕ, Err, Ok, Result}
 use Rattle.grammar.specs.declared.NoValue.{NoValue}
 
 -- what a pair comes to
-abbrev pub worked : (ℕ → ℕ → Result ℕ NoValue) → Pair → Result ℕ NoValue
-worked f (Pair.Both x y) = f x y
-worked f (Pair.NotBoth w) = w
+abbrev pub worked : (ℕ → ℕ → Result ℕ NoValue) → Result (ℕ × ℕ) NoValue → Result ℕ NoValue
+worked f (Ok p) = f p.0 p.1
+worked f (Err e) = Err e

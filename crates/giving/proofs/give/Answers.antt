@@ -1,14 +1,6 @@
 -- Where the table has room the entry is inserted and counted; where it is full nothing changes.
-use Prim.Native.Nat.{◌<◌}
-use native.Mathlib.Omega.{arith}
-use Rattle.tables.specs.Tables.{most}
 use Rattle.giving.proofs.Laws.{entry_gives, full_gives}
 use Rattle.giving.proofs.give.Goals as goal
-
-pub insert-requires : goal.insert-requires
-insert-requires c =
-    let room : c.args.filled < most = omega arith in
-    record { chained = c.requires.chained; headed = c.requires.headed; filled_lt_most = room; count_in_bounds = c.requires.count_in_bounds room }
 
 pub returns-then-filled-lt-MOST_NAMES : goal.returns-then-filled-lt-MOST_NAMES
 returns-then-filled-lt-MOST_NAMES c = entry_gives _ _ _ _ _ _ _ c.if-filled-lt-MOST_NAMES.true c.insert.ensures

@@ -1,17 +1,11 @@
 -- A register is a word that is kept as one.
 use Rattle.grammar.specs.Lines.{register}
-use Rattle.phrases.proofs.Laws.{register_small, word_inside, no_word_register, no_register}
+use Rattle.phrases.proofs.Laws.{register_small, no_word_register, no_register}
 use Rattle.phrases.proofs.Tags.{not_word, not_register}
 use Rattle.phrases.proofs.register.Goals as goal
 
 pub returns-in_default : goal.returns-in_default
 returns-in_default c = record { t_value = no_word_register c.args.line.now c.args.t (not_word c.args.t c.in_default.not-Word); operand_inside = tt }
-
-pub slice_bounds-kept-count : goal.slice_bounds-kept-count
-slice_bounds-kept-count c = (word_inside c.args.line.now _ _ _ c.in-Word.is c.requires).0
-
-pub slice_bounds-kept-end : goal.slice_bounds-kept-end
-slice_bounds-kept-end c = (word_inside c.args.line.now _ _ _ c.in-Word.is c.requires).1
 
 pub returns-in_default-kept : goal.returns-in_default-kept
 unfolding register

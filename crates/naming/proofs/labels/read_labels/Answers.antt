@@ -11,13 +11,11 @@ loop-at-init c = no_label_passed _ _ _ _ c.requires.chained c.requires.headed
 pub overflow_add-end : goal.overflow_add-end
 overflow_add-end c = omega (arith, line_within _ _ _ c.loop-at-test.true c.line_count.ensures)
 
-pub read_label-past-requires : goal.read_label-past-requires
-read_label-past-requires c =
-    let i = c.loop-at.invariant in
-    record { chained = i.chained; headed = i.headed; split_le_filled = i.grows; at_le_end = (omega arith, line_within _ _ _ c.loop-at-test.true c.line_count.ensures); place_bound = omega (arith, i.few) }
-
 pub overflow_add-at : goal.overflow_add-at
 overflow_add-at c = omega (arith, line_within _ _ _ c.loop-at-test.true c.line_count.ensures)
+
+pub read_label-past-requires-clause-at_le_end : goal.read_label-past-requires-clause-at_le_end
+read_label-past-requires-clause-at_le_end c = (omega arith, line_within _ _ _ c.loop-at-test.true c.line_count.ensures)
 
 pub loop-at-preserved : goal.loop-at-preserved
 loop-at-preserved c = label_passed _ _ _ _ _ _ _ _ _ _ _ _ _ c.loop-at.invariant c.loop-at-test.true c.line_count.ensures c.read_label-past.ensures
