@@ -1,7 +1,7 @@
 // Up to eight bytes of a text in one number, the first byte lowest: decimal digits, and bytes that are written together.
 #![tactic(auto)]
 
-ghost use Rattle.std.specs.Prelude.{◌≡◌, ◌++◌, ◌+◌, ◌<◌, ◌≤◌, length};
+ghost use Rattle.std.specs.Prelude.{◌≡◌, ◌++◌, ◌+◌, ◌≤◌, length};
 ghost use Rattle.paper.specs.Runner.{decimal, newline};
 ghost use Rattle.packing.specs.Packed.{bytes_of, five, Placed};
 
@@ -39,28 +39,21 @@ pub fn digits(n: u16) -> usize
         + usize::from(n > FOUR_DIGITS)
 }
 
-// A digit as a byte.
-fn digit(n: u16) -> u8
-    requires { n < 10 }
-    ensures { result ≡ 48 + n }
-{
-    b'0' + n as u8
-}
-
 // Five digits of a number, with zeros in front, and the end of a line.
 fn five_digits(n: u16) -> u64
     ensures { result ≡ five n }
 {
-    u64::from_le_bytes([
-        digit(n / 10000),
-        digit(n / 1000 % 10),
-        digit(n / 100 % 10),
-        digit(n / 10 % 10),
-        digit(n % 10),
-        b'\n',
+    let digits = [
+        (n / 10000) as u8,
+        (n / 1000 % 10) as u8,
+        (n / 100 % 10) as u8,
+        (n / 10 % 10) as u8,
+        (n % 10) as u8,
         0,
         0,
-    ])
+        0,
+    ];
+    u64::from_le_bytes(digits) + u64::from_le_bytes(*b"00000\n\0\0")
 }
 
 // The decimal digits of a number, and the end of a line.
@@ -84,11 +77,11 @@ pub fn put_packed(text: &mut [u8], at: usize, p: Packed, end: usize) -> usize
     ensures value { result ≡ at + length (bytes_of p) }
     ensures placed { Placed text.old at (bytes_of p) end text.new }
 {
-    let all = p.value.to_le_bytes();
     if at + EIGHT <= end {
-        text[at..at + EIGHT].copy_from_slice(&all);
+        text[at..at + EIGHT].copy_from_slice(&p.value.to_le_bytes());
         return at + p.bytes;
     }
+    let all = p.value.to_le_bytes();
     text[at..at + p.bytes].copy_from_slice(&all[..p.bytes]);
     at + p.bytes
 }

@@ -11,7 +11,7 @@ returns-then-at-end-clause-value c = rw (bytes_length c.args.p)
 pub returns-then-at-end-clause-placed : goal.returns-then-at-end-clause-placed
 unfolding bytes_of
 returns-then-at-end-clause-placed c =
-    copied_placed _ _ _ _ _ 8 _ _ (c.copy_from_slice.ensures.after ∙ c.to_le_bytes-all.ensures ∙ all_unpacked _) (omega arith) (omega arith) c.if-at-end.true (omega arith)
+    copied_placed _ _ _ _ _ 8 _ _ (c.copy_from_slice.ensures.after ∙ c.to_le_bytes.ensures ∙ all_unpacked _) (omega arith) (omega arith) c.if-at-end.true (omega arith)
 
 pub returns-clause-value : goal.returns-clause-value
 returns-clause-value c = rw (bytes_length c.args.p)
