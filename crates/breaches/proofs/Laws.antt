@@ -1,6 +1,6 @@
 -- What is told of an image: where the check says 6, a rule; it is the first that is broken, by the first that breaks it; and where the image is good, all
 -- rules hold. Assumes nothing.
-use Rattle.std.specs.Prelude.{Err, Ok, Result, ⊤}
+use Rattle.std.specs.Prelude.{Err, Ok, Result, Option, Some, None, ⊤}
 use mathlib.Core.Path.{◌≡◌, refl, sym, ap, ◌∙◌}
 use mathlib.Core.List.{List}
 use mathlib.Core.Bool.{Bool, true, false, not, true≢false}
@@ -24,8 +24,6 @@ use Rattle.single_rules.specs.declared.Rule.{Rule}
 use Rattle.breaches.specs.Order.{rules, rule, number_of_rule, subject}
 use Rattle.breaches.specs.First.{first_failing}
 use Rattle.breaches.specs.Broken.{kept, breaker, told, breach_at, breach, broken_as, broken}
-use Rattle.breaches.specs.declared.Failing.{Failing}
-use Rattle.breaches.specs.declared.Broken.{Broken}
 use Rattle.breaches.specs.declared.Subject.{Subject}
 use Rattle.breaches.proofs.First.{FailsFirst, Says, first_says}
 use Rattle.breaches.proofs.Told.{says, six_so}
@@ -85,10 +83,9 @@ pub record FirstBroken (s : Shape) (im : List ℕ) (r : Rule) (x : Subject) : Ty
   pub before : (p : Rule) → number_of_rule p < number_of_rule r → (j : ℕ) → j < subjects s (kind p) → holds s im p j ≡ true
 
 -- what `breach` says
-abbrev Breached : Shape → List ℕ → Broken → Type 0
-Breached s im (Broken.Rule r x) = FirstBroken s im r x
-Breached s im Broken.Nothing = AllHold s im
-Breached s im (Broken.Refused r) = ⊥
+abbrev Breached : Shape → List ℕ → Option (Rule × Subject) → Type 0
+Breached s im (Some (r, x)) = FirstBroken s im r x
+Breached s im None = AllHold s im
 
 module _ (s : Shape) (im : List ℕ) where
   -- a rule whose place is before k is kept
@@ -102,10 +99,10 @@ module _ (s : Shape) (im : List ℕ) where
   placed : (k : ℕ) → k < length rules → (p : Rule) → number_of_rule p < number_of_rule (rule k) → place p < k
   placed k l p m = omega (arith, m, numbered k l, place_so p)
 
-  breaker_says : (k : ℕ) → FailsFirst (length rules) k (λ j. kept s im (rule j)) → (x : Failing) → Says (subjects s (kind (rule k))) (holds s im (rule k)) x
+  breaker_says : (k : ℕ) → FailsFirst (length rules) k (λ j. kept s im (rule j)) → (x : Option ℕ) → Says (subjects s (kind (rule k))) (holds s im (rule k)) x
       → Breached s im (told s (rule k) x)
   unfolding kept
-  breaker_says k w (Failing.At j) v =
+  breaker_says k w (Some j) v =
       record {
         k = j;
         inside = v.inside;
@@ -114,11 +111,11 @@ module _ (s : Shape) (im : List ℕ) where
         earlier = (every_is j (holds s im (rule k))).0 v.before;
         before = λ p m. kept_so k w.before p (placed k w.inside p m);
       }
-  breaker_says k w Failing.Nowhere v = absurd (true≢false (sym v ∙ w.fails))
+  breaker_says k w None v = absurd (true≢false (sym v ∙ w.fails))
 
-  at_says : (x : Failing) → Says (length rules) (λ j. kept s im (rule j)) x → Breached s im (breach_at s im x)
-  at_says (Failing.At k) w = breaker_says k w (breaker s im (rule k)) (says s im (rule k) (breaker s im (rule k)) refl)
-  at_says Failing.Nowhere w = λ r j m. kept_so (length rules) w r (in_order r).1 j m
+  at_says : (x : Option ℕ) → Says (length rules) (λ j. kept s im (rule j)) x → Breached s im (breach_at s im x)
+  at_says (Some k) w = breaker_says k w (breaker s im (rule k)) (says s im (rule k) (breaker s im (rule k)) refl)
+  at_says None w = λ r j m. kept_so (length rules) w r (in_order r).1 j m
 
   breach_says : Breached s im (breach s im)
   unfolding breach
@@ -128,14 +125,14 @@ module _ (s : Shape) (im : List ℕ) where
 pub record RuleTold (im : List ℕ) : Type 0 where
   pub of : Rule
   pub by : Subject
-  pub told : broken im ≡ Broken.Rule of by
+  pub told : broken im ≡ Ok (Some (of, by))
   pub first : FirstBroken (shape_of im) im of by
 
-six_told : (im : List ℕ) → verdict_number (check im) ≡ 6 → broken im ≡ breach (shape_of im) im
+six_told : (im : List ℕ) → verdict_number (check im) ≡ 6 → broken im ≡ Ok (breach (shape_of im) im)
 unfolding broken
 six_told im = go (check im)
   where
-    go : (v : Result ⊤ Refusal) → verdict_number v ≡ 6 → broken_as v im ≡ breach (shape_of im) im
+    go : (v : Result ⊤ Refusal) → verdict_number v ≡ 6 → broken_as v im ≡ Ok (breach (shape_of im) im)
     go (Ok tt) e = absurd (omega arith)
     go (Err r) e = rw (eq-eqb (number r) 6 e)
 
@@ -145,23 +142,25 @@ six_has_a_rule im e = go (breach (shape_of im) im) (breach_says (shape_of im) im
     w : Sized (shape_of im) im × (rules_hold (shape_of im) im ≡ false)
     w = six_so im e
 
-    go : (b : Broken) → Breached (shape_of im) im b → broken im ≡ b → RuleTold im
-    go (Broken.Rule r x) h t = record { of = r; by = x; told = t; first = h }
-    go Broken.Nothing h t = absurd (true≢false (sym (rules_so (shape_of im) im (sized_fit (shape_of im) im w.0) h) ∙ w.1))
-    go (Broken.Refused r) h t = absurd h
+    go : (b : Option (Rule × Subject)) → Breached (shape_of im) im b → broken im ≡ Ok b → RuleTold im
+    go (Some (r, x)) h t = record { of = r; by = x; told = t; first = h }
+    go None h t = absurd (true≢false (sym (rules_so (shape_of im) im (sized_fit (shape_of im) im w.0) h) ∙ w.1))
 
 -- (b) a rule is told only there, and it is the first that is broken, by the first that breaks it
-other_told : (im : List ℕ) → verdict_number (check im) ≢ 6 → (r : Rule) (x : Subject) → broken im ≡ Broken.Rule r x → ⊥
+other_told : (im : List ℕ) → verdict_number (check im) ≢ 6 → (r : Rule) (x : Subject) → broken im ≡ Ok (Some (r, x)) → ⊥
 unfolding broken
 other_told im = go (check im)
   where
-    go : (v : Result ⊤ Refusal) → verdict_number v ≢ 6 → (r : Rule) (x : Subject) → broken_as v im ≡ Broken.Rule r x → ⊥
+    go : (v : Result ⊤ Refusal) → verdict_number v ≢ 6 → (r : Rule) (x : Subject) → broken_as v im ≡ Ok (Some (r, x)) → ⊥
     go (Ok tt) n r x t = let z : ◌≡◌ {A = ℕ} 0 1 = cc in omega arith
     go (Err q) n r x t = let u = rw (ne_eqb (number q) 6 n) at t in let z : ◌≡◌ {A = ℕ} 0 1 = cc in omega arith
 
-pub told_is_first : (im : List ℕ) (r : Rule) (x : Subject) → broken im ≡ Broken.Rule r x → (verdict_number (check im) ≡ 6) × FirstBroken (shape_of im) im r x
+pub told_is_first : (im : List ℕ) (r : Rule) (x : Subject) → broken im ≡ Ok (Some (r, x)) → (verdict_number (check im) ≡ 6) × FirstBroken (shape_of im) im r x
 told_is_first im r x t =
-    dite (ℕ_discrete (verdict_number (check im)) 6) (λ e. (e, rw (sym (six_told im e) ∙ t) at (breach_says (shape_of im) im)))
+    dite (ℕ_discrete (verdict_number (check im)) 6) (λ e.
+    let h = sym (six_told im e) ∙ t in
+    let g : breach (shape_of im) im ≡ Some (r, x) = cc in
+    (e, rw g at (breach_says (shape_of im) im)))
     (λ n. absurd (other_told im n r x t))
 
 -- (c) of a good image all rules hold, and nothing is told; so the twenty-one rules are what number 6 goes by
@@ -185,13 +184,13 @@ good_holds s im g =
     let e = good_checked s im g in
     all_so (shape_of im) im (checked_good im e).laid.fit (fine_so im e)
 
-pub good_told : (s : Shape) (im : List ℕ) → Good s im → broken im ≡ Broken.Nothing
+pub good_told : (s : Shape) (im : List ℕ) → Good s im → broken im ≡ Ok None
 unfolding broken
 good_told s im g = let e = good_checked s im g in rw e
 
 -- elsewhere what is told follows from the verdict alone
-pub told_else : (im : List ℕ) → verdict_number (check im) ≢ 6 → (P : Broken → ℕ → Type 0) → P Broken.Nothing 0
-    → ((r : Refusal) → P (Broken.Refused r) (number r)) → P (broken im) (verdict_number (check im))
+pub told_else : (im : List ℕ) → verdict_number (check im) ≢ 6 → (P : Result (Option (Rule × Subject)) Refusal → ℕ → Type 0) → P (Ok None) 0
+    → ((r : Refusal) → P (Err r) (number r)) → P (broken im) (verdict_number (check im))
 unfolding broken
 told_else im ne P fine refused = go (check im) ne
   where

@@ -1,5 +1,5 @@
 -- The first broken rule, as the code finds it. Assumes nothing.
-use Rattle.std.specs.Prelude.{Err, Ok, Result, ⊤}
+use Rattle.std.specs.Prelude.{Err, Ok, Result, Option, Some, None, ⊤}
 use mathlib.Core.Path.{◌≡◌, refl, sym, ap, ◌∙◌}
 use mathlib.Core.List.{List}
 use mathlib.Core.Bool.{Bool, true, false, not}
@@ -7,7 +7,10 @@ use mathlib.Core.Logic.{◌≢◌}
 use Prim.Native.Nat.{ℕ, ◌*◌, ◌<◌, ◌≤◌}
 use native.Mathlib.Nat.{mul-le-mul}
 use native.Mathlib.Omega.{arith}
-use borrow.Author.Tests.{eq-eqb, ne_eqb}
+use borrow.Author.Tests.{eqb-true}
+use denote.Enum.Bare.{sameb}
+use lib.Dec.{eqb}
+use Rattle.paper.specs.contracts.Refusal.{the_type}
 use lib.ListN.{length}
 use Rattle.paper.specs.Image.{task, most_tasks, shape_of}
 use Rattle.paper.specs.Rules.{Fit}
@@ -24,8 +27,6 @@ use Rattle.single_rules.specs.declared.Rule.{Rule}
 use Rattle.single_rules.specs.declared.Kind.{Kind}
 use Rattle.breaches.specs.Order.{rules, rule, subject}
 use Rattle.breaches.specs.Broken.{kept, breaker, breach, broken, TellsBroken}
-use Rattle.breaches.specs.declared.Failing.{Failing}
-use Rattle.breaches.specs.declared.Broken.{Broken}
 use Rattle.breaches.specs.declared.Subject.{Subject}
 use Rattle.breaches.proofs.First.{Says, first_says, first_at, first_nowhere}
 
@@ -51,12 +52,12 @@ module _ (s : Shape) (im : List ℕ) (r : Rule) (κ : Kind) (end : ℕ) (eκ : �
   pub in_end : k < end → k < subjects s (kind r)
   in_end l = rw (ee, eκ) at l
 
-  pub breaks_at : k < end → every k (holds s im r) ≡ true → (b : Bool) → b ≡ holds s im r k → b ≡ false → Failing.At k ≡ breaker s im r
+  pub breaks_at : k < end → every k (holds s im r) ≡ true → (b : Bool) → b ≡ holds s im r k → b ≡ false → Some k ≡ breaker s im r
   unfolding breaker
   breaks_at l h b eb n =
       sym (first_at (subjects s (kind r)) k (holds s im r) record { inside = in_end l; before = h; fails = sym eb ∙ n })
 
-  pub breaks_nowhere : end ≤ k → k ≤ end → every k (holds s im r) ≡ true → Failing.Nowhere ≡ breaker s im r
+  pub breaks_nowhere : end ≤ k → k ≤ end → every k (holds s im r) ≡ true → None ≡ breaker s im r
   unfolding breaker
   breaks_nowhere a b h =
       let e : k ≡ subjects s (kind r) = omega (arith, a, b) ∙ ee ∙ ap (subjects s) eκ in
@@ -64,32 +65,32 @@ module _ (s : Shape) (im : List ℕ) (r : Rule) (κ : Kind) (end : ℕ) (eκ : �
 
 -- a rule that something breaks is not kept, and one that nothing breaks is
 module _ (s : Shape) (im : List ℕ) (r : Rule) where
-  pub says : (x : Failing) → x ≡ breaker s im r → Says (subjects s (kind r)) (holds s im r) x
+  pub says : (x : Option ℕ) → x ≡ breaker s im r → Says (subjects s (kind r)) (holds s im r) x
   unfolding breaker
   says x e = rw e (first_says (subjects s (kind r)) (holds s im r))
 
-  pub not_kept : (k : ℕ) → Failing.At k ≡ breaker s im r → kept s im r ≡ false
+  pub not_kept : (k : ℕ) → Some k ≡ breaker s im r → kept s im r ≡ false
   unfolding kept
-  not_kept k e = let w = says (Failing.At k) e in every_fails (subjects s (kind r)) k (holds s im r) w.inside w.fails
+  not_kept k e = let w = says (Some k) e in every_fails (subjects s (kind r)) k (holds s im r) w.inside w.fails
 
-  pub is_kept : Failing.Nowhere ≡ breaker s im r → kept s im r ≡ true
+  pub is_kept : None ≡ breaker s im r → kept s im r ≡ true
   unfolding kept
-  is_kept e = says Failing.Nowhere e
+  is_kept e = says None e
 
 -- the rules before k are kept
 abbrev pub KeptBefore : Shape → List ℕ → ℕ → Type 0
 KeptBefore s im k = every k (λ j. kept s im (rule j)) ≡ true
 
 module _ (s : Shape) (im : List ℕ) (k : ℕ) (h : KeptBefore s im k) where
-  pub breach_told : k < length rules → (r : Rule) (x : Failing) (at : ℕ) (κ : Kind) (y : Subject) → r ≡ rule k → x ≡ breaker s im r → x ≡ Failing.At at → κ ≡ kind r
-      → y ≡ subject s κ at → Broken.Rule r y ≡ breach s im
+  pub breach_told : k < length rules → (r : Rule) (x : Option ℕ) (at : ℕ) (κ : Kind) (y : Subject) → r ≡ rule k → x ≡ breaker s im r → x ≡ Some at → κ ≡ kind r
+      → y ≡ subject s κ at → Some (r, y) ≡ breach s im
   unfolding breach
   breach_told l r x at κ y er ex ea eκ ey =
-      let b : Failing.At at ≡ breaker s im (rule k) = sym ea ∙ ex ∙ ap (breaker s im) er in
+      let b : Some at ≡ breaker s im (rule k) = sym ea ∙ ex ∙ ap (breaker s im) er in
       let f = first_at (length rules) k (λ j. kept s im (rule j)) record { inside = l; before = h; fails = not_kept s im (rule k) at b } in
       rw (f, ← b, ey, eκ, er)
 
-  pub breach_none : length rules ≤ k → k ≤ length rules → Broken.Nothing ≡ breach s im
+  pub breach_none : length rules ≤ k → k ≤ length rules → None ≡ breach s im
   unfolding breach
   breach_none a b =
       let e : k ≡ length rules = omega (arith, a, b) in
@@ -97,8 +98,8 @@ module _ (s : Shape) (im : List ℕ) (k : ℕ) (h : KeptBefore s im k) where
       rw f
 
 -- the subject that is told is one
-pub at_in : (s : Shape) (im : List ℕ) (r : Rule) (x : Failing) (at : ℕ) (κ : Kind) → x ≡ breaker s im r → x ≡ Failing.At at → κ ≡ kind r → at < subjects s κ
-at_in s im r x at κ ex ea eκ = rw eκ (says s im r (Failing.At at) (sym ea ∙ ex)).inside
+pub at_in : (s : Shape) (im : List ℕ) (r : Rule) (x : Option ℕ) (at : ℕ) (κ : Kind) → x ≡ breaker s im r → x ≡ Some at → κ ≡ kind r → at < subjects s κ
+at_in s im r x at κ ex ea eκ = rw eκ (says s im r (Some at) (sym ea ∙ ex)).inside
 
 -- an image that is refused with 6 has a shape, and not all its rules hold
 passed_by : (b : Bool) (r : Refusal) (v : Result ⊤ Refusal) → number r ≢ 6 → verdict_number (refused_if b r v) ≡ 6 → (b ≡ false) × (verdict_number v ≡ 6)
@@ -120,29 +121,34 @@ six_so im e =
     let f = passed_by (wrong_segments s im) Refusal.WrongSegments _ (λ z. omega arith) d.1 in
     (sized_so s im refl _ _ refl c.0 refl d.0 _ refl f.0, last_by (rules_hold s im) f.1)
 
--- what is told of a verdict
-module _ (im : List ℕ) (v : Result ⊤ Refusal) (ev : v ≡ check im) where
-  pub tells_nothing : v ≡ Ok tt → TellsBroken im Broken.Nothing
+-- a refusal is compared as its number is
+six_is : (r : Refusal) → sameb the_type r Refusal.RuleBroken ≡ eqb (number r) (number Refusal.RuleBroken)
+six_is Refusal.TooShort = refl
+six_is Refusal.NotMarked = refl
+six_is Refusal.OutOfRange = refl
+six_is Refusal.NotPacked = refl
+six_is Refusal.WrongSegments = refl
+six_is Refusal.RuleBroken = refl
+six_is Refusal.MalformedEvent = refl
+six_is Refusal.InputFull = refl
+six_is Refusal.PortIdle = refl
+six_is Refusal.BadPlan = refl
+six_is Refusal.WrongTarget = refl
+six_is Refusal.CountFull = refl
+
+-- what is told of an image that is refused
+module _ (im : List ℕ) (r : Refusal) (v : check im ≡ Err r) (b : Bool) (eb : b ≡ sameb the_type r Refusal.RuleBroken) where
+  compared : eqb (number r) (number Refusal.RuleBroken) ≡ b
+  compared = sym (six_is r) ∙ sym eb
+
+  module _ (six : b ≡ true) (s : Shape) (es : s ≡ shape_of im) where
+    pub six_sized : Sized s im
+    six_sized = rw es (six_so im (ap verdict_number v ∙ eqb-true _ _ (compared ∙ six))).0
+
+    pub tells_breach : (x : Option (Rule × Subject)) → x ≡ breach s im → TellsBroken im (Ok x)
+    unfolding broken
+    tells_breach x ex = record { told = rw (v, compared, six, ex, es) }
+
+  pub tells_refused : b ≡ false → TellsBroken im (Err r)
   unfolding broken
-  tells_nothing e = let f : check im ≡ Ok tt = sym ev ∙ e in record { told = rw f }
-
-  module _ (r : Refusal) (er : v ≡ Err r) (n : ℕ) (en : n ≡ number r) where
-    is_refused : check im ≡ Err r
-    is_refused = sym ev ∙ er
-
-    pub six_sized : (s : Shape) → s ≡ shape_of im → n ≡ 6 → Sized s im
-    six_sized s es e6 = rw es (six_so im (ap verdict_number is_refused ∙ sym en ∙ e6)).0
-
-    pub tells_breach : (s : Shape) → s ≡ shape_of im → n ≡ 6 → (b : Broken) → b ≡ breach s im → TellsBroken im b
-    unfolding broken
-    tells_breach s es e6 b eb =
-        let f = is_refused in
-        let g = eq-eqb (number r) 6 (sym en ∙ e6) in
-        record { told = rw (eb, es, f, g) }
-
-    pub tells_refused : n ≢ 6 → TellsBroken im (Broken.Refused r)
-    unfolding broken
-    tells_refused ne =
-        let f = is_refused in
-        let g = ne_eqb (number r) 6 (λ z. ne (en ∙ z)) in
-        record { told = rw (f, g) }
+  tells_refused other = record { told = rw (v, compared, other) }

@@ -8,6 +8,7 @@ ghost use Rattle.single_rules.specs.Each.{subjects as subjects_of};
 ghost use Rattle.breaches.specs.Order.{rules, rule as nth_rule, number_of_rule, subject};
 ghost use Rattle.breaches.specs.Broken.{breaker, breach, TellsBroken};
 
+use headers::shape_of;
 use inspect::inspect;
 use paper::{Queue, Refusal, Shape, Task};
 pub use single_rules::Rule;
@@ -16,30 +17,12 @@ use single_rules::{Kind, holds, kind_of, queue_at};
 // How many rules there are.
 const RULES: usize = 21;
 
-// The number of a refusal for a broken rule.
-pub const RULE_BROKEN: u16 = 6;
-
 // What breaks a rule.
 #[derive(Clone, Copy)]
 pub enum Subject {
     Clock,
     Task(Task),
     Queue(Queue),
-}
-
-// The first broken rule and what breaks it; that the image is good; or the refusal of one that is no image.
-#[derive(Clone, Copy)]
-pub enum Broken {
-    Rule(Rule, Subject),
-    Nothing,
-    Refused(Refusal),
-}
-
-// Where a test fails first.
-#[derive(Clone, Copy)]
-enum Failing {
-    At(usize),
-    Nowhere,
 }
 
 // Rule k, counted from 0.
@@ -127,50 +110,40 @@ fn subject_at(s: Shape, kind: Kind, k: usize) -> Subject
 }
 
 // Where a rule fails first.
-fn first_failing(s: Shape, im: &[u16], rule: Rule) -> Failing
+fn first_failing(s: Shape, im: &[u16], rule: Rule) -> Option<usize>
     requires { Sized s im.now }
     ensures { result ≡ breaker s im.now rule }
 {
     let end = subjects(s, kind_of(rule));
-    let mut k: usize = 0;
-    while k < end {
+    for k in 0..end {
         if !holds(s, im, rule, k) {
-            return Failing::At(k);
+            return Some(k);
         }
-        k += 1;
     }
-    Failing::Nowhere
+    None
 }
 
 // The first rule that fails and its first subject that breaks it.
-fn first_broken(s: Shape, im: &[u16]) -> Broken
+fn first_broken(s: Shape, im: &[u16]) -> Option<(Rule, Subject)>
     requires { Sized s im.now }
     ensures { result ≡ breach s im.now }
 {
-    let mut k: usize = 0;
-    while k < RULES {
+    for k in 0..RULES {
         let rule = rule_at(k);
-        if let Failing::At(at) = first_failing(s, im, rule) {
-            return Broken::Rule(rule, subject_at(s, kind_of(rule), at));
+        if let Some(at) = first_failing(s, im, rule) {
+            return Some((rule, subject_at(s, kind_of(rule), at)));
         }
-        k += 1;
     }
-    Broken::Nothing
+    None
 }
 
-// The first broken rule of an image.
-pub fn broken_rule(im: &[u16]) -> Broken
+// The first broken rule of an image and what breaks it, where it breaks one; or the refusal of what is no image.
+pub fn broken_rule(im: &[u16]) -> Result<Option<(Rule, Subject)>, Refusal>
     ensures { TellsBroken im.now result }
 {
-    let found = inspect(im);
-    let verdict = found.verdict;
-    match verdict {
-        Ok(()) => Broken::Nothing,
-        Err(r) => {
-            if u16::from(r) == RULE_BROKEN {
-                return first_broken(found.shape, im);
-            }
-            Broken::Refused(r)
-        }
+    match inspect(im) {
+        Ok(_) => Ok(None),
+        Err(r) if r == Refusal::RuleBroken => Ok(first_broken(shape_of(im), im)),
+        Err(r) => Err(r),
     }
 }

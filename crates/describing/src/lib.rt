@@ -14,7 +14,7 @@ use messages::TASKS_END;
 use paper::{IDLE, Shape, Task};
 use queues::{put_character, put_queue};
 use tasks::put_task;
-use views::{PortState, PortView, READY_QUEUE, port};
+use views::{PortState, READY_QUEUE, port};
 use words::{Spot, get};
 
 // The lines of the header; its offsets follow from these numbers.
@@ -62,7 +62,7 @@ fn put_port(out: Output, d: u16, state: PortState) -> Output {
 fn put_ports(out: Output, im: &[u16]) -> Output {
     let mut shown = put_text(out, b"\n");
     for d in 0..TASKS_END {
-        let PortView::Is(state) = port(im, d) else {
+        let Ok(Some(state)) = port(im, d) else {
             return shown;
         };
         shown = put_port(shown, d, state);

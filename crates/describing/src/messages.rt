@@ -3,7 +3,7 @@ use crate::lines::put_named;
 use crate::queues::put_queue;
 use disk::{Output, put_text};
 use paper::MOST_TASKS;
-use views::{MESSAGE_BUFFER, WordView, queue_length};
+use views::{MESSAGE_BUFFER, queue_length};
 
 // No task has a number from here on.
 pub const TASKS_END: u16 = MOST_TASKS as u16;
@@ -18,7 +18,7 @@ fn put_messages(out: Output, im: &[u16], i: u16, j: u16) -> Output {
 // Whether a task has messages for another.
 fn has_messages(im: &[u16], i: u16, j: u16) -> bool {
     match queue_length(im, MESSAGE_BUFFER, i, j) {
-        WordView::Is(length) => 0 < length,
+        Ok(Some(length)) => 0 < length,
         _ => false,
     }
 }

@@ -2,7 +2,7 @@
 use crate::lines::put_gap;
 use disk::{Output, put_shown, put_text};
 use paper::MOST_CAPACITY;
-use views::{INPUT_BUFFER, OUTPUT_BUFFER, WordView, queue_word};
+use views::{INPUT_BUFFER, OUTPUT_BUFFER, queue_word};
 
 // The characters that can be printed: from the blank to the tilde.
 const FIRST_PRINTABLE: u16 = 32;
@@ -45,7 +45,7 @@ fn put_end(out: Output, count: u16) -> Output {
 pub fn put_queue(out: Output, im: &[u16], q: u16, i: u16, j: u16) -> Output {
     let mut shown = out;
     for at in 0..MOST_HELD {
-        let WordView::Is(word) = queue_word(im, q, i, j, at) else {
+        let Ok(Some(word)) = queue_word(im, q, i, j, at) else {
             return put_end(shown, at);
         };
         let parted = put_gap(shown, at);

@@ -8,7 +8,7 @@ use crate::queues::put_queue;
 use disk::{Output, put_text};
 use paper::{BASE, EQUAL, LENGTH, LESS, NEXT_ORDER, REGISTERS, Shape, Task};
 use saying::{put_service, put_status};
-use views::{INPUT_BUFFER, OUTPUT_BUFFER, TaskState, TaskView, WordView, register, task};
+use views::{INPUT_BUFFER, OUTPUT_BUFFER, TaskState, register, task};
 use words::entry;
 
 // The register that holds the next order's address.
@@ -40,7 +40,7 @@ fn put_condition(out: Output, cc: u16) -> Output {
 
 // A register of a task.
 fn put_register(out: Output, im: &[u16], t: Task, r: u16) -> Output {
-    let WordView::Is(word) = register(im, t.0, r) else {
+    let Ok(Some(word)) = register(im, t.0, r) else {
         return out;
     };
     let parted = put_gap(out, r);
@@ -59,7 +59,7 @@ fn put_registers(out: Output, im: &[u16], t: Task) -> Output {
 
 // That R0 stands outside a segment of so many words, where it does.
 fn put_outside(out: Output, im: &[u16], t: Task, length: u16) -> Output {
-    let WordView::Is(address) = register(im, t.0, NEXT) else {
+    let Ok(Some(address)) = register(im, t.0, NEXT) else {
         return out;
     };
     if address < length {
@@ -94,7 +94,7 @@ pub fn put_task(out: Output, s: Shape, im: &[u16], t: Task) -> Output
     requires sound { Sound s im.now }
     requires t_lt_n { t.0 < s.n }
 {
-    let TaskView::Is(state) = task(im, t.0) else {
+    let Ok(Some(state)) = task(im, t.0) else {
         return out;
     };
     let headed = put_heading(out, t, state);

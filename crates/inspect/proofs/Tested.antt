@@ -1,22 +1,16 @@
 -- All rules, in whatever order they are tested, and numbers 1 to 6, one after another. Assumes nothing.
-use Rattle.std.specs.Prelude.{Err, Ok, Result, ⊤}
 use mathlib.Core.Path.{◌≡◌, refl, sym, ◌∙◌}
 use mathlib.Core.List.{List}
 use mathlib.Core.Bool.{Bool, true, false, ◌&&◌, and-eq-true_iff}
-use Prim.Native.Nat.{ℕ, ◌<◌, ◌≤◌}
-use borrow.Author.Tests.{lt-ltb, le-ltb}
+use Prim.Native.Nat.{ℕ, ◌<◌}
 use Rattle.std.proofs.lemmas.Bool.{not_from_false}
-use lib.Dec.{eqb, leb}
-use lib.ListN.{length}
-use Rattle.paper.specs.Image.{header_words, mark, edition, header_word, shape_of, at, clock, task}
-use Rattle.paper.specs.Queues.{held, empty}
-use Rattle.paper.specs.Tests.{implies, every_task, all_below, queued, queue_holds, buffers_hold, characters, readied_once, port_holds, flags_hold, status_holds, task_holds, clock_holds, readied_tasks, rules_hold}
-use Rattle.paper.specs.Numbers.{verdict_number, out_of_range, not_packed, wrong_segments, check}
-use Rattle.paper.specs.Promises.{Checks}
+use Rattle.paper.specs.Image.{shape_of, task}
+use Rattle.paper.specs.Queues.{held}
+use Rattle.paper.specs.Tests.{every_task, all_below, queued, queue_holds, buffers_hold, characters, readied_once, port_holds, flags_hold, task_holds, clock_holds, readied_tasks, rules_hold}
+use Rattle.paper.specs.Numbers.{out_of_range, not_packed, wrong_segments}
 use Rattle.paper.specs.declared.Task.{Task}
 use Rattle.paper.specs.declared.Shape.{Shape}
 use Rattle.paper.specs.declared.Queue.{Queue}
-use Rattle.paper.specs.declared.Refusal.{Refusal}
 use Rattle.laws.specs.Every.{every_fails}
 use Rattle.laws.specs.Checked.{every_is, ranged_is, packed_is, segments_are, queued_is, kept_is}
 use Rattle.laws.specs.Sound.{Sized}
@@ -30,20 +24,6 @@ module _ (s : Shape) (im : List ℕ) (i : Task) where
       (port_holds s im i ≡ true) × (flags_hold s im i ≡ true)
   unfolding task_holds
   task_parts h = let p = simp and-eq-true_iff at h in (p.0.0.0.0.0, p.0.0.0.0.1, p.0.0.0.1, p.0.0.1, p.0.1)
-
-  pub once_fails : (b : Bool) → b ≡ readied_once s im i → b ≡ false → false ≡ task_holds s im i
-  once_fails b e n = part_fails _ _ b (λ h. (task_parts h).2) e (not_from_false b n)
-
-  pub port_fails : (b : Bool) → b ≡ port_holds s im i → b ≡ false → false ≡ task_holds s im i
-  port_fails b e n = part_fails _ _ b (λ h. (task_parts h).3) e (not_from_false b n)
-
-  pub flags_fail : (b : Bool) → b ≡ flags_hold s im i → b ≡ false → false ≡ task_holds s im i
-  flags_fail b e n = part_fails _ _ b (λ h. (task_parts h).4) e (not_from_false b n)
-
-  pub task_tested : (r p f t : Bool) → buffers_hold s im i ≡ true → characters s im i ≡ true → r ≡ readied_once s im i → r ≡ true
-      → p ≡ port_holds s im i → p ≡ true → f ≡ flags_hold s im i → f ≡ true → t ≡ status_holds s im i → t ≡ task_holds s im i
-  unfolding task_holds
-  task_tested r p f t hb hc er nr ep np ef nf et = rw (et, hb, hc, sym er ∙ nr, sym ep ∙ np, sym ef ∙ nf)
 
 -- what holds for every task holds for one
 module _ (s : Shape) (im : List ℕ) (k : ℕ) (l : k < s.n) where
@@ -60,11 +40,6 @@ module _ (s : Shape) (im : List ℕ) (k : ℕ) (l : k < s.n) where
 pub tasks_fail : (s : Shape) (im : List ℕ) (k : ℕ) (r : Bool) → k < s.n → r ≡ task_holds s im (task k) → r ≡ false
     → false ≡ every_task s (task_holds s im)
 tasks_fail s im k r hk er nr = sym (every_fails s.n k _ hk (sym er ∙ nr))
-
-pub clock_tested : (s : Shape) (im : List ℕ) (c : ℕ) (e p o : Bool) → c ≡ at s im clock → e ≡ empty s im Queue.Ready
-    → p ≡ implies e (eqb c 0) → o ≡ (leb c s.slice && p) → o ≡ clock_holds s im
-unfolding clock_holds
-clock_tested s im c e p o ec ee ep eo = rw (eo, ep, ee, ec)
 
 -- all rules, in whatever order they are tested
 module _ (s : Shape) (im : List ℕ) where
@@ -116,48 +91,3 @@ module _ (s : Shape) (im : List ℕ) (es : s ≡ shape_of im) (r p : Bool) (er :
   sized_so w ew right =
       let h = (segments_are s im).0 (sym ew ∙ right) in
       sized_by s im (ranged_so s r er inside) ((packed_is s (rw es refl)).0 (sym ep ∙ packed)) h.1 h.2
-
--- the tests 1 to 6, one after another
-module _ (im : List ℕ) where
-  pub too_short_so : length im < header_words → Err Refusal.TooShort ≡ check im
-  unfolding check
-  too_short_so h = rw (lt-ltb (length im) header_words h)
-
-  module _ (long : header_words ≤ length im) (a b : ℕ) (m : Bool) (ea : a ≡ header_word im 0) (eb : b ≡ header_word im 1)
-      (em : m ≡ (eqb a mark && eqb b edition)) where
-    pub not_marked_so : m ≡ false → Err Refusal.NotMarked ≡ check im
-    unfolding check
-    not_marked_so n = rw (le-ltb (length im) header_words long, ← ea, ← eb, ← em, n)
-
-    module _ (marked : m ≡ true) (s : Shape) (es : s ≡ shape_of im) (r : Bool) (er : r ≡ out_of_range s) where
-      pub out_of_range_so : r ≡ true → Err Refusal.OutOfRange ≡ check im
-      unfolding check
-      out_of_range_so e =
-          rw (le-ltb (length im) header_words long, ← ea, ← eb, ← em, marked, ← es, ← er, e)
-
-      module _ (inside : r ≡ false) (p : Bool) (ep : p ≡ not_packed s) where
-        pub not_packed_so : p ≡ true → Err Refusal.NotPacked ≡ check im
-        unfolding check
-        not_packed_so e =
-            rw (le-ltb (length im) header_words long, ← ea, ← eb, ← em, marked, ← es, ← er, inside, ← ep, e)
-
-        module _ (packed : p ≡ false) (w : Bool) (ew : w ≡ wrong_segments s im) where
-          pub wrong_segments_so : w ≡ true → Err Refusal.WrongSegments ≡ check im
-          unfolding check
-          wrong_segments_so e =
-              rw (le-ltb (length im) header_words long, ← ea, ← eb, ← em, marked, ← es, ← er, inside, ← ep, packed, ← ew, e)
-
-          module _ (right : w ≡ false) (o : Bool) (eo : o ≡ rules_hold s im) where
-            pub rule_broken_so : o ≡ false → Err Refusal.RuleBroken ≡ check im
-            unfolding check
-            rule_broken_so n =
-                rw (le-ltb (length im) header_words long, ← ea, ← eb, ← em, marked, ← es, ← er, inside, ← ep, packed, ← ew, right, ← eo, n)
-
-            pub fine_so : o ≡ true → Ok tt ≡ check im
-            unfolding check
-            fine_so n =
-                rw (le-ltb (length im) header_words long, ← ea, ← eb, ← em, marked, ← es, ← er, inside, ← ep, packed, ← ew, right, ← eo, n)
-
--- the number of a verdict
-pub numbered : (im : List ℕ) (v : Result ⊤ Refusal) (n : ℕ) → v ≡ check im → n ≡ verdict_number v → Checks im n
-numbered im v n ev en = record { answered = rw (en, ev) }

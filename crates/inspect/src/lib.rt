@@ -2,37 +2,22 @@
 #![tactic(auto)]
 
 ghost use Rattle.std.specs.Prelude.{◌≡◌, true, ◌<◌};
-ghost use Rattle.paper.specs.Image.{shape_of as shape_given};
 ghost use Rattle.paper.specs.Queues.{held};
 ghost use Rattle.paper.specs.Tests.{every_task, buffers_hold as do_buffers_hold, characters as are_characters, task_holds as does_task_hold, clock_holds as does_clock_hold, rules_hold as do_rules_hold};
-ghost use Rattle.paper.specs.Numbers.{check as verdict_on};
 ghost use Rattle.paper.specs.Promises.{Checks};
 ghost use Rattle.paper.specs.declared.Queue.TheVariants.{Ready};
 ghost use Rattle.laws.specs.Sound.{Sized};
 ghost use Rattle.queue_rules.specs.ReadyCounts.{AllFound};
+ghost use Rattle.inspect.specs.Inspects.{Inspects};
 
-use connectives::{both, implies};
-use headers::{header_word, not_packed, out_of_range, shape_of, wrong_segments};
-use numbers::number_of_verdict;
+use headers::{not_packed, out_of_range, shape_of, word_or_zero, wrong_segments};
 use paper::{
-    CLOCK_AT, Cell, EDITION, EDITION_AT, HEADER_WORDS, MARK, MARK_AT, MOST_TASKS, Part, Queue,
-    Refusal, Shape, Task,
+    CLOCK_AT, Cell, EDITION, EDITION_AT, HEADER_WORDS, MARK, MARK_AT, MOST_TASKS, NOT_REFUSED,
+    Part, Queue, Refusal, Shape, Task,
 };
 use places::word_of;
 use queue_rules::{buffers_hold, count_ready, ready_holds};
 use task_rules::{flags_hold, is_empty, port_holds, readied_once, status_holds};
-
-// The mark and the edition, as words of the header are read.
-const WIDE_MARK: usize = MARK as usize;
-
-const WIDE_EDITION: usize = EDITION as usize;
-
-// What one inspection of an image tells: the verdict, and the shape that its header gives.
-#[derive(Clone, Copy)]
-pub struct Inspected {
-    pub verdict: Result<(), Refusal>,
-    pub shape: Shape,
-}
 
 // Whether the rules of task i hold, where those of its buffers do; found tells how often the ready queue holds each task.
 fn task_holds(s: Shape, im: &[u16], i: Task, found: &[u8; MOST_TASKS]) -> bool
@@ -43,16 +28,10 @@ fn task_holds(s: Shape, im: &[u16], i: Task, found: &[u8; MOST_TASKS]) -> bool
     requires all_found { AllFound found.now (held s im.now Ready) }
     ensures { result ≡ does_task_hold s im.now i }
 {
-    if !readied_once(s, im, i, found) {
-        return false;
-    }
-    if !port_holds(s, im, i) {
-        return false;
-    }
-    if !flags_hold(s, im, i) {
-        return false;
-    }
-    status_holds(s, im, i)
+    readied_once(s, im, i, found)
+        & port_holds(s, im, i)
+        & flags_hold(s, im, i)
+        & status_holds(s, im, i)
 }
 
 // Whether the rules of every task hold, where those of all buffers do.
@@ -63,12 +42,10 @@ fn tasks_hold(s: Shape, im: &[u16], found: &[u8; MOST_TASKS]) -> bool
     requires all_found { AllFound found.now (held s im.now Ready) }
     ensures { result ≡ every_task s (does_task_hold s im.now) }
 {
-    let mut k: usize = 0;
-    while k < s.n {
+    for k in 0..s.n {
         if !task_holds(s, im, Task(k as u16), found) {
             return false;
         }
-        k += 1;
     }
     true
 }
@@ -87,10 +64,7 @@ fn clock_holds(s: Shape, im: &[u16]) -> bool
             column: CLOCK_AT,
         },
     );
-    both(
-        clock <= s.slice,
-        implies(is_empty(s, im, Queue::Ready), clock == 0),
-    )
+    (clock <= s.slice) & (!is_empty(s, im, Queue::Ready) | (clock == 0))
 }
 
 // Whether all rules of "What an image must hold" hold.
@@ -114,20 +88,18 @@ fn rules_hold(s: Shape, im: &[u16]) -> bool
     tasks_hold(s, im, &found)
 }
 
-// The verdict on an image whose header gives the shape s.
-fn verdict(s: Shape, im: &[u16]) -> Result<(), Refusal>
-    requires { s ≡ shape_given im.now }
-    ensures { result ≡ verdict_on im.now }
+// Inspects an image once, for whoever goes on with it: the shape that its header gives, or the first of the refusals 1 to 6.
+pub fn inspect(im: &[u16]) -> Result<Shape, Refusal>
+    ensures { Inspects im.now result }
 {
     if im.len() < HEADER_WORDS {
         return Err(Refusal::TooShort);
     }
-    if !both(
-        header_word(im, MARK_AT) == WIDE_MARK,
-        header_word(im, EDITION_AT) == WIDE_EDITION,
-    ) {
+    let marked = (word_or_zero(im, MARK_AT) == MARK) & (word_or_zero(im, EDITION_AT) == EDITION);
+    if !marked {
         return Err(Refusal::NotMarked);
     }
+    let s = shape_of(im);
     if out_of_range(s) {
         return Err(Refusal::OutOfRange);
     }
@@ -140,25 +112,15 @@ fn verdict(s: Shape, im: &[u16]) -> Result<(), Refusal>
     if !rules_hold(s, im) {
         return Err(Refusal::RuleBroken);
     }
-    Ok(())
-}
-
-// Inspects an image once, for whoever goes on with it.
-pub fn inspect(im: &[u16]) -> Inspected
-    ensures { (result.verdict ≡ verdict_on im.now) × (result.shape ≡ shape_given im.now) }
-{
-    let shape = shape_of(im);
-    Inspected {
-        verdict: verdict(shape, im),
-        shape: shape,
-    }
+    Ok(s)
 }
 
 // The number of an image's refusal, 1 to 6, or 0 where it is good.
 pub fn check(im: &[u16]) -> u16
     ensures { Checks im.now result }
 {
-    let inspected = inspect(im);
-    let found = inspected.verdict;
-    number_of_verdict(found)
+    match inspect(im) {
+        Ok(_) => NOT_REFUSED,
+        Err(r) => u16::from(r),
+    }
 }

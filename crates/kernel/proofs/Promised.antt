@@ -1,18 +1,16 @@
 -- What `event`, `run` and `report` promise, from what the calls behind them answer. Assumes nothing.
 use Rattle.std.specs.Prelude.{Err, Ok, Result, ⊤}
-use mathlib.Core.Logic.{◌≢◌}
 use mathlib.Core.Path.{◌≡◌, refl, sym, ap, ◌∙◌}
 use mathlib.Core.List.{List, [], ◌∷◌}
 use mathlib.Core.Bool.{Bool, true, false, not, true≢false}
 use Prim.Native.Nat.{ℕ, ◌+◌, ◌%◌, ◌/◌}
 use native.Mathlib.Omega.{arith}
-use borrow.Author.Tests.{eqb-true, eq-eqb, ne_eqb}
+use borrow.Author.Tests.{eqb-true}
 use lib.Dec.{eqb}
 use lib.ListN.{length}
-use Rattle.paper.specs.Image.{shape_of}
 use Rattle.paper.specs.Waking.{outcome}
 use Rattle.paper.specs.Events.{event_of, happening}
-use Rattle.paper.specs.Numbers.{verdict_number, reply_number, reply_values, and_then, refused_if, check}
+use Rattle.paper.specs.Numbers.{verdict_number, reply_number, reply_values, refused_if, check}
 use Rattle.paper.specs.Calls.{Ran, one_more, goes_on, run_from, check_run, event, run}
 use Rattle.paper.specs.Counts.{tally, counted, Counted, counting, counted_event, Reported, one_reported, reports_on, report_from, report}
 use Rattle.paper.specs.Promises.{Happens, Runs, Reports}
@@ -31,6 +29,12 @@ use Rattle.happening.specs.Tallies.{counts_on, counts_from, Tallies}
 use Rattle.happening.specs.declared.Kind.{Kind}
 use Rattle.happening.proofs.RepliesInParts.{stop_told}
 use Rattle.careful.specs.OneByOne.{CountsAll}
+use Rattle.inspect.specs.Inspects.{Inspects}
+use Rattle.kernel.specs.Begins.{Begins}
+
+-- a good image is lawful
+pub fine_lawful : (im : List ℕ) (s : Shape) → Inspects im (Ok s) → Lawful s im
+fine_lawful im s h = inspected_lawful s im (check im) refl h.1 h.0
 
 -- one event
 module _ (im : List ℕ) (k d c : ℕ) where
@@ -39,22 +43,14 @@ module _ (im : List ℕ) (k d c : ℕ) where
       let told = ap (λ o. o.reply) e in
       record { answered = told; numbered = ap reply_number told; valued = ap reply_values told; left = ap (λ o. o.image) e }
 
-  module _ (v : Result ⊤ Refusal) (ev : v ≡ check im) where
-    pub event_fine : (s : Shape) (answer : Result Answer Refusal) (out : List ℕ) → v ≡ Ok tt → s ≡ shape_of im
-        → outcome answer out ≡ happening s im (event_of s k d c) → Happens im k d c answer out
-    unfolding event
-    event_fine s answer out f es e = happened answer out (rw (← ev, f, ← es) e)
+  pub event_fine : (s : Shape) → Inspects im (Ok s) → (answer : Result Answer Refusal) (out : List ℕ)
+      → outcome answer out ≡ happening s im (event_of s k d c) → Happens im k d c answer out
+  unfolding event
+  event_fine s h answer out e = happened answer out (rw (h.0, ← h.1) e)
 
-    pub event_refused : (r : Refusal) → v ≡ Err r → Happens im k d c (Err r) im
-    unfolding event
-    event_refused r f = happened (Err r) im (rw (← ev, f))
-
--- a later verdict counts where the first is fine
-pub turn_fine : (first later : Result ⊤ Refusal) → first ≡ Ok tt → later ≡ and_then first later
-turn_fine first later f = rw f
-
-pub turn_refused : (first later : Result ⊤ Refusal) (r : Refusal) → first ≡ Err r → Err r ≡ and_then first later
-turn_refused first later r f = rw f
+  pub event_refused : (r : Refusal) → check im ≡ Err r → Happens im k d c (Err r) im
+  unfolding event
+  event_refused r f = happened (Err r) im (rw f)
 
 -- a run over whole events, as they are told
 abbrev ran_as : Toll → Ran
@@ -113,24 +109,12 @@ unfolding Ends Tallies CountsAll
 all_counted s im counts events whole room taken stop kind t out more e em =
     rw (em, report_told s im counts events whole room Answer.Idle, e, stop_told stop kind t)
 
--- a verdict on a run
-module _ (im events : List ℕ) (image list verdict : Result ⊤ Refusal) (ei : image ≡ check im)
-    (el : list ≡ refused_if (not (eqb (length events % 3) 0)) Refusal.MalformedEvent (Ok tt))
-    (ev : verdict ≡ and_then image list) where
-  verdict_is : verdict ≡ check_run im events
-  verdict_is = ev ∙ ap (λ v. and_then v list) ei ∙ ap (and_then (check im)) el
-
+-- a run that begins, and one that is refused
+module _ (im events : List ℕ) where
   ran : (answer : Ended) (out : List ℕ) → record { taken = answer.taken; stop = answer.stop; image = out } ≡ run im events → Runs im events answer out
   ran answer out e =
       let stop = ap (λ (r : Ran). r.stop) e in
       record { counted = ap (λ (r : Ran). r.taken) e; stopped = stop; numbered = ap verdict_number stop; left = ap (λ (r : Ran). r.image) e }
-
-  pub run_refused : (r : Refusal) (answer : Ended) → verdict ≡ Err r → answer ≡ record { taken = 0; stop = Err r }
-      → Runs im events answer im
-  unfolding run
-  run_refused r answer f ea =
-      let at : check_run im events ≡ Err r = sym verdict_is ∙ f in
-      rw ea (ran _ im (rw at))
 
   reported : (counts : List ℕ) (answer : Ended) (out more : List ℕ)
       → record { taken = answer.taken; stop = answer.stop; image = out; counts = more } ≡ report im events counts → Reports im events counts answer out more
@@ -144,46 +128,37 @@ module _ (im events : List ℕ) (image list verdict : Result ⊤ Refusal) (ei : 
         tallied = ap (λ (r : Reported). r.counts) e;
       }
 
-  pub report_refused : (counts : List ℕ) (r : Refusal) (answer : Ended) → verdict ≡ Err r → answer ≡ record { taken = 0; stop = Err r }
-      → Reports im events counts answer im counts
-  unfolding report
-  report_refused counts r answer f ea =
-      let at : check_run im events ≡ Err r = sym verdict_is ∙ f in
-      rw ea (reported counts _ im counts (rw at))
+  module _ (r : Refusal) (f : check_run im events ≡ Err r) where
+    pub run_refused : Runs im events (record { taken = 0; stop = Err r }) im
+    unfolding run
+    run_refused = ran _ im (rw f)
 
-  module _ (f : verdict ≡ Ok tt) where
-    both_fine : (image ≡ Ok tt) × (list ≡ Ok tt)
-    both_fine = then_fine image list (sym ev ∙ f)
+    pub report_refused : (counts : List ℕ) → Reports im events counts (record { taken = 0; stop = Err r }) im counts
+    unfolding report
+    report_refused counts = reported counts _ im counts (rw f)
 
-    pub run_lawful : (s : Shape) → s ≡ shape_of im → Lawful s im
-    run_lawful s es = inspected_lawful s im image ei es both_fine.0
+  module _ (s : Shape) (h : Begins im events (Ok s)) where
+    both_fine : (check im ≡ Ok tt) × (refused_if (not (eqb (length events % 3) 0)) Refusal.MalformedEvent (Ok tt) ≡ Ok tt)
+    both_fine = then_fine (check im) (refused_if (not (eqb (length events % 3) 0)) Refusal.MalformedEvent (Ok tt)) h.0
+
+    pub run_lawful : Lawful s im
+    run_lawful = inspected_lawful s im (check im) refl h.1 both_fine.0
 
     pub run_whole : length events % 3 ≡ 0
-    run_whole = go (eqb (length events % 3) 0) refl (sym el ∙ both_fine.1)
+    run_whole = go (eqb (length events % 3) 0) refl both_fine.1
       where
         go : (b : Bool) → eqb (length events % 3) 0 ≡ b → refused_if (not b) Refusal.MalformedEvent (Ok tt) ≡ Ok tt → length events % 3 ≡ 0
         go true e h = eqb-true (length events % 3) 0 e
         go false e h = absurd (never_fine Refusal.MalformedEvent h)
 
-    pub run_fine : (s : Shape) (kind : Kind) (t : Task) (answer : Ended) (out : List ℕ) → s ≡ shape_of im → Ends s im events answer.taken (told_by answer.stop kind t) out
+    pub run_fine : (kind : Kind) (t : Task) (answer : Ended) (out : List ℕ) → Ends s im events answer.taken (told_by answer.stop kind t) out
         → Runs im events answer out
     unfolding run Ends
-    run_fine s kind t answer out es e =
-        let at : check_run im events ≡ Ok tt = sym verdict_is ∙ f in
+    run_fine kind t answer out e =
         let all = run_told s im events run_whole Answer.Idle ∙ ap ran_as e in
-        ran answer out (rw (at, ← es, all, stop_told answer.stop kind t))
+        ran answer out (rw (h.0, ← h.1, all, stop_told answer.stop kind t))
 
-    pub report_fine : (s : Shape) (counts : List ℕ) (answer : Ended) (out more : List ℕ) → s ≡ shape_of im
+    pub report_fine : (counts : List ℕ) (answer : Ended) (out more : List ℕ)
         → CountsAll s im counts events answer.taken answer.stop out more → Reports im events counts answer out more
     unfolding report CountsAll
-    report_fine s counts answer out more es e =
-        let at : check_run im events ≡ Ok tt = sym verdict_is ∙ f in
-        reported counts answer out more (rw (at, ← es) (sym e))
-
--- a list's verdict
-module _ (words : ℕ) where
-  pub list_refused : words % 3 ≢ 0 → Err Refusal.MalformedEvent ≡ refused_if (not (eqb (words % 3) 0)) Refusal.MalformedEvent (Ok tt)
-  list_refused ne = rw (ne_eqb _ _ ne)
-
-  pub list_fine : words % 3 ≡ 0 → Ok tt ≡ refused_if (not (eqb (words % 3) 0)) Refusal.MalformedEvent (Ok tt)
-  list_fine e = rw (eq-eqb _ _ e)
+    report_fine counts answer out more e = reported counts answer out more (rw (h.0, ← h.1) (sym e))

@@ -1,13 +1,12 @@
 // The public kernel: checking an image, the size of a plan, building, one event, a run, and a run that counts. No call requires anything.
 #![tactic(auto)]
 
-ghost use Rattle.std.specs.Prelude.{◌≡◌, not, ◌%◌, eqb, length, Ok};
-ghost use Rattle.paper.specs.Numbers.{and_then, refused_if};
+ghost use Rattle.std.specs.Prelude.{◌≡◌, ◌%◌, length};
 ghost use Rattle.paper.specs.Promises.{Happens, Runs, Reports};
-ghost use Rattle.paper.specs.declared.Refusal.TheVariants.{MalformedEvent};
 ghost use Rattle.laws.specs.Events.{Lawful};
 ghost use Rattle.order_table.specs.Entries.{OrderTable};
 ghost use Rattle.careful.specs.OneByOne.{CountsAll};
+ghost use Rattle.kernel.specs.Begins.{Begins};
 
 pub use builds::build;
 use careful::count_one_by_one;
@@ -23,55 +22,34 @@ pub use plans::size;
 pub fn event(im: &mut [u16], kind: u16, device: u16, character: u16) -> Result<Answer, Refusal>
     ensures { Happens im.old kind device character result im.new }
 {
-    let found = inspect(im);
-    let verdict = found.verdict;
-    match verdict {
-        Ok(()) => {
-            let table = laid_out();
-            step(found.shape, im, &table, kind, device, character)
-        }
-        Err(r) => Err(r),
-    }
+    let s = inspect(im)?;
+    let table = laid_out();
+    step(s, im, &table, kind, device, character)
 }
 
-// The verdict on a list of so many words: it holds whole events, or it is malformed.
-fn verdict_on_list(words: usize) -> Result<(), Refusal>
-    ensures { result ≡ refused_if (not (eqb (words % 3) 0)) MalformedEvent (Ok tt) }
+// The shape that a run goes on with: that of a good image, where the list holds whole events.
+fn begin(im: &[u16], events: &[u16]) -> Result<Shape, Refusal>
+    ensures { Begins im.now events.now result }
 {
-    if words % EVENT_WORDS != 0 {
-        Err(Refusal::MalformedEvent)
-    } else {
-        Ok(())
+    let shape = inspect(im)?;
+    if events.len() % EVENT_WORDS != 0 {
+        return Err(Refusal::MalformedEvent);
     }
-}
-
-// A verdict, and where it is fine, a later one.
-fn in_turn(first: Result<(), Refusal>, later: Result<(), Refusal>) -> Result<(), Refusal>
-    ensures { result ≡ and_then first later }
-{
-    match first {
-        Ok(()) => later,
-        Err(r) => Err(r),
-    }
+    Ok(shape)
 }
 
 // A run over a list of events.
 pub fn run(im: &mut [u16], events: &[u16]) -> Ended
     ensures { Runs im.old events.now result im.new }
 {
-    let found = inspect(im);
-    let image = found.verdict;
-    let list = verdict_on_list(events.len());
-    let verdict = in_turn(image, list);
-    match verdict {
-        Ok(()) => {
+    match begin(im, events) {
+        Ok(s) => {
             let table = laid_out();
             let mut none: [u32; NO_COUNTS] = [0; NO_COUNTS];
-            let took = take_events(found.shape, im, &table, &mut none, events);
-            let stop = took.stop;
+            let took = take_events(s, im, &table, &mut none, events);
             Ended {
                 taken: took.taken,
-                stop: stop,
+                stop: took.stop,
             }
         }
         Err(r) => Ended {
@@ -98,10 +76,9 @@ fn count_events(
     if counts.len() == COUNTS {
         if has_room(counts, events.len() / EVENT_WORDS) {
             let all = take_events(s, im, table, counts, events);
-            let stop = all.stop;
             return Ended {
                 taken: all.taken,
-                stop: stop,
+                stop: all.stop,
             };
         }
     }
@@ -112,14 +89,10 @@ fn count_events(
 pub fn report_on(im: &mut [u16], events: &[u16], counts: &mut [u32]) -> Ended
     ensures { Reports im.old events.now counts.old result im.new counts.new }
 {
-    let found = inspect(im);
-    let image = found.verdict;
-    let list = verdict_on_list(events.len());
-    let verdict = in_turn(image, list);
-    match verdict {
-        Ok(()) => {
+    match begin(im, events) {
+        Ok(s) => {
             let table = laid_out();
-            count_events(found.shape, im, &table, counts, events)
+            count_events(s, im, &table, counts, events)
         }
         Err(r) => Ended {
             taken: 0,

@@ -1,5 +1,6 @@
 -- What is told of an image's rules is told apart: the number is the check's, a rule is told exactly where it is 6, and a queue that is told is the one
 -- that the calls which look into an image have by its numbers. Assumes nothing.
+use Rattle.std.specs.Prelude.{Some}
 use mathlib.Core.Path.{◌≡◌, refl, sym, ap, ◌∙◌}
 use mathlib.Core.List.{List}
 use mathlib.Core.Logic.{◌≢◌, ◌↔◌, dite}
@@ -15,7 +16,6 @@ use Rattle.breaches.specs.Order.{number_of_rule}
 use Rattle.breaches.specs.declared.Subject.{Subject}
 use Rattle.breaches.proofs.Laws.{number_range, six_has_a_rule, told_else}
 use Rattle.views.specs.Looks.{named_queue}
-use Rattle.views.specs.declared.Named.{Named}
 use Rattle.kernel_c.specs.Views.{not_there}
 use Rattle.kernel_c.specs.Breaches.{queue_told, subject_told, no_rule, broken_numbers}
 use Rattle.kernel_c.specs.Promises.{TellsBrokenC}
@@ -59,7 +59,7 @@ module _ (im : List ℕ) (a : BrokenNumbers) (p : TellsBrokenC im a) where
   )
 
 -- the numbers of a queue name it again
-pub named_back : (s : Shape) (n : ℕ) (q : Queue) → Has s q → named_queue s (queue_told n q).queue (queue_told n q).i (queue_told n q).j ≡ Named.Queue q
+pub named_back : (s : Shape) (n : ℕ) (q : Queue) → Has s q → named_queue s (queue_told n q).queue (queue_told n q).i (queue_told n q).j ≡ Some q
 unfolding named_queue
 named_back s n Queue.Ready h = refl
 named_back s n (Queue.Input i) h = rw (lt-ltb i.0 s.n h)

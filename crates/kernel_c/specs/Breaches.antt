@@ -1,10 +1,10 @@
 -- The first broken rule in numbers: the check's, then where it is 6 the rule's and what breaks it, else 65535.
-use Rattle.std.specs.Prelude.{ℕ}
+use Rattle.std.specs.Prelude.{ℕ, Ok, Err, Result, Option, Some, None}
 use Rattle.paper.specs.Numbers.{number}
 use Rattle.paper.specs.declared.Queue.{Queue}
 use Rattle.paper.specs.declared.Refusal.{Refusal}
 use Rattle.breaches.specs.Order.{number_of_rule}
-use Rattle.breaches.specs.declared.Broken.{Broken}
+use Rattle.single_rules.specs.declared.Rule.{Rule}
 use Rattle.breaches.specs.declared.Subject.{Subject}
 use Rattle.kernel_c.specs.Views.{not_there}
 use Rattle.kernel_c.specs.declared.broken.BrokenNumbers.{BrokenNumbers}
@@ -30,7 +30,7 @@ subject_told n (Subject.Queue q) = queue_told n q
 abbrev pub no_rule : ℕ → BrokenNumbers
 no_rule n = record { number = n; rule = not_there; queue = not_there; i = not_there; j = not_there }
 
-abbrev pub broken_numbers : Broken → BrokenNumbers
-broken_numbers (Broken.Rule r x) = subject_told (number_of_rule r) x
-broken_numbers Broken.Nothing = no_rule 0
-broken_numbers (Broken.Refused r) = no_rule (number r)
+abbrev pub broken_numbers : Result (Option (Rule × Subject)) Refusal → BrokenNumbers
+broken_numbers (Ok (Some (r, x))) = subject_told (number_of_rule r) x
+broken_numbers (Ok None) = no_rule 0
+broken_numbers (Err r) = no_rule (number r)

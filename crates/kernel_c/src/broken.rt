@@ -4,8 +4,8 @@ ghost use Rattle.kernel_c.specs.Breaches.{rule_told, queue_told, subject_told, n
 ghost use Rattle.kernel_c.specs.Promises.{TellsBrokenC};
 
 use crate::looks::NOT_THERE;
-use breaches::{Broken, RULE_BROKEN, Subject, broken_rule, rule_number};
-use paper::{NOT_REFUSED, Queue};
+use breaches::{Rule, Subject, broken_rule, rule_number};
+use paper::{NOT_REFUSED, Queue, Refusal};
 use views::{INPUT_BUFFER, MESSAGE_BUFFER, OUTPUT_BUFFER, READY_QUEUE};
 
 // The number of the check; where it is 6, the first broken rule, and the task or queue that breaks it.
@@ -24,7 +24,7 @@ fn tell_rule(rule: u16, queue: u16, i: u16, j: u16) -> BrokenNumbers
     ensures { result ≡ rule_told rule queue i j }
 {
     BrokenNumbers {
-        number: RULE_BROKEN,
+        number: u16::from(Refusal::RuleBroken),
         rule: rule,
         queue: queue,
         i: i,
@@ -69,13 +69,13 @@ fn tell_number(number: u16) -> BrokenNumbers
 }
 
 // What is told of an image, in numbers.
-fn tell_broken(found: Broken) -> BrokenNumbers
+fn tell_broken(found: Result<Option<(Rule, Subject)>, Refusal>) -> BrokenNumbers
     ensures { result ≡ broken_numbers found }
 {
     match found {
-        Broken::Rule(rule, x) => tell_subject(rule_number(rule), x),
-        Broken::Nothing => tell_number(NOT_REFUSED),
-        Broken::Refused(r) => tell_number(u16::from(r)),
+        Ok(Some((rule, x))) => tell_subject(rule_number(rule), x),
+        Ok(None) => tell_number(NOT_REFUSED),
+        Err(r) => tell_number(u16::from(r)),
     }
 }
 

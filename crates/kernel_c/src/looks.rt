@@ -3,8 +3,8 @@ ghost use Rattle.std.specs.Prelude.{◌≡◌};
 ghost use Rattle.kernel_c.specs.Views.{unseen_task, task_numbers, unseen_port, port_numbers, unseen_word, word_numbers};
 ghost use Rattle.kernel_c.specs.Promises.{LooksAtTaskC, LooksAtPortC, LooksAtRegisterC, LooksAtLengthC, LooksAtWordC};
 
-use paper::NOT_REFUSED;
-use views::{PortView, TaskView, WordView, port, queue_length, queue_word, register, task};
+use paper::{NOT_REFUSED, Refusal};
+use views::{PortState, TaskState, port, queue_length, queue_word, register, task};
 
 // The number of what is not there, and what stands in every field where nothing is seen, while 0 is good in each.
 pub const NOT_THERE: u16 = 65535;
@@ -74,11 +74,11 @@ fn no_word(number: u16) -> WordNumbers
 }
 
 // A view of a task, in numbers.
-fn tell_task(view: TaskView) -> TaskNumbers
+fn tell_task(view: Result<Option<TaskState>, Refusal>) -> TaskNumbers
     ensures { result ≡ task_numbers view }
 {
     match view {
-        TaskView::Is(x) => TaskNumbers {
+        Ok(Some(x)) => TaskNumbers {
             number: NOT_REFUSED,
             status: x.status,
             peer: x.peer,
@@ -86,37 +86,37 @@ fn tell_task(view: TaskView) -> TaskNumbers
             error: x.error,
             pending: x.pending,
         },
-        TaskView::NotThere => no_task(NOT_THERE),
-        TaskView::Refused(r) => no_task(u16::from(r)),
+        Ok(None) => no_task(NOT_THERE),
+        Err(r) => no_task(u16::from(r)),
     }
 }
 
 // A view of a port, in numbers.
-fn tell_port(view: PortView) -> PortNumbers
+fn tell_port(view: Result<Option<PortState>, Refusal>) -> PortNumbers
     ensures { result ≡ port_numbers view }
 {
     match view {
-        PortView::Is(x) => PortNumbers {
+        Ok(Some(x)) => PortNumbers {
             number: NOT_REFUSED,
             busy: x.busy,
             character: x.character,
         },
-        PortView::NotThere => no_port(NOT_THERE),
-        PortView::Refused(r) => no_port(u16::from(r)),
+        Ok(None) => no_port(NOT_THERE),
+        Err(r) => no_port(u16::from(r)),
     }
 }
 
 // A view of a word, in numbers.
-fn tell_word(view: WordView) -> WordNumbers
+fn tell_word(view: Result<Option<u16>, Refusal>) -> WordNumbers
     ensures { result ≡ word_numbers view }
 {
     match view {
-        WordView::Is(w) => WordNumbers {
+        Ok(Some(w)) => WordNumbers {
             number: NOT_REFUSED,
             word: w,
         },
-        WordView::NotThere => no_word(NOT_THERE),
-        WordView::Refused(r) => no_word(u16::from(r)),
+        Ok(None) => no_word(NOT_THERE),
+        Err(r) => no_word(u16::from(r)),
     }
 }
 

@@ -90,12 +90,10 @@ fn ticked(im: &mut [u16], table: &[u16; HIGH_BYTES], at: usize) -> Outcome
     requires order_table { OrderTable table.now }
     requires at_in_bounds { at < length im.old }
 {
-    let found = inspect(im);
-    let verdict = found.verdict;
-    let Ok(()) = verdict else {
+    let Ok(s) = inspect(im) else {
         return Outcome::Bad;
     };
-    let reply = step(found.shape, im, table, TICK, 0, 0);
+    let reply = step(s, im, table, TICK, 0, 0);
     Outcome::Number(number_of(reply, im[at]))
 }
 

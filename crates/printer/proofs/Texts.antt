@@ -1,18 +1,18 @@
 -- A text that is printed lies in its buffer, and an image that is not refused is sound. Assumes nothing.
-use Rattle.std.specs.Prelude.{Ok, Result, ⊤, Err}
-use mathlib.Core.Path.{◌≡◌, sym, ◌∙◌}
+use Rattle.std.specs.Prelude.{Ok, Result, Err}
+use mathlib.Core.Path.{◌≡◌, refl, sym, ◌∙◌}
 use mathlib.Core.Bool.{Bool, true, false}
 use mathlib.Core.List.{List}
 use Prim.Native.Nat.{ℕ, ◌≤◌}
 use native.Mathlib.Omega.{arith}
 use lib.Dec.{leb}
 use lib.ListN.{length, length-append}
-use Rattle.paper.specs.Image.{shape_of}
 use Rattle.paper.specs.Numbers.{check}
 use Rattle.paper.specs.declared.Shape.{Shape}
 use Rattle.laws.specs.Checked.{good_sound}
 use Rattle.laws.specs.Events.{good, inspected_lawful}
 use Rattle.laws.specs.Sound.{Sound}
+use Rattle.inspect.specs.Inspects.{Inspects}
 use Rattle.grammar.specs.Printing.{printed, most_printed, measured, fitting, printing, inscribed}
 use Rattle.grammar.specs.Promises.{Prints}
 use Rattle.grammar.specs.declared.Refusal.{Refusal}
@@ -36,5 +36,5 @@ unfolding printing measured
 bytes_in ws buffer after told n p e = rw p.left (fits_by (printed ws) buffer n (leb (length ws) most_printed) (sym p.answers ∙ e))
 
 -- an image that is not refused
-pub inspected_sound : (s : Shape) (im : List ℕ) (v : Result ⊤ Refusal) → v ≡ check im → s ≡ shape_of im → v ≡ Ok tt → Sound s im
-inspected_sound s im v ev es f = good_sound s im (good (inspected_lawful s im v ev es f))
+pub inspected_sound : (s : Shape) (im : List ℕ) → Inspects im (Ok s) → Sound s im
+inspected_sound s im h = good_sound s im (good (inspected_lawful s im (check im) refl h.1 h.0))

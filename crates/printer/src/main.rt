@@ -84,19 +84,14 @@ fn print_task(rt: &HostRuntime, path: &[u8], s: Shape, im: &[u16]) -> Outcome
 
 // Prints an image's tasks, or the one that is asked for.
 fn print_image(rt: &HostRuntime, path: &[u8], im: &[u16]) -> Outcome {
-    let found = inspect(im);
-    let verdict = found.verdict;
-    if let Err(r) = verdict {
-        say_refused_image(rt, path, im, r);
-        return Outcome::Refused;
+    match inspect(im) {
+        Err(r) => {
+            say_refused_image(rt, path, im, r);
+            Outcome::Refused
+        }
+        Ok(s) if arg_count(rt) == TASK_ARGUMENTS => print_task(rt, path, s, im),
+        Ok(s) => ended(rt, show_tasks(standard_output(rt), s, im, 0, s.n)),
     }
-    if arg_count(rt) == TASK_ARGUMENTS {
-        return print_task(rt, path, found.shape, im);
-    }
-    ended(
-        rt,
-        show_tasks(standard_output(rt), found.shape, im, 0, found.shape.n),
-    )
 }
 
 // Prints the words of a program's file or of an image's, which is the argument at a place.

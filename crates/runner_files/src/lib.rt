@@ -191,10 +191,8 @@ fn run_loaded_image(
     events: &[u8],
     saved: &[u8],
 ) -> Outcome {
-    let found = inspect(im);
-    let verdict = found.verdict;
-    match verdict {
-        Ok(()) => run_image(rt, found.shape, im, events, saved),
+    match inspect(im) {
+        Ok(s) => run_image(rt, s, im, events, saved),
         Err(r) => refuse_image(rt, path, im, r),
     }
 }

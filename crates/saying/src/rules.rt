@@ -1,6 +1,6 @@
 // The words for the rules of an image, and for what breaks one.
 use crate::put_refusal;
-use breaches::{Broken, Subject, broken_rule};
+use breaches::{Subject, broken_rule};
 use disk::{Output, put_shown, put_text};
 use paper::{Queue, Task};
 use single_rules::Rule;
@@ -60,8 +60,8 @@ fn put_subject(out: Output, subject: Subject) -> Output {
 // Why an image is refused: where a rule is broken, the first one and what breaks it.
 pub fn put_fault(out: Output, im: &[u16]) -> Output {
     match broken_rule(im) {
-        Broken::Rule(rule, subject) => put_shown(put_subject(out, subject), rule_words(rule)),
-        Broken::Refused(r) => put_refusal(out, r),
-        Broken::Nothing => out,
+        Ok(Some((rule, subject))) => put_shown(put_subject(out, subject), rule_words(rule)),
+        Err(r) => put_refusal(out, r),
+        Ok(None) => out,
     }
 }

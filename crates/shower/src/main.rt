@@ -16,13 +16,13 @@ const IMAGE_AT: usize = 1;
 
 // Shows an image; where it is refused, it is said why.
 fn show_image(rt: &HostRuntime, path: &[u8], im: &[u16]) -> Outcome {
-    let found = inspect(im);
-    let verdict = found.verdict;
-    if let Err(r) = verdict {
-        say_refused_image(rt, path, im, r);
-        return Outcome::Refused;
+    match inspect(im) {
+        Ok(s) => ended(rt, describe(standard_output(rt), s, im)),
+        Err(r) => {
+            say_refused_image(rt, path, im, r);
+            Outcome::Refused
+        }
     }
-    ended(rt, describe(standard_output(rt), found.shape, im))
 }
 
 // Shows the image of the file that is asked for.

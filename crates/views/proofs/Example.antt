@@ -1,4 +1,5 @@
 -- An image of two tasks, written by hand, and what is seen of it, by computation. Assumes nothing.
+use Rattle.std.specs.Prelude.{Ok, Err, Some, None}
 use mathlib.Core.Path.{◌≡◌, refl}
 use mathlib.Core.List.{List, [], ◌∷◌, ◌++◌}
 use Prim.Native.Nat.{ℕ}
@@ -8,10 +9,9 @@ use Rattle.paper.specs.Queues.{step, held, free, empty, full}
 use Rattle.paper.specs.Tests.{every, queued, cleared, queue_holds, buffers_hold, characters, readied_once, readied_tasks, clock_holds, port_holds, flags_hold, status_holds, task_holds, rules_hold}
 use Rattle.paper.specs.Numbers.{out_of_range, not_packed, segment_right, wrong_segments, check}
 use Rattle.paper.specs.declared.Refusal.{Refusal}
-use Rattle.views.specs.Looks.{named_queue, task_seen, port_seen, register_seen, length_seen, word_seen, task_view, port_view, register_view, length_view, word_view}
-use Rattle.views.specs.declared.TaskView.{TaskView}
-use Rattle.views.specs.declared.PortView.{PortView}
-use Rattle.views.specs.declared.WordView.{WordView}
+use Rattle.views.specs.Looks.{View, named_queue, task_seen, port_seen, register_seen, length_seen, word_seen, task_view, port_view, register_view, length_view, word_view}
+use Rattle.views.specs.declared.TaskState.{TaskState}
+use Rattle.views.specs.declared.PortState.{PortState}
 
 -- N 2, S 3, CI 2, CO 1, CM 2; 103 words; clock 3
 abbrev header : List ℕ
@@ -42,24 +42,24 @@ ports_and_segments = (0 ∷ 0 ∷ 1 ∷ 68 ∷ []) ++ (100 ∷ 1 ∷ 101 ∷ 2 �
 abbrev image : List ℕ
 image = header ++ tasks ++ ready_and_statuses ++ inputs_and_outputs ++ messages ++ ports_and_segments
 
-abbrev state : ℕ → ℕ → ℕ → ℕ → ℕ → TaskView
-state a p c e v = TaskView.Is (record { status = a; peer = p; cc = c; error = e; pending = v })
+abbrev state : ℕ → ℕ → ℕ → ℕ → ℕ → View TaskState
+state a p c e v = Ok (Some (record { status = a; peer = p; cc = c; error = e; pending = v }))
 
-abbrev port : ℕ → ℕ → PortView
-port b c = PortView.Is (record { busy = b; character = c })
+abbrev port : ℕ → ℕ → View PortState
+port b c = Ok (Some (record { busy = b; character = c }))
 
 -- what is seen of its tasks
 pub record SeenOfTasks : Type 0 where
   pub waiting : task_view image 0 ≡ state 2 1 1 0 2
   pub ready : task_view image 1 ≡ state 0 0 2 4 0
-  pub no_task : task_view image 2 ≡ TaskView.NotThere
+  pub no_task : task_view image 2 ≡ Ok None
   pub idle : port_view image 0 ≡ port 0 0
   pub busy : port_view image 1 ≡ port 1 68
-  pub no_port : port_view image 2 ≡ PortView.NotThere
-  pub last_register : register_view image 0 7 ≡ WordView.Is 17
-  pub full_register : register_view image 1 7 ≡ WordView.Is 65535
-  pub no_register : register_view image 0 8 ≡ WordView.NotThere
-  pub no_task_to_have_it : register_view image 2 0 ≡ WordView.NotThere
+  pub no_port : port_view image 2 ≡ Ok None
+  pub last_register : register_view image 0 7 ≡ Ok (Some 17)
+  pub full_register : register_view image 1 7 ≡ Ok (Some 65535)
+  pub no_register : register_view image 0 8 ≡ Ok None
+  pub no_task_to_have_it : register_view image 2 0 ≡ Ok None
 
 pub seen_of_tasks : SeenOfTasks
 unfolding total shape_of place at step held free empty full every queued cleared queue_holds buffers_hold characters readied_once readied_tasks clock_holds port_holds flags_hold status_holds task_holds rules_hold out_of_range not_packed segment_right wrong_segments check named_queue task_seen port_seen register_seen length_seen word_seen task_view port_view register_view length_view word_view
@@ -79,21 +79,21 @@ seen_of_tasks =
 
 -- of its queues
 pub record SeenOfQueues : Type 0 where
-  pub ready_length : length_view image 0 0 0 ≡ WordView.Is 1
-  pub ready_word : word_view image 0 0 0 0 ≡ WordView.Is 1
-  pub input_length : length_view image 1 1 0 ≡ WordView.Is 2
-  pub input_first : word_view image 1 1 0 0 ≡ WordView.Is 65
-  pub input_second : word_view image 1 1 0 1 ≡ WordView.Is 66
-  pub input_third : word_view image 1 1 0 2 ≡ WordView.NotThere
-  pub output_word : word_view image 2 1 0 0 ≡ WordView.Is 67
-  pub message_second : word_view image 3 0 1 1 ≡ WordView.Is 500
-  pub none_the_other_way : length_view image 3 1 0 ≡ WordView.Is 0
-  pub full_word : word_view image 3 1 1 0 ≡ WordView.Is 65535
-  pub ready_of_a_task : length_view image 0 1 0 ≡ WordView.NotThere
-  pub input_of_two : length_view image 1 1 1 ≡ WordView.NotThere
-  pub output_of_no_task : length_view image 2 2 0 ≡ WordView.NotThere
-  pub message_to_no_task : length_view image 3 1 2 ≡ WordView.NotThere
-  pub queue_4 : word_view image 4 0 0 0 ≡ WordView.NotThere
+  pub ready_length : length_view image 0 0 0 ≡ Ok (Some 1)
+  pub ready_word : word_view image 0 0 0 0 ≡ Ok (Some 1)
+  pub input_length : length_view image 1 1 0 ≡ Ok (Some 2)
+  pub input_first : word_view image 1 1 0 0 ≡ Ok (Some 65)
+  pub input_second : word_view image 1 1 0 1 ≡ Ok (Some 66)
+  pub input_third : word_view image 1 1 0 2 ≡ Ok None
+  pub output_word : word_view image 2 1 0 0 ≡ Ok (Some 67)
+  pub message_second : word_view image 3 0 1 1 ≡ Ok (Some 500)
+  pub none_the_other_way : length_view image 3 1 0 ≡ Ok (Some 0)
+  pub full_word : word_view image 3 1 1 0 ≡ Ok (Some 65535)
+  pub ready_of_a_task : length_view image 0 1 0 ≡ Ok None
+  pub input_of_two : length_view image 1 1 1 ≡ Ok None
+  pub output_of_no_task : length_view image 2 2 0 ≡ Ok None
+  pub message_to_no_task : length_view image 3 1 2 ≡ Ok None
+  pub queue_4 : word_view image 4 0 0 0 ≡ Ok None
 
 pub seen_of_queues : SeenOfQueues
 unfolding total shape_of place at step held free empty full every queued cleared queue_holds buffers_hold characters readied_once readied_tasks clock_holds port_holds flags_hold status_holds task_holds rules_hold out_of_range not_packed segment_right wrong_segments check named_queue task_seen port_seen register_seen length_seen word_seen task_view port_view register_view length_view word_view
@@ -118,8 +118,8 @@ seen_of_queues =
 
 -- nothing of an image that is cut, or of no words
 pub record NotSeen : Type 0 where
-  pub cut : task_view (take 102 image) 0 ≡ TaskView.Refused Refusal.WrongSegments
-  pub no_words : word_view [] 4 0 0 0 ≡ WordView.Refused Refusal.TooShort
+  pub cut : task_view (take 102 image) 0 ≡ Err Refusal.WrongSegments
+  pub no_words : word_view [] 4 0 0 0 ≡ Err Refusal.TooShort
 
 pub not_seen : NotSeen
 unfolding total shape_of place at step held free empty full every queued cleared queue_holds buffers_hold characters readied_once readied_tasks clock_holds port_holds flags_hold status_holds task_holds rules_hold out_of_range not_packed segment_right wrong_segments check named_queue task_seen port_seen register_seen length_seen word_seen task_view port_view register_view length_view word_view

@@ -1,12 +1,12 @@
 -- The queue that numbers name, and the words that it holds, each by its place from the head. Assumes nothing.
+use Rattle.std.specs.Prelude.{Option, Some, None}
 use mathlib.Core.Path.{◌≡◌, refl, sym, ap, ◌∙◌}
 use mathlib.Core.Bool.{Bool, true, false, ◌&&◌, and-eq-true_iff}
-use mathlib.Core.Logic.{◌≢◌}
 use mathlib.Core.List.{List}
 use Prim.Native.Nat.{ℕ, zero, suc, ◌+◌, ◌%◌, ◌<◌, ◌≤◌}
 use native.Mathlib.Nat.{mod-lt}
 use native.Mathlib.Omega.{arith}
-use borrow.Author.Tests.{ltb-true, ne_eqb}
+use borrow.Author.Tests.{ltb-true}
 use lib.Dec.{eqb, ltb}
 use Rattle.paper.specs.Image.{task, lead, at}
 use Rattle.paper.specs.Queues.{Has, header_capacity, queue_word, head, count, capacity, slot, step, first, words_from, held}
@@ -17,38 +17,36 @@ use Rattle.laws.specs.Cases.{when}
 use Rattle.laws.specs.Sound.{Sound, sound, sound_sized}
 use Rattle.laws.specs.Steps.{steps, steps_mod}
 use Rattle.queue_rules.proofs.Held.{given_fits}
-use Rattle.views.specs.Looks.{queue_if, named_queue, word_in, length_seen, word_seen}
-use Rattle.views.specs.declared.Named.{Named}
-use Rattle.views.specs.declared.WordView.{WordView}
+use Rattle.views.specs.Looks.{queue_if, named_queue, word_in}
 
 -- the word k places after slot h, of n words from there on
 words_at : (s : Shape) (im : List ℕ) (q : Queue) (h n k : ℕ) → k < n
-    → word_in (words_from s im q h n) k ≡ WordView.Is (at s im (slot s q (steps h k (at s im (capacity s q)))))
+    → word_in (words_from s im q h n) k ≡ Some (at s im (slot s q (steps h k (at s im (capacity s q)))))
 words_at s im q h zero k l = absurd (omega arith)
 words_at s im q h (suc n) zero l = refl
 words_at s im q h (suc n) (suc k) l = words_at s im q (step h (at s im (capacity s q))) n k (omega arith)
 
-words_past : (s : Shape) (im : List ℕ) (q : Queue) (h n k : ℕ) → n ≤ k → word_in (words_from s im q h n) k ≡ WordView.NotThere
+words_past : (s : Shape) (im : List ℕ) (q : Queue) (h n k : ℕ) → n ≤ k → word_in (words_from s im q h n) k ≡ None
 words_past s im q h zero k l = refl
 words_past s im q h (suc n) zero l = absurd (omega arith)
 words_past s im q h (suc n) (suc k) l = words_past s im q (step h (at s im (capacity s q))) n k (omega arith)
 
 module _ (s : Shape) (im : List ℕ) (q : Queue) (k : ℕ) where
   -- a queue holds no word at its length or after
-  pub past_held : at s im (count s q) ≤ k → word_in (held s im q) k ≡ WordView.NotThere
+  pub past_held : at s im (count s q) ≤ k → word_in (held s im q) k ≡ None
   unfolding held
   past_held l = words_past s im q (at s im (head s q)) (at s im (count s q)) k l
 
   -- before, the word in slot (head + k) mod capacity
   pub held_slot : Queued s im q → k < at s im (count s q)
-      → word_in (held s im q) k ≡ WordView.Is (at s im (slot s q ((at s im (head s q) + k) % at s im (capacity s q))))
+      → word_in (held s im q) k ≡ Some (at s im (slot s q ((at s im (head s q) + k) % at s im (capacity s q))))
   unfolding held
   held_slot r l =
       words_at s im q (at s im (head s q)) (at s im (count s q)) k l ∙
-      ap (λ x. WordView.Is (at s im (slot s q x))) (steps_mod (at s im (head s q)) k (at s im (capacity s q)) r.headed)
+      ap (λ x. Some (at s im (slot s q x))) (steps_mod (at s im (head s q)) k (at s im (capacity s q)) r.headed)
 
 -- the first of them is the word that is taken next
-pub first_held : (s : Shape) (im : List ℕ) (q : Queue) → 0 < at s im (count s q) → word_in (held s im q) 0 ≡ WordView.Is (first s im q)
+pub first_held : (s : Shape) (im : List ℕ) (q : Queue) → 0 < at s im (count s q) → word_in (held s im q) 0 ≡ Some (first s im q)
 unfolding held first
 first_held s im q l = words_at s im q (at s im (head s q)) (at s im (count s q)) 0 l
 
@@ -57,7 +55,7 @@ module _ (s : Shape) (im : List ℕ) (q : Queue) (h : Sound s im) (hq : Has s q)
   rules : Queued s im q
   rules = (sound h).queues q hq
 
-  pub none_held : (k n : ℕ) → n ≡ at s im (count s q) → n ≤ k → WordView.NotThere ≡ word_in (held s im q) k
+  pub none_held : (k n : ℕ) → n ≡ at s im (count s q) → n ≤ k → None ≡ word_in (held s im q) k
   none_held k n en l = sym (past_held s im q k (omega arith))
 
   module _ (c d : ℕ) (ec : c ≡ at s im (capacity s q)) (ed : d ≡ c) where
@@ -71,41 +69,12 @@ module _ (s : Shape) (im : List ℕ) (q : Queue) (h : Sound s im) (hq : Has s q)
     slot_low x = omega (arith, mod-lt x some_slots, rules.sized, given_fits s im q (header_capacity s q) (sound_sized s im h) refl)
 
     pub word_held : (k n a b y w : ℕ) → n ≡ at s im (count s q) → k < n → a ≡ at s im (head s q) → b ≡ a → y ≡ k
-        → w ≡ at s im (queue_word s q (4 + (b + y) % d)) → WordView.Is w ≡ word_in (held s im q) k
+        → w ≡ at s im (queue_word s q (4 + (b + y) % d)) → Some w ≡ word_in (held s im q) k
     word_held k n a b y w en l ea eb ey ew = rw (ew, ed, ec, eb, ea, ey) (sym (held_slot s im q k rules (omega arith)))
-
--- a queue is named where it is there
-pub there_named : (b : Bool) (q : Queue) → b ≡ true → Named.Queue q ≡ queue_if b q
-there_named b q e = rw e
-
-pub absent_named : (b : Bool) (q : Queue) → b ≡ false → Named.NotThere ≡ queue_if b q
-absent_named b q e = rw e
-
--- by the number of its kind
-module _ (s : Shape) (i j w v : ℕ) (ew : w ≡ i) (ev : v ≡ j) (q : ℕ) (b : Bool) (n : Named) where
-  pub ready_named : q ≡ 0 → b ≡ (eqb i 0 && eqb j 0) → n ≡ queue_if b Queue.Ready → n ≡ named_queue s q i j
-  unfolding named_queue
-  ready_named eq eb en = rw (en, eb, eq)
-
-  pub input_named : q ≡ 1 → b ≡ (ltb w s.n && eqb j 0) → n ≡ queue_if b (Queue.Input (task i)) → n ≡ named_queue s q i j
-  unfolding named_queue
-  input_named eq eb en = rw (en, eb, eq, ew)
-
-  pub output_named : q ≡ 2 → b ≡ (ltb w s.n && eqb j 0) → n ≡ queue_if b (Queue.Output (task i)) → n ≡ named_queue s q i j
-  unfolding named_queue
-  output_named eq eb en = rw (en, eb, eq, ew)
-
-  pub message_named : q ≡ 3 → b ≡ (ltb w s.n && ltb v s.n) → n ≡ queue_if b (Queue.Message (task i) (task j)) → n ≡ named_queue s q i j
-  unfolding named_queue
-  message_named eq eb en = rw (en, eb, eq, ew, ev)
-
-pub none_named : (s : Shape) (q i j : ℕ) → q ≢ 0 → q ≢ 1 → q ≢ 2 → q ≢ 3 → Named.NotThere ≡ named_queue s q i j
-unfolding named_queue
-none_named s q i j n0 n1 n2 n3 = rw (ne_eqb q 0 n0, ne_eqb q 1 n1, ne_eqb q 2 n2, ne_eqb q 3 n3)
 
 -- a named queue is one of the image's
 module _ (s : Shape) (x : Queue) where
-  if_has : (b : Bool) (q : Queue) → (b ≡ true → Has s q) → queue_if b q ≡ Named.Queue x → Has s x
+  if_has : (b : Bool) (q : Queue) → (b ≡ true → Has s q) → queue_if b q ≡ Some x → Has s x
   if_has true q f e = let same : q ≡ x = cc in rw (← same) (f refl)
   if_has false q f e = absurd (let z : ◌≡◌ {A = ℕ} 0 1 = cc in omega arith)
 
@@ -118,35 +87,12 @@ module _ (s : Shape) (x : Queue) where
       let b = (and-eq-true_iff (ltb i s.n) (ltb j s.n)).0 e in
       (ltb-true i s.n b.0, ltb-true j s.n b.1)
 
-  pub named_has : (q i j : ℕ) → named_queue s q i j ≡ Named.Queue x → Has s x
+  pub named_has : (q i j : ℕ) → named_queue s q i j ≡ Some x → Has s x
   unfolding named_queue
   named_has q i j =
-      let Sane : Named → Type 0 = λ n. n ≡ Named.Queue x → Has s x in
+      let Sane : Option Queue → Type 0 = λ n. n ≡ Some x → Has s x in
       when Sane (eqb q 0) (λ _. if_has (eqb i 0 && eqb j 0) Queue.Ready (λ _. tt))
       (λ _. when Sane (eqb q 1) (λ _. if_has (ltb i s.n && eqb j 0) (Queue.Input (task i)) (one_task i (eqb j 0)))
       (λ _. when Sane (eqb q 2) (λ _. if_has (ltb i s.n && eqb j 0) (Queue.Output (task i)) (one_task i (eqb j 0)))
       (λ _. when Sane (eqb q 3) (λ _. if_has (ltb i s.n && ltb j s.n) (Queue.Message (task i) (task j)) (two_tasks i j))
       (λ _ e. absurd (let z : ◌≡◌ {A = ℕ} 0 1 = cc in omega arith)))))
-
--- what is seen of it
-module _ (s : Shape) (im : List ℕ) (q i j : ℕ) (n : Named) (en : n ≡ named_queue s q i j) where
-  module _ (x : Queue) (e : n ≡ Named.Queue x) where
-    pub seen_has : Has s x
-    seen_has = named_has s x q i j (sym en ∙ e)
-
-    pub length_found : (v : ℕ) → v ≡ at s im (count s x) → WordView.Is v ≡ length_seen s im (named_queue s q i j)
-    unfolding length_seen
-    length_found v ev = rw (← en, e, ev)
-
-    pub word_found : (k : ℕ) (v : WordView) → v ≡ word_in (held s im x) k → v ≡ word_seen s im (named_queue s q i j) k
-    unfolding word_seen
-    word_found k v ev = rw (← en, e, ev)
-
-  module _ (e : n ≡ Named.NotThere) where
-    pub length_missed : WordView.NotThere ≡ length_seen s im (named_queue s q i j)
-    unfolding length_seen
-    length_missed = rw (← en, e)
-
-    pub word_missed : (k : ℕ) → WordView.NotThere ≡ word_seen s im (named_queue s q i j) k
-    unfolding word_seen
-    word_missed k = rw (← en, e)

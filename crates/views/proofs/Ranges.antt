@@ -1,5 +1,5 @@
 -- What is seen of an image is in the ranges of its rules: nothing is seen but of a good image. Assumes nothing.
-use Rattle.std.specs.Prelude.{Err, Ok, Result, ⊤}
+use Rattle.std.specs.Prelude.{Err, Ok, Result, Option, Some, None, ⊤}
 use mathlib.Core.Path.{◌≡◌, refl}
 use mathlib.Core.Bool.{Bool, true, false, cond}
 use mathlib.Core.Logic.{dite}
@@ -21,13 +21,9 @@ use Rattle.paper.specs.declared.Shape.{Shape}
 use Rattle.paper.specs.declared.Queue.{Queue}
 use Rattle.paper.specs.declared.Service.{Service}
 use Rattle.laws.specs.Checked.{checked_good}
-use Rattle.views.specs.Looks.{task_state, port_state, named_queue, task_seen, port_seen, length_seen, task_if, port_if, word_if, task_view, port_view, length_view}
+use Rattle.views.specs.Looks.{task_state, port_state, named_queue, task_seen, port_seen, length_seen, if_good, task_view, port_view, length_view}
 use Rattle.views.specs.declared.TaskState.{TaskState}
-use Rattle.views.specs.declared.TaskView.{TaskView}
 use Rattle.views.specs.declared.PortState.{PortState}
-use Rattle.views.specs.declared.PortView.{PortView}
-use Rattle.views.specs.declared.WordView.{WordView}
-use Rattle.views.specs.declared.Named.{Named}
 use Rattle.views.proofs.Queues.{named_has}
 use Rattle.paper.specs.declared.Refusal.{Refusal}
 
@@ -66,53 +62,47 @@ module _ (s : Shape) (im : List ℕ) (g : Good s im) where
   count_few : (q : Queue) → Has s q → at s im (count s q) ≤ most_capacity
   count_few q hq = omega (arith, (g.queues q hq).counted, (g.queues q hq).sized, capacity_few q)
 
-  length_few : (q i j n : ℕ) → length_seen s im (named_queue s q i j) ≡ WordView.Is n → n ≤ most_capacity
+  length_few : (q i j n : ℕ) → length_seen s im (named_queue s q i j) ≡ Some n → n ≤ most_capacity
   unfolding length_seen
   length_few q i j n = go (named_queue s q i j) refl
     where
-      go : (x : Named) → named_queue s q i j ≡ x → length_seen s im x ≡ WordView.Is n → n ≤ most_capacity
-      go (Named.Queue y) e f = let k : at s im (count s y) ≡ n = cc in omega (arith, k, count_few y (named_has s y q i j e))
-      go Named.NotThere e f = absurd (let z : ◌≡◌ {A = ℕ} 0 1 = cc in omega arith)
+      go : (x : Option Queue) → named_queue s q i j ≡ x → length_seen s im x ≡ Some n → n ≤ most_capacity
+      go (Some y) e f = let k : at s im (count s y) ≡ n = cc in omega (arith, k, count_few y (named_has s y q i j e))
+      go None e f = absurd (let z : ◌≡◌ {A = ℕ} 0 1 = cc in omega arith)
 
 -- what is seen is so, and of an image that passes the check
-seen_task : (v : Result ⊤ Refusal) (b : Bool) (y x : TaskState) → task_if v (cond b (TaskView.Is y) TaskView.NotThere) ≡ TaskView.Is x
-    → (v ≡ Ok tt) × ((b ≡ true) × (y ≡ x))
-seen_task (Ok tt) true y x e = (refl, (refl, cc))
-seen_task (Ok tt) false y x e = absurd (let z : ◌≡◌ {A = ℕ} 0 1 = cc in omega arith)
-seen_task (Err r) b y x e = absurd (let z : ◌≡◌ {A = ℕ} 0 1 = cc in omega arith)
+seen : {A : Type 0} (v : Result ⊤ Refusal) (y : Option A) (x : A) → if_good v y ≡ Ok (Some x) → (v ≡ Ok tt) × (y ≡ Some x)
+seen (Ok tt) y x e = (refl, cc)
+seen (Err r) y x e = absurd (let z : ◌≡◌ {A = ℕ} 0 1 = cc in omega arith)
 
-seen_port : (v : Result ⊤ Refusal) (b : Bool) (y x : PortState) → port_if v (cond b (PortView.Is y) PortView.NotThere) ≡ PortView.Is x
-    → (v ≡ Ok tt) × ((b ≡ true) × (y ≡ x))
-seen_port (Ok tt) true y x e = (refl, (refl, cc))
-seen_port (Ok tt) false y x e = absurd (let z : ◌≡◌ {A = ℕ} 0 1 = cc in omega arith)
-seen_port (Err r) b y x e = absurd (let z : ◌≡◌ {A = ℕ} 0 1 = cc in omega arith)
-
-seen_word : (v : Result ⊤ Refusal) (y : WordView) (n : ℕ) → word_if v y ≡ WordView.Is n → (v ≡ Ok tt) × (y ≡ WordView.Is n)
-seen_word (Ok tt) y n e = (refl, e)
-seen_word (Err r) y n e = absurd (let z : ◌≡◌ {A = ℕ} 0 1 = cc in omega arith)
+there : {A : Type 0} (b : Bool) (y x : A) → cond b (Some y) None ≡ Some x → (b ≡ true) × (y ≡ x)
+there true y x e = (refl, cc)
+there false y x e = absurd (let z : ◌≡◌ {A = ℕ} 0 1 = cc in omega arith)
 
 module _ (im : List ℕ) where
   -- a task
-  pub task_ranges : (t : ℕ) (x : TaskState) → task_view im t ≡ TaskView.Is x → TaskRanges x
+  pub task_ranges : (t : ℕ) (x : TaskState) → task_view im t ≡ Ok (Some x) → TaskRanges x
   unfolding task_view task_seen
   task_ranges t x e =
       let s = shape_of im in
-      let h = seen_task (check im) (ltb t s.n) (task_state s im (task t)) x e in
-      rw (← h.1.1) (state_ranges s im (checked_good im h.0) (task t) (ltb-true t s.n h.1.0))
+      let h = seen (check im) (cond (ltb t s.n) (Some (task_state s im (task t))) None) x e in
+      let y = there (ltb t s.n) (task_state s im (task t)) x h.1 in
+      rw (← y.1) (state_ranges s im (checked_good im h.0) (task t) (ltb-true t s.n y.0))
 
   -- a port
-  pub port_ranges : (d : ℕ) (x : PortState) → port_view im d ≡ PortView.Is x → PortRanges x
+  pub port_ranges : (d : ℕ) (x : PortState) → port_view im d ≡ Ok (Some x) → PortRanges x
   unfolding port_view port_seen
   port_ranges d x e =
       let s = shape_of im in
-      let h = seen_port (check im) (ltb d s.n) (port_state s im (task d)) x e in
-      let p = (checked_good im h.0).ports (task d) (ltb-true d s.n h.1.0) in
-      rw (← h.1.1) (record { of_busy = p.busy_range; of_character = p.character_range })
+      let h = seen (check im) (cond (ltb d s.n) (Some (port_state s im (task d))) None) x e in
+      let y = there (ltb d s.n) (port_state s im (task d)) x h.1 in
+      let p = (checked_good im h.0).ports (task d) (ltb-true d s.n y.0) in
+      rw (← y.1) (record { of_busy = p.busy_range; of_character = p.character_range })
 
   -- a length
-  pub length_range : (q i j n : ℕ) → length_view im q i j ≡ WordView.Is n → n ≤ most_capacity
+  pub length_range : (q i j n : ℕ) → length_view im q i j ≡ Ok (Some n) → n ≤ most_capacity
   unfolding length_view
   length_range q i j n e =
       let s = shape_of im in
-      let h = seen_word (check im) (length_seen s im (named_queue s q i j)) n e in
+      let h = seen (check im) (length_seen s im (named_queue s q i j)) n e in
       length_few s im (checked_good im h.0) q i j n h.1

@@ -4,10 +4,9 @@
 ghost use Rattle.std.specs.Prelude.{◌≡◌, ◌<◌};
 ghost use Rattle.paper.specs.Queues.{Has, held};
 ghost use Rattle.laws.specs.Sound.{Sound};
-ghost use Rattle.views.specs.Looks.{task_state, port_state, queue_if, named_queue, word_in, task_seen, port_seen, register_seen, length_seen, word_seen};
+ghost use Rattle.views.specs.Looks.{task_state, port_state, named_queue, word_in, task_seen, port_seen, register_seen, length_seen, word_seen};
 ghost use Rattle.views.specs.Promises.{LooksAtTask, LooksAtPort, LooksAtRegister, LooksAtLength, LooksAtWord};
 
-use connectives::both;
 use inspect::inspect;
 use paper::{
     CAPACITY, ERROR, FLAGS, HEAD, LEAD_WORDS, PENDING, Queue, REGISTERS, Refusal, Shape, Task,
@@ -26,42 +25,11 @@ pub struct TaskState {
     pub pending: u16,
 }
 
-// A task's state; or it is not there, or the image is refused.
-#[derive(Clone, Copy)]
-pub enum TaskView {
-    Is(TaskState),
-    NotThere,
-    Refused(Refusal),
-}
-
 // What a port stands in.
 #[derive(Clone, Copy)]
 pub struct PortState {
     pub busy: u16,
     pub character: u16,
-}
-
-// A port's state; or it is not there, or the image is refused.
-#[derive(Clone, Copy)]
-pub enum PortView {
-    Is(PortState),
-    NotThere,
-    Refused(Refusal),
-}
-
-// A word; or it is not there, or the image is refused.
-#[derive(Clone, Copy)]
-pub enum WordView {
-    Is(u16),
-    NotThere,
-    Refused(Refusal),
-}
-
-// The queue that numbers name, if there is one.
-#[derive(Clone, Copy)]
-pub enum Named {
-    Queue(Queue),
-    NotThere,
 }
 
 // The numbers of the kinds of queue.
@@ -101,157 +69,123 @@ fn port_of(s: Shape, im: &[u16], d: Task) -> PortState
     }
 }
 
-// A queue, where it is there.
-fn where_there(there: bool, q: Queue) -> Named
-    ensures { result ≡ queue_if there q }
-{
-    if there {
-        return Named::Queue(q);
-    }
-    Named::NotThere
-}
-
 // The queue that is named by the number of its kind and those of its tasks.
-fn queue_named(s: Shape, q: u16, i: u16, j: u16) -> Named
+fn queue_named(s: Shape, q: u16, i: u16, j: u16) -> Option<Queue>
     ensures { result ≡ named_queue s q i j }
 {
     let from = usize::from(i) < s.n;
     let to = usize::from(j) < s.n;
     match q {
-        READY_QUEUE => where_there(both(i == 0, j == 0), Queue::Ready),
-        INPUT_BUFFER => where_there(both(from, j == 0), Queue::Input(Task(i))),
-        OUTPUT_BUFFER => where_there(both(from, j == 0), Queue::Output(Task(i))),
-        MESSAGE_BUFFER => where_there(both(from, to), Queue::Message(Task(i), Task(j))),
-        _ => Named::NotThere,
+        READY_QUEUE => ((i == 0) & (j == 0)).then_some(Queue::Ready),
+        INPUT_BUFFER => (from & (j == 0)).then_some(Queue::Input(Task(i))),
+        OUTPUT_BUFFER => (from & (j == 0)).then_some(Queue::Output(Task(i))),
+        MESSAGE_BUFFER => (from & to).then_some(Queue::Message(Task(i), Task(j))),
+        _ => None,
     }
 }
 
 // The word at a place of a queue, counted from its head.
-fn held_at(s: Shape, im: &[u16], q: Queue, at: u16) -> WordView
+fn held_at(s: Shape, im: &[u16], q: Queue, at: u16) -> Option<u16>
     requires sound { Sound s im.now }
     requires has { Has s q }
     ensures { result ≡ word_in (held s im.now q) at }
 {
     if count(s, im, q) <= at {
-        return WordView::NotThere;
+        return None;
     }
     let head = usize::from(word_of_queue(s, im, q, HEAD));
     let capacity = usize::from(word_of_queue(s, im, q, CAPACITY));
     let slot = (head + usize::from(at)) % capacity;
-    WordView::Is(word_of_queue(s, im, q, LEAD_WORDS + slot))
+    Some(word_of_queue(s, im, q, LEAD_WORDS + slot))
 }
 
 // A task of a good image, if it is there.
-fn see_task(s: Shape, im: &[u16], t: u16) -> TaskView
+fn see_task(s: Shape, im: &[u16], t: u16) -> Option<TaskState>
     requires { Sound s im.now }
     ensures { result ≡ task_seen s im.now t }
 {
     if usize::from(t) < s.n {
-        return TaskView::Is(state_of(s, im, Task(t)));
+        return Some(state_of(s, im, Task(t)));
     }
-    TaskView::NotThere
+    None
 }
 
 // A port of a good image, if it is there.
-fn see_port(s: Shape, im: &[u16], d: u16) -> PortView
+fn see_port(s: Shape, im: &[u16], d: u16) -> Option<PortState>
     requires { Sound s im.now }
     ensures { result ≡ port_seen s im.now d }
 {
     if usize::from(d) < s.n {
-        return PortView::Is(port_of(s, im, Task(d)));
+        return Some(port_of(s, im, Task(d)));
     }
-    PortView::NotThere
+    None
 }
 
 // A register of a good image, if it is there.
-fn see_register(s: Shape, im: &[u16], t: u16, r: u16) -> WordView
+fn see_register(s: Shape, im: &[u16], t: u16, r: u16) -> Option<u16>
     requires { Sound s im.now }
     ensures { result ≡ register_seen s im.now t r }
 {
-    if both(usize::from(t) < s.n, r < REGISTERS) {
-        return WordView::Is(own(s, im, row_of(s, Task(t)), usize::from(r)));
+    if (usize::from(t) < s.n) & (r < REGISTERS) {
+        return Some(own(s, im, row_of(s, Task(t)), usize::from(r)));
     }
-    WordView::NotThere
+    None
 }
 
 // How many words a queue of a good image holds, if it is there.
-fn see_length(s: Shape, im: &[u16], q: u16, i: u16, j: u16) -> WordView
+fn see_length(s: Shape, im: &[u16], q: u16, i: u16, j: u16) -> Option<u16>
     requires { Sound s im.now }
     ensures { result ≡ length_seen s im.now (named_queue s q i j) }
 {
-    match queue_named(s, q, i, j) {
-        Named::Queue(x) => WordView::Is(count(s, im, x)),
-        Named::NotThere => WordView::NotThere,
-    }
+    let x = queue_named(s, q, i, j)?;
+    Some(count(s, im, x))
 }
 
 // A word of a queue of a good image, if it is there.
-fn see_word(s: Shape, im: &[u16], q: u16, i: u16, j: u16, at: u16) -> WordView
+fn see_word(s: Shape, im: &[u16], q: u16, i: u16, j: u16, at: u16) -> Option<u16>
     requires { Sound s im.now }
     ensures { result ≡ word_seen s im.now (named_queue s q i j) at }
 {
-    match queue_named(s, q, i, j) {
-        Named::Queue(x) => held_at(s, im, x, at),
-        Named::NotThere => WordView::NotThere,
-    }
+    let x = queue_named(s, q, i, j)?;
+    held_at(s, im, x, at)
 }
 
 // A task: its status, peer, cc, error and pending service.
-pub fn task(im: &[u16], t: u16) -> TaskView
+pub fn task(im: &[u16], t: u16) -> Result<Option<TaskState>, Refusal>
     ensures { LooksAtTask im.now t result }
 {
-    let found = inspect(im);
-    let verdict = found.verdict;
-    match verdict {
-        Ok(()) => see_task(found.shape, im, t),
-        Err(r) => TaskView::Refused(r),
-    }
+    let s = inspect(im)?;
+    Ok(see_task(s, im, t))
 }
 
 // A port: whether it is busy, and its character.
-pub fn port(im: &[u16], d: u16) -> PortView
+pub fn port(im: &[u16], d: u16) -> Result<Option<PortState>, Refusal>
     ensures { LooksAtPort im.now d result }
 {
-    let found = inspect(im);
-    let verdict = found.verdict;
-    match verdict {
-        Ok(()) => see_port(found.shape, im, d),
-        Err(r) => PortView::Refused(r),
-    }
+    let s = inspect(im)?;
+    Ok(see_port(s, im, d))
 }
 
 // Register r of a task.
-pub fn register(im: &[u16], t: u16, r: u16) -> WordView
+pub fn register(im: &[u16], t: u16, r: u16) -> Result<Option<u16>, Refusal>
     ensures { LooksAtRegister im.now t r result }
 {
-    let found = inspect(im);
-    let verdict = found.verdict;
-    match verdict {
-        Ok(()) => see_register(found.shape, im, t, r),
-        Err(f) => WordView::Refused(f),
-    }
+    let s = inspect(im)?;
+    Ok(see_register(s, im, t, r))
 }
 
 // How many words a queue holds.
-pub fn queue_length(im: &[u16], q: u16, i: u16, j: u16) -> WordView
+pub fn queue_length(im: &[u16], q: u16, i: u16, j: u16) -> Result<Option<u16>, Refusal>
     ensures { LooksAtLength im.now q i j result }
 {
-    let found = inspect(im);
-    let verdict = found.verdict;
-    match verdict {
-        Ok(()) => see_length(found.shape, im, q, i, j),
-        Err(r) => WordView::Refused(r),
-    }
+    let s = inspect(im)?;
+    Ok(see_length(s, im, q, i, j))
 }
 
 // The word at a place of a queue; the word at 0 is the one that is taken next.
-pub fn queue_word(im: &[u16], q: u16, i: u16, j: u16, at: u16) -> WordView
+pub fn queue_word(im: &[u16], q: u16, i: u16, j: u16, at: u16) -> Result<Option<u16>, Refusal>
     ensures { LooksAtWord im.now q i j at result }
 {
-    let found = inspect(im);
-    let verdict = found.verdict;
-    match verdict {
-        Ok(()) => see_word(found.shape, im, q, i, j, at),
-        Err(r) => WordView::Refused(r),
-    }
+    let s = inspect(im)?;
+    Ok(see_word(s, im, q, i, j, at))
 }

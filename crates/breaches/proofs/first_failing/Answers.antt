@@ -10,7 +10,7 @@ pub subjects-end-requires : goal.subjects-end-requires
 subjects-end-requires c = search sized_fit
 
 pub loop-k-init : goal.loop-k-init
-loop-k-init c = (every_none _, omega arith)
+loop-k-init c = every_none _
 
 pub holds-requires : goal.holds-requires
 holds-requires c = record { sized = c.requires; k_bound = in_end c.args.s c.args.im.now c.args.rule _ _ c.kind_of.ensures c.subjects-end.ensures _ c.loop-k-test.true }
@@ -18,13 +18,11 @@ holds-requires c = record { sized = c.requires; k_bound = in_end c.args.s c.args
 pub returns-then-not-holds : goal.returns-then-not-holds
 returns-then-not-holds c =
     breaks_at _ _ c.args.rule _ _ c.kind_of.ensures c.subjects-end.ensures _ c.loop-k-test.true
-    c.loop-k.invariant.0 _ c.holds.ensures c.if-not-holds.true
+    c.loop-k.invariant _ c.holds.ensures c.if-not-holds.true
 
 pub loop-k-preserved : goal.loop-k-preserved
 loop-k-preserved c =
-    let l = c.loop-k.invariant in
-    let t = c.loop-k-test.true in
-    (every_more _ _ l.0 (sym c.holds.ensures ∙ c.if-not-holds.false), omega arith)
+    every_more _ _ c.loop-k.invariant (sym c.holds.ensures ∙ c.if-not-holds.false)
 
 pub returns : goal.returns
-returns c = breaks_nowhere _ _ c.args.rule _ _ c.kind_of.ensures c.subjects-end.ensures _ c.loop-k-test.false c.loop-k.invariant.1 c.loop-k.invariant.0
+returns c = breaks_nowhere _ _ c.args.rule _ _ c.kind_of.ensures c.subjects-end.ensures _ c.loop-k-test.false (omega arith) c.loop-k.invariant

@@ -1,13 +1,9 @@
 -- The tasks, queues or clock before k do not break the rule.
 use mathlib.Core.Path.{◌≡◌}
 use mathlib.Core.Bool.{true}
-use Prim.Native.Nat.{◌-◌, ◌≤◌}
 use Rattle.paper.specs.Tests.{every}
 use Rattle.single_rules.specs.Each.{holds}
 use Rattle.breaches.proofs.first_failing.Given as goal
 
 abbrev pub invariant-loop-k : goal.invariant-loop-k
-invariant-loop-k l = (every l.k (holds l.s l.im l.rule) ≡ true) × (l.k ≤ l.end)
-
-abbrev pub decreases-loop-k : goal.decreases-loop-k
-decreases-loop-k l = l.end - l.k
+invariant-loop-k l = every l.k (holds l.s l.im l.rule) ≡ true

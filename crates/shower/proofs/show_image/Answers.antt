@@ -3,4 +3,4 @@ use Rattle.views.proofs.Looked.{looked_sound}
 use Rattle.shower.proofs.show_image.Goals as goal
 
 pub describe-requires : goal.describe-requires
-describe-requires c = search looked_sound
+describe-requires c = looked_sound _ _ c.in-Ok.ensures

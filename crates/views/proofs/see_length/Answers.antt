@@ -1,13 +1,16 @@
 -- The queue that is named has its length, if there is one.
-use Rattle.views.proofs.Queues.{seen_has, length_found, length_missed}
-use borrow.Author.Rules.{rules}
+use Rattle.std.proofs.Common.{rules, sym}
+use Rattle.views.proofs.Queues.{named_has}
+use Rattle.views.specs.Looks.{length_seen}
 use Rattle.views.proofs.see_length.Goals as goal
 
-pub count-requires : goal.count-requires
-count-requires c = record { sound = search rules; has = search seen_has }
+pub returns-in_err-x : goal.returns-in_err-x
+unfolding length_seen
+returns-in_err-x c = search rules
 
-pub returns-in-Queue : goal.returns-in-Queue
-returns-in-Queue c = search length_found
+pub count-requires-clause-has : goal.count-requires-clause-has
+count-requires-clause-has c = named_has _ _ _ _ _ (sym c.in_ok-x.ensures)
 
-pub returns-in-NotThere : goal.returns-in-NotThere
-returns-in-NotThere c = search length_missed
+pub returns : goal.returns
+unfolding length_seen
+returns c = search rules

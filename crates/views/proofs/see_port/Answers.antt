@@ -1,9 +1,12 @@
 -- A port is there below N.
-use Rattle.views.proofs.Seen.{port_found, port_missed}
+use Rattle.std.proofs.Common.{rules}
+use Rattle.views.specs.Looks.{port_seen}
 use Rattle.views.proofs.see_port.Goals as goal
 
-pub returns-then-from-s : goal.returns-then-wide-s
-returns-then-from-s c = search port_found
+pub returns-then-from-s : goal.returns-then-from-s
+unfolding port_seen
+returns-then-from-s c = search rules
 
 pub returns : goal.returns
-returns c = search port_missed
+unfolding port_seen
+returns c = search rules

@@ -1,13 +1,16 @@
 -- The queue that is named holds its words, if there is one.
-use Rattle.views.proofs.Queues.{seen_has, word_found, word_missed}
-use borrow.Author.Rules.{rules}
+use Rattle.std.proofs.Common.{rules, sym}
+use Rattle.views.proofs.Queues.{named_has}
+use Rattle.views.specs.Looks.{word_seen}
 use Rattle.views.proofs.see_word.Goals as goal
 
-pub held_at-requires : goal.held_at-requires
-held_at-requires c = record { sound = search rules; has = search seen_has }
+pub returns-in_err-x : goal.returns-in_err-x
+unfolding word_seen
+returns-in_err-x c = search rules
 
-pub returns-in-Queue : goal.returns-in-Queue
-returns-in-Queue c = search word_found
+pub held_at-requires-clause-has : goal.held_at-requires-clause-has
+held_at-requires-clause-has c = named_has _ _ _ _ _ (sym c.in_ok-x.ensures)
 
-pub returns-in-NotThere : goal.returns-in-NotThere
-returns-in-NotThere c = search word_missed
+pub returns : goal.returns
+unfolding word_seen
+returns c = search rules
