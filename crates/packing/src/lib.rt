@@ -5,7 +5,8 @@ ghost use Rattle.std.specs.Prelude.{◌≡◌, ◌++◌, ◌+◌, ◌≤◌, len
 ghost use Rattle.paper.specs.Runner.{decimal, newline};
 ghost use Rattle.packing.specs.Packed.{bytes_of, five, Placed};
 
-// Bytes in one number, and how many they are.
+// Bytes in one number, and how many they are. A number and no array of bytes, since registers are added to it in one sum and eight
+// bytes are one store: names copied byte by byte took more than twice the time (docs/SPEED.md, Printing words).
 #[derive(Clone, Copy)]
 pub struct Packed {
     pub value: u64,

@@ -17,7 +17,8 @@ use tables::{MOST_NAMES, NO_ENTRY, look};
 use texts::read_texts;
 use tokens::{Token, next_token};
 
-// The next token of a line: none, a name that is not given, or another, with the place after it.
+// The next token of a line: none, a name that is not given, or another, with the place after it. Three ways, so neither an Option
+// nor a Result.
 #[derive(Clone, Copy)]
 enum Step {
     Ends,
