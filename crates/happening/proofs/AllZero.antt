@@ -21,9 +21,9 @@ pub zeros_none : (l : List ℕ) (from : ℕ) → true ≡ zeros_at l from 0
 unfolding zeros_at
 zeros_none l from = refl
 
-pub zeros_more : (l : List ℕ) (from n w : ℕ) (t r : Bool) → t ≡ zeros_at l from n → w ≡ get_or l (from + n) 0 → r ≡ (t && eqb w 0) → r ≡ zeros_at l from (n + 1)
+pub zeros_more : (l : List ℕ) (from n : ℕ) (t : Bool) → t ≡ zeros_at l from n → (t && eqb (get_or l (from + n) 0) 0) ≡ zeros_at l from (n + 1)
 unfolding zeros_at
-zeros_more l from n w t r et ew er = rw (add-one, ← et, ← ew) er
+zeros_more l from n t et = rw (add-one, ← et)
 
 pub zeros_done : (l : List ℕ) (from n k : ℕ) (t : Bool) → t ≡ zeros_at l from k → k ≤ n → n ≤ k → t ≡ zeros_at l from n
 zeros_done l from n k t e low high = let z : n ≡ k = omega arith in rw z e
@@ -44,6 +44,10 @@ unfolding Ahead
 ahead_none l from k h g = absurd (omega arith)
 
 -- events that follow
+-- where no event is left, they are ticks to the end
+pub ahead_all : (l : List ℕ) (from to count : ℕ) → Ahead l from to → to ≤ count → count ≤ to → Ahead l from count
+ahead_all l from to count h low high = let e : count ≡ to = omega arith in rw e h
+
 module _ (l : List ℕ) (from to : ℕ) (h : Ahead l from to) (r : Bool) (ok : not r ≡ false) where
   ahead_more : (n : ℕ) → r ≡ zeros_at l (3 * to) (3 * n) → Ahead l from (to + n)
   unfolding Ahead

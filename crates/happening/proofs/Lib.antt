@@ -1,4 +1,3 @@
 pub mod AllZero
 pub mod Taking
 pub mod Tallying
-pub mod RepliesInParts

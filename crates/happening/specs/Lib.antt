@@ -1,4 +1,3 @@
 pub mod Lists
 pub mod Ahead
-pub mod InParts
 pub mod Tallies

@@ -10,13 +10,10 @@ ghost use Rattle.counting.specs.Room.{Room};
 ghost use Rattle.noting.specs.Noted.{Ledger};
 ghost use Rattle.happening.specs.Lists.{nth_event, Ends};
 ghost use Rattle.happening.specs.Tallies.{Tallies};
-ghost use Rattle.happening.specs.InParts.{kind_in, answer_by, told_by};
 ghost use Rattle.happening.specs.Ahead.{zeros_at, Ahead, Stops};
 
-use connectives::both;
 use events::{event_of, report};
-use numbers::task_of;
-use paper::{Answer, EVENT_WORDS, HIGH_BYTES, Refusal, Shape, Task};
+use paper::{Answer, EVENT_WORDS, HIGH_BYTES, Refusal, Shape};
 use ticks::ticks;
 
 // How many events are looked at together: first a few, then more.
@@ -27,35 +24,11 @@ const LONG_LOOK: usize = 8;
 // The length of a list of counts in which nothing is counted.
 pub const NO_COUNTS: usize = 0;
 
-// How many events were passed over, and the reply of the last, or of the one that was refused.
-#[derive(Clone, Copy)]
-struct Past {
-    taken: usize,
-    last: Result<Answer, Refusal>,
-}
-
-// The kinds of answers.
-#[derive(Clone, Copy)]
-pub enum Kind {
-    Idle,
-    ErrorStop,
-    TurnPassed,
-    ServiceDone,
-    ServiceWaits,
-    ServiceFaulted,
-    OrderDone,
-    OrderFaulted,
-    Input,
-    OutputDone,
-}
-
-// The same in parts, each of which is read as it was written: what stopped the events, and where nothing did, the kind and the task of the last answer.
+// How many events were taken, and the reply of the last, or of the one that was refused.
 #[derive(Clone, Copy)]
 pub struct Took {
     pub taken: usize,
-    pub stop: Result<(), Refusal>,
-    pub kind: Kind,
-    pub task: Task,
+    pub last: Result<Answer, Refusal>,
 }
 
 // Whether n words of a list, from a place on, are 0.
@@ -64,10 +37,8 @@ fn zeros(l: &[u16], from: usize, n: usize) -> bool
     ensures { result ≡ zeros_at l.now from n }
 {
     let mut right = true;
-    let mut k: usize = 0;
-    while k < n {
-        right = both(right, l[from + k] == 0);
-        k += 1;
+    for k in 0..n {
+        right = right & (l[from + k] == 0);
     }
     right
 }
@@ -85,6 +56,7 @@ fn looked_ahead(events: &[u16], from: usize, count: usize) -> usize
         return from;
     }
     let mut to = from + LOOK;
+    // Eight events are passed at a look, and where the looks end is the answer, so this is no for.
     while LONG_LOOK <= count - to {
         if !zeros(events, EVENT_WORDS * to, EVENT_WORDS * LONG_LOOK) {
             return to;
@@ -101,14 +73,12 @@ fn ticks_ahead(events: &[u16], from: usize, count: usize) -> usize
     ensures ahead { Ahead events.now from result }
     ensures stops { Stops events.now result count }
 {
-    let mut to = looked_ahead(events, from, count);
-    while to < count {
+    for to in looked_ahead(events, from, count)..count {
         if !zeros(events, EVENT_WORDS * to, EVENT_WORDS) {
             return to;
         }
-        to += 1;
     }
-    to
+    count
 }
 
 // Event k of a list, which is no tick.
@@ -127,106 +97,7 @@ fn report_at(s: Shape, im: &mut [u16], events: &[u16], k: usize) -> Result<Answe
     )
 }
 
-// Passes over the events of a list, one after another, up to the first refused one; its ticks are counted, where there are counts.
-fn pass_events(
-    s: Shape,
-    im: &mut [u16],
-    table: &[u16; HIGH_BYTES],
-    counts: &mut [u32],
-    events: &[u16],
-) -> Past
-    requires lawful { Lawful s im.old }
-    requires order_table { OrderTable table.now }
-    requires events_len { length events.now % 3 ≡ 0 }
-    requires ledger { Ledger counts.old }
-    requires room { Room counts.old (length events.now / 3) }
-    ensures tallies { Tallies s im.old events.now counts.old counts.new }
-    ensures ends { Ends s im.old events.now result.taken result.last im.new }
-    ensures lawful_2 { Lawful s im.new }
-{
-    let count = events.len() / EVENT_WORDS;
-    let mut taken: usize = 0;
-    let mut last = Ok(Answer::Idle);
-    while taken < count {
-        let end = ticks_ahead(events, taken, count);
-        if taken < end {
-            last = Ok(ticks(s, im, table, counts, end - taken));
-            taken = end;
-        }
-        if taken < count {
-            last = report_at(s, im, events, taken);
-            if let Err(_) = last {
-                return Past {
-                    taken: taken,
-                    last: last,
-                };
-            }
-            taken += 1;
-        }
-    }
-    Past {
-        taken: taken,
-        last: last,
-    }
-}
-
-// The kind of an answer.
-fn kind_of(a: Answer) -> Kind
-    ensures { result ≡ kind_in a }
-{
-    match a {
-        Answer::Idle => Kind::Idle,
-        Answer::ErrorStop(_) => Kind::ErrorStop,
-        Answer::TurnPassed(_) => Kind::TurnPassed,
-        Answer::ServiceDone(_) => Kind::ServiceDone,
-        Answer::ServiceWaits(_) => Kind::ServiceWaits,
-        Answer::ServiceFaulted(_) => Kind::ServiceFaulted,
-        Answer::OrderDone(_) => Kind::OrderDone,
-        Answer::OrderFaulted(_) => Kind::OrderFaulted,
-        Answer::Input(_) => Kind::Input,
-        Answer::OutputDone(_) => Kind::OutputDone,
-    }
-}
-
-// What was passed over, in parts.
-fn in_parts(taken: usize, last: Result<Answer, Refusal>) -> Took
-    ensures { (result.taken ≡ taken) × (told_by result.stop result.kind result.task ≡ last) }
-{
-    match last {
-        Ok(a) => Took {
-            taken: taken,
-            stop: Ok(()),
-            kind: kind_of(a),
-            task: Task(task_of(a)),
-        },
-        Err(r) => Took {
-            taken: taken,
-            stop: Err(r),
-            kind: Kind::Idle,
-            task: Task(0),
-        },
-    }
-}
-
-// The answer of a kind and a task.
-fn answer_of(kind: Kind, t: Task) -> Answer
-    ensures { result ≡ answer_by kind t }
-{
-    match kind {
-        Kind::Idle => Answer::Idle,
-        Kind::ErrorStop => Answer::ErrorStop(t),
-        Kind::TurnPassed => Answer::TurnPassed(t),
-        Kind::ServiceDone => Answer::ServiceDone(t),
-        Kind::ServiceWaits => Answer::ServiceWaits(t),
-        Kind::ServiceFaulted => Answer::ServiceFaulted(t),
-        Kind::OrderDone => Answer::OrderDone(t),
-        Kind::OrderFaulted => Answer::OrderFaulted(t),
-        Kind::Input => Answer::Input(t),
-        Kind::OutputDone => Answer::OutputDone(t),
-    }
-}
-
-// Takes the events of a list, up to the first refused one; its ticks are counted, where there are counts.
+// Takes the events of a list, one after another, up to the first refused one; its ticks are counted, where there are counts.
 pub fn take_events(
     s: Shape,
     im: &mut [u16],
@@ -240,12 +111,28 @@ pub fn take_events(
     requires ledger { Ledger counts.old }
     requires room { Room counts.old (length events.now / 3) }
     ensures tallies { Tallies s im.old events.now counts.old counts.new }
-    ensures ends { Ends s im.old events.now result.taken (told_by result.stop result.kind result.task) im.new }
+    ensures ends { Ends s im.old events.now result.taken result.last im.new }
     ensures lawful_2 { Lawful s im.new }
 {
-    let past = pass_events(s, im, table, counts, events);
-    let last = past.last;
-    in_parts(past.taken, last)
+    let count = events.len() / EVENT_WORDS;
+    let mut taken: usize = 0;
+    let mut last = Ok(Answer::Idle);
+    // Each round takes as many events as are ticks one after another, so this is no for.
+    while taken < count {
+        let end = ticks_ahead(events, taken, count);
+        if taken < end {
+            last = Ok(ticks(s, im, table, counts, end - taken));
+            taken = end;
+        }
+        if taken < count {
+            last = report_at(s, im, events, taken);
+            if let Err(_) = last {
+                return Took { taken, last };
+            }
+            taken += 1;
+        }
+    }
+    Took { taken, last }
 }
 
 // The event of three words: kind, device, character.
@@ -264,12 +151,5 @@ pub fn step(
 {
     let list: [u16; EVENT_WORDS] = [kind, device, character];
     let mut none: [u32; NO_COUNTS] = [0; NO_COUNTS];
-    let took = take_events(s, im, table, &mut none, &list);
-    let stop = took.stop;
-    let kind = took.kind;
-    let task = took.task;
-    match stop {
-        Ok(()) => Ok(answer_of(kind, task)),
-        Err(r) => Err(r),
-    }
+    take_events(s, im, table, &mut none, &list).last
 }

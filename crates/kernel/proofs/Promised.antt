@@ -24,10 +24,8 @@ use Rattle.laws.specs.Events.{Lawful, inspected_lawful}
 use Rattle.counting.specs.Room.{Room, RoomIf}
 use Rattle.counting.specs.Growing.{counted_room, room_less, room_open}
 use Rattle.happening.specs.Lists.{Toll, tells_on, told_from, stop_of, Ends}
-use Rattle.happening.specs.InParts.{told_by}
 use Rattle.happening.specs.Tallies.{counts_on, counts_from, Tallies}
-use Rattle.happening.specs.declared.Kind.{Kind}
-use Rattle.happening.proofs.RepliesInParts.{stop_told}
+use Rattle.happening.specs.declared.Took.{Took}
 use Rattle.careful.specs.OneByOne.{CountsAll}
 use Rattle.inspect.specs.Inspects.{Inspects}
 use Rattle.kernel.specs.Begins.{Begins}
@@ -103,11 +101,12 @@ room_found true counts n h e = h
 room_found false counts n h e = absurd (true≢false (sym e))
 
 pub all_counted : (s : Shape) (im counts events : List ℕ) → length events % 3 ≡ 0 → Room counts (length events / 3)
-    → (taken : ℕ) (stop : Result ⊤ Refusal) (kind : Kind) (t : Task) (out more : List ℕ) → Ends s im events taken (told_by stop kind t) out → Tallies s im events counts more
-    → CountsAll s im counts events taken stop out more
+    → (took : Took) (answer : Ended) (out more : List ℕ) → Ends s im events took.taken took.last out → Tallies s im events counts more
+    → (answer.taken ≡ took.taken) × (answer.stop ≡ stop_of took.last)
+    → CountsAll s im counts events answer.taken answer.stop out more
 unfolding Ends Tallies CountsAll
-all_counted s im counts events whole room taken stop kind t out more e em =
-    rw (em, report_told s im counts events whole room Answer.Idle, e, stop_told stop kind t)
+all_counted s im counts events whole room took answer out more e em (et, es) =
+    rw (em, et, es, report_told s im counts events whole room Answer.Idle, e)
 
 -- a run that begins, and one that is refused
 module _ (im events : List ℕ) where
@@ -151,12 +150,12 @@ module _ (im events : List ℕ) where
         go true e h = eqb-true (length events % 3) 0 e
         go false e h = absurd (never_fine Refusal.MalformedEvent h)
 
-    pub run_fine : (kind : Kind) (t : Task) (answer : Ended) (out : List ℕ) → Ends s im events answer.taken (told_by answer.stop kind t) out
-        → Runs im events answer out
+    pub run_fine : (took : Took) (answer : Ended) (out : List ℕ) → Ends s im events took.taken took.last out
+        → (answer.taken ≡ took.taken) × (answer.stop ≡ stop_of took.last) → Runs im events answer out
     unfolding run Ends
-    run_fine kind t answer out e =
+    run_fine took answer out e (et, ep) =
         let all = run_told s im events run_whole Answer.Idle ∙ ap ran_as e in
-        ran answer out (rw (h.0, ← h.1, all, stop_told answer.stop kind t))
+        ran answer out (rw (h.0, ← h.1, all, et, ep))
 
     pub report_fine : (counts : List ℕ) (answer : Ended) (out more : List ℕ)
         → CountsAll s im counts events answer.taken answer.stop out more → Reports im events counts answer out more

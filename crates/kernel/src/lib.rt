@@ -5,13 +5,14 @@ ghost use Rattle.std.specs.Prelude.{◌≡◌, ◌%◌, length};
 ghost use Rattle.paper.specs.Promises.{Happens, Runs, Reports};
 ghost use Rattle.laws.specs.Events.{Lawful};
 ghost use Rattle.order_table.specs.Entries.{OrderTable};
+ghost use Rattle.happening.specs.Lists.{stop_of};
 ghost use Rattle.careful.specs.OneByOne.{CountsAll};
 ghost use Rattle.kernel.specs.Begins.{Begins};
 
 pub use builds::build;
 use careful::count_one_by_one;
 use counting::has_room;
-use happening::{NO_COUNTS, step, take_events};
+use happening::{NO_COUNTS, Took, step, take_events};
 pub use inspect::check;
 use inspect::inspect;
 use order_table::laid_out;
@@ -38,6 +39,16 @@ fn begin(im: &[u16], events: &[u16]) -> Result<Shape, Refusal>
     Ok(shape)
 }
 
+// What a run answers that took these events.
+fn ended(took: Took) -> Ended
+    ensures { (result.taken ≡ took.taken) × (result.stop ≡ stop_of took.last) }
+{
+    Ended {
+        taken: took.taken,
+        stop: took.last.and(Ok(())),
+    }
+}
+
 // A run over a list of events.
 pub fn run(im: &mut [u16], events: &[u16]) -> Ended
     ensures { Runs im.old events.now result im.new }
@@ -46,11 +57,7 @@ pub fn run(im: &mut [u16], events: &[u16]) -> Ended
         Ok(s) => {
             let table = laid_out();
             let mut none: [u32; NO_COUNTS] = [0; NO_COUNTS];
-            let took = take_events(s, im, &table, &mut none, events);
-            Ended {
-                taken: took.taken,
-                stop: took.stop,
-            }
+            ended(take_events(s, im, &table, &mut none, events))
         }
         Err(r) => Ended {
             taken: 0,
@@ -73,14 +80,8 @@ fn count_events(
     ensures counts_all { CountsAll s im.old counts.old events.now result.taken result.stop im.new counts.new }
     ensures lawful_2 { Lawful s im.new }
 {
-    if counts.len() == COUNTS {
-        if has_room(counts, events.len() / EVENT_WORDS) {
-            let all = take_events(s, im, table, counts, events);
-            return Ended {
-                taken: all.taken,
-                stop: all.stop,
-            };
-        }
+    if counts.len() == COUNTS && has_room(counts, events.len() / EVENT_WORDS) {
+        return ended(take_events(s, im, table, counts, events));
     }
     count_one_by_one(s, im, table, counts, events)
 }
