@@ -89,6 +89,7 @@ pub fn before_order(s: Shape, im: &mut [u16], x: Row, flags: u16, clock: u16) ->
     service(s, im, x, clock, flags / PENDING)
 }
 
+// Input and output done are a function each: they differ in the test, in what is done and in the status that is looked at, so one for both would take all three.
 // Input: the character is appended, and the owner is woken if it waits for input.
 pub fn input(s: Shape, im: &mut [u16], t: Task, c: u16) -> Result<Answer, Refusal>
     requires sound { Sound s im.old }

@@ -135,6 +135,7 @@ fn print_if_idle(s: Shape, im: &mut [u16], t: Task)
     }
 }
 
+// Send and receive are a function each: steps for both that went by the service took 1.35 for 1.25 in the ping-pong (docs/ENGINEERING.md, 104).
 // Send: the word in R3 for the task that R2 names, which is woken if it waits for it.
 fn send(s: Shape, im: &mut [u16], x: Row) -> Answer
     requires sound { Sound s im.old }

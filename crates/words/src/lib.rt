@@ -185,7 +185,7 @@ pub fn row_of(s: Shape, t: Task) -> Row
     }
 }
 
-// A word of a row.
+// A word of a row. Registers and flags are not spots: from the row's place, which a tick has in hand, each is one sum away (docs/SPEED.md).
 pub fn own(s: Shape, im: &[u16], x: Row, k: usize) -> u16
     requires sound { Sound s im.now }
     requires rowed { Rowed s x }
