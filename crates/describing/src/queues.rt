@@ -1,7 +1,9 @@
 // What the queues of an image hold, in words.
-use crate::lines::put_gap;
-use disk::{Output, put_shown, put_text};
 use paper::MOST_CAPACITY;
+use std::fmt;
+use std::fmt::{Display, Formatter};
+use std::io;
+use std::io::Write;
 use views::{INPUT_BUFFER, OUTPUT_BUFFER, queue_word};
 
 // The characters that can be printed: from the blank to the tilde.
@@ -13,43 +15,40 @@ const LAST_PRINTABLE: u16 = 126;
 const MOST_HELD: u16 = MOST_CAPACITY as u16;
 
 // A character: its number, and itself in quotes where it can be printed.
-pub fn put_character(out: Output, character: u16) -> Output {
-    let numbered = put_shown(out, character);
-    if character < FIRST_PRINTABLE {
-        return numbered;
-    }
-    if LAST_PRINTABLE < character {
-        return numbered;
-    }
-    let quoted = [b' ', b'\'', character as u8, b'\''];
-    put_text(numbered, &quoted)
-}
+#[derive(Clone, Copy)]
+pub struct Character(pub u16);
 
-// A word of a queue: in the input and output buffers a character.
-fn put_word(out: Output, q: u16, word: u16) -> Output {
-    match q {
-        INPUT_BUFFER | OUTPUT_BUFFER => put_character(out, word),
-        _ => put_shown(out, word),
+impl Display for Character {
+    fn fmt<W: fmt::Write>(&self, f: &mut Formatter<W>) -> fmt::Result {
+        let character = self.0;
+        match character {
+            FIRST_PRINTABLE..=LAST_PRINTABLE => {
+                let quoted = character as u8 as char;
+                write!(f, "{character} '{quoted}'")
+            }
+            _ => write!(f, "{character}"),
+        }
     }
 }
 
-// How a line of so many words ends.
-fn put_end(out: Output, count: u16) -> Output {
-    if count == 0 {
-        return put_text(out, b" empty\n");
-    }
-    put_text(out, b"\n")
+// What stands before a word of a list that comes after so many.
+pub fn gap(count: u16) -> &'static str {
+    if count == 0 { " " } else { ", " }
 }
 
-// The words that a queue holds, first the one that is taken next, to the end of the line.
-pub fn put_queue(out: Output, im: &[u16], q: u16, i: u16, j: u16) -> Output {
-    let mut shown = out;
+// The words that a queue holds, first the one that is taken next, to the end of the line; in the input and output buffers they are
+// characters.
+pub fn put_queue<W: Write>(out: &mut W, im: &[u16], q: u16, i: u16, j: u16) -> io::Result<()> {
     for at in 0..MOST_HELD {
-        let Ok(Some(word)) = queue_word(im, q, i, j, at) else {
-            return put_end(shown, at);
-        };
-        let parted = put_gap(shown, at);
-        shown = put_word(parted, q, word);
+        let gap = gap(at);
+        match (q, queue_word(im, q, i, j, at)) {
+            (INPUT_BUFFER | OUTPUT_BUFFER, Ok(Some(word))) => {
+                write!(out, "{gap}{}", Character(word))?;
+            }
+            (_, Ok(Some(word))) => write!(out, "{gap}{word}")?,
+            _ if at == 0 => return writeln!(out, " empty"),
+            _ => return writeln!(out),
+        }
     }
-    put_end(shown, MOST_HELD)
+    writeln!(out)
 }

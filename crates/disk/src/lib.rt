@@ -14,30 +14,19 @@ pub use reading::{
     read_full,
 };
 pub use saving::{save, save_at};
-use std::fmt::Display;
 use std::fs::OpenOptions;
 use std::io;
 use std::io::{Error, Write};
-use std::rt::{Stderr, Stdout};
 
-// What became of a run: its output is written, its input was refused, or could not be had, or its output could not be written.
-#[derive(Clone, Copy)]
+// What became of a run, from the best on: its output is written, its input was refused, or could not be had, or its output could not
+// be written.
+#[derive(Clone, Copy, PartialEq, Eq, PartialOrd, Ord)]
 pub enum Outcome {
     Done,
     Refused,
     Unread,
     Unwritten,
 }
-
-// Where a text goes: what a program makes to standard output, what it says to standard error.
-#[derive(Clone, Copy)]
-pub enum Stream {
-    Made(Stdout),
-    Said(Stderr),
-}
-
-// A stream that is written piece by piece, or the error that kept one of the pieces so far from being written.
-pub type Output = io::Result<Stream>;
 
 // Where a program tells what became of its run, if that is open.
 const OUTCOME_PATH: &str = "/dev/fd/3";
@@ -94,40 +83,10 @@ pub fn misused(rt: &HostRuntime) -> Outcome {
     Outcome::Unread
 }
 
-// Standard output, to be written piece by piece.
-pub fn standard_output(rt: &HostRuntime) -> Output {
-    Ok(Stream::Made(rt.stdout()))
-}
-
-// Standard error, to be written piece by piece.
-pub fn standard_error(rt: &HostRuntime) -> Output {
-    Ok(Stream::Said(rt.stderr()))
-}
-
-// Writes a text to a stream, if all before it is written.
-pub fn put_text(out: Output, text: &[u8]) -> Output {
-    let stream = out?;
-    match stream {
-        Stream::Made(made) => made.write_all(text)?,
-        Stream::Said(said) => said.write_all(text)?,
-    }
-    Ok(stream)
-}
-
-// Writes a value as it is displayed to a stream, if all before it is written.
-pub fn put_shown<D: Display + Drop>(out: Output, value: D) -> Output {
-    let stream = out?;
-    match stream {
-        Stream::Made(made) => made.print(value)?,
-        Stream::Said(said) => said.print(value)?,
-    }
-    Ok(stream)
-}
-
 // What became of a run that wrote to standard output; where that failed, it is said.
-pub fn ended(rt: &HostRuntime, out: Output) -> Outcome {
-    match out {
-        Ok(_) => Outcome::Done,
+pub fn ended(rt: &HostRuntime, written: io::Result<()>) -> Outcome {
+    match written {
+        Ok(()) => Outcome::Done,
         Err(error) => {
             fail(rt, b"standard output", error);
             Outcome::Unwritten

@@ -1,8 +1,6 @@
--- A number at the start of a text, and what is left of the text. Assumes nothing.
-use Rattle.std.specs.Prelude.{List, ℕ, ◌≤◌, length}
-use Rattle.joining.specs.declared.Task.{Task}
+-- What is left of a text. Assumes nothing.
+use Rattle.std.specs.Prelude.{◌≡◌, List, ℕ, ◌≤◌, length, drop}
 
--- the rest begins in the text
-abbrev pub Begins : List ℕ → Task → Type 0
-Begins l (Task.Of n to) = to ≤ length l
-Begins l Task.Nothing = Unit {0}
+-- the rest begins in the text, and goes on to its end
+abbrev pub Begins : List ℕ → List ℕ → Type 0
+Begins l rest = (at : ℕ) × (at ≤ length l) × (rest ≡ drop at l)

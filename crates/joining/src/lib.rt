@@ -1,63 +1,37 @@
 // What is asked of a plan, as texts.
 #![tactic(auto)]
 
+ghost use Rattle.std.specs.Prelude.{IfSome};
 ghost use Rattle.joining.specs.Texts.{Begins};
 
 use tokens::{LABEL, Token, next_token};
 use values::number;
 
-// A number that is asked for, or that a text is none.
-#[derive(Clone, Copy)]
-pub enum Asked {
-    Word(u16),
-    Nothing,
-}
-
-// A task that is asked for: the words of its segment, and where the name of its program begins; or that a text asks for none.
-#[derive(Clone, Copy)]
-pub enum Task {
-    Of(u16, usize),
-    Nothing,
-}
-
-// The number that a text begins with, and the place after it.
-fn leading(text: &[u8]) -> Task
-    ensures { Begins text.now result }
+// The number that a text begins with, and what is left of the text after it.
+fn leading(text: &[u8]) -> Option<(u16, &[u8])>
+    ensures { IfSome result (λ r. Begins text.now r.1.now) }
 {
-    let Token::Number(from, to) = next_token(text, 0) else {
-        return Task::Nothing;
+    let Token::Number(0, to) = next_token(text, 0) else {
+        return None;
     };
-    if from != 0 {
-        return Task::Nothing;
-    }
-    let Ok(n) = number(&text[from..to]) else {
-        return Task::Nothing;
-    };
-    Task::Of(n, to)
+    let n = number(&text[..to]).ok()?;
+    Some((n, &text[to..]))
 }
 
 // The number that a text is, 0..65535.
-pub fn read_word(text: &[u8]) -> Asked {
-    let Task::Of(n, to) = leading(text) else {
-        return Asked::Nothing;
-    };
-    if to == text.len() {
-        return Asked::Word(n);
+pub fn read_word(text: &[u8]) -> Option<u16> {
+    match leading(text)? {
+        (n, []) => Some(n),
+        _ => None,
     }
-    Asked::Nothing
 }
 
-// The task that a text asks for: the length of its segment, a colon, and its program's name.
-pub fn read_task(text: &[u8]) -> Task
-    ensures { Begins text.now result }
+// The task that a text asks for: the length of its segment, a colon, and its program's name, which is the rest of the text.
+pub fn read_task(text: &[u8]) -> Option<(u16, &[u8])>
+    ensures { IfSome result (λ r. Begins text.now r.1.now) }
 {
-    let Task::Of(length, to) = leading(text) else {
-        return Task::Nothing;
-    };
-    if to < text.len() {
-        if text[to] == LABEL {
-            return Task::Of(length, to + 1);
-        }
+    match leading(text)? {
+        (length, [LABEL, name @ ..]) => Some((length, name)),
+        _ => None,
     }
-    Task::Nothing
 }

@@ -1,6 +1,5 @@
 -- The parts of a plan, and where programs end in it. Assumes nothing.
-use Rattle.std.specs.Prelude.{ℕ, ◌+◌, ◌≤◌}
-use Rattle.planner.specs.declared.Joined.{Joined}
+use Rattle.std.specs.Prelude.{ℕ, ◌+◌, ◌≤◌, Option, Some, None}
 
 -- the words before the pairs and of a pair, the most tasks, the longest program, and the longest plan
 abbrev pub leading : ℕ
@@ -19,6 +18,6 @@ abbrev pub most_plan : ℕ
 most_plan = 523477
 
 -- programs from a place on end after no more than so many words
-abbrev pub Ends : ℕ → ℕ → Joined → Type 0
-Ends at most (Joined.End next) = (at ≤ next) × (next ≤ at + most)
-Ends at most Joined.Nothing = Unit {0}
+abbrev pub Ends : ℕ → ℕ → Option ℕ → Type 0
+Ends at most (Some next) = (at ≤ next) × (next ≤ at + most)
+Ends at most None = Unit {0}

@@ -2,19 +2,17 @@
 // `--image`, the image's file, and a task where one alone is asked for.
 #![tactic(auto)]
 
-ghost use Rattle.std.specs.Prelude.{◌≡◌, ◌+◌, ◌*◌, ◌<◌, ◌≤◌, length};
 ghost use Rattle.laws.specs.Sound.{Sound};
 
-use disk::{
-    ARG_BYTES, Outcome, Output, arg_count, blank, ended, load_words, misused, put_text, say,
-    short_arg, standard_error, standard_output, tell,
-};
+use disk::{ARG_BYTES, Outcome, arg_count, blank, ended, load_words, misused, say, short_arg, tell};
 use inspect::inspect;
-use joining::{Asked, read_word};
+use joining::read_word;
 use paper::{Shape, Task};
 use printing::print;
-use saying::{put_refused, say_refused_image};
+use saying::{say_refused, say_refused_image};
 use showing::{TEXT_BYTES, show_task};
+use std::io;
+use std::io::Write;
 
 // How many arguments there are with a program, with an image, and with a task of one, the program's own name among them.
 const PROGRAM_ARGUMENTS: usize = 2;
@@ -39,28 +37,22 @@ const FILE_WORDS: usize = 262144;
 fn print_words(rt: &HostRuntime, path: &[u8], words: &[u16]) -> Outcome {
     let mut text = blank::<u8, TEXT_BYTES>(0);
     match print(words, &mut text) {
-        Ok(bytes) => ended(rt, put_text(standard_output(rt), &text[..bytes])),
+        Ok(bytes) => ended(rt, rt.stdout().write_all(&text[..bytes])),
         Err(r) => {
-            let named = put_text(standard_error(rt), path);
-            let numbered = put_refused(named, u16::from(r));
-            let _ = put_text(numbered, b"more than 32715 words\n");
+use disk::{ARG_BYTES, Outcome, arg_count, blank, ended, load_words, misused, say, short_arg, tell};
             Outcome::Refused
         }
     }
 }
 
-// Shows the tasks from one number up to another.
-fn show_tasks(out: Output, s: Shape, im: &[u16], from: usize, to: usize) -> Output
-    requires sound { Sound s im.now }
-    requires from_le_to { (from ≤ to) × (to ≤ s.n) }
+// Shows all tasks.
+fn show_tasks<W: Write>(out: &mut W, s: Shape, im: &[u16]) -> io::Result<()>
+    requires { Sound s im.now }
 {
-    let mut shown = out;
-    let mut k = from;
-    while k < to {
-        shown = show_task(shown, s, im, Task(k as u16));
-        k += 1;
+    for k in 0..s.n {
+        show_task(out, s, im, Task(k as u16))?;
     }
-    shown
+    Ok(())
 }
 
 // Prints the task that is asked for; where there is none, that is said.
@@ -69,10 +61,9 @@ fn print_task(rt: &HostRuntime, path: &[u8], s: Shape, im: &[u16]) -> Outcome
 {
     let mut text = [0u8; ARG_BYTES];
     let end = short_arg(rt, TASK_AT, &mut text);
-    if let Asked::Word(t) = read_word(&text[..end]) {
-        let k = t as usize;
-        if k < s.n {
-            return ended(rt, show_tasks(standard_output(rt), s, im, k, k + 1));
+    if let Some(t) = read_word(&text[..end]) {
+        if (t as usize) < s.n {
+            return ended(rt, show_task(&mut rt.stdout(), s, im, Task(t)));
         }
     }
     say(rt, &text[..end]);
@@ -90,37 +81,33 @@ fn print_image(rt: &HostRuntime, path: &[u8], im: &[u16]) -> Outcome {
             Outcome::Refused
         }
         Ok(s) if arg_count(rt) == TASK_ARGUMENTS => print_task(rt, path, s, im),
-        Ok(s) => ended(rt, show_tasks(standard_output(rt), s, im, 0, s.n)),
+        Ok(s) => ended(rt, show_tasks(&mut rt.stdout(), s, im)),
     }
 }
 
-// Prints the words of a program's file or of an image's, which is the argument at a place.
-fn print_loaded(rt: &HostRuntime, path_at: usize, path: &[u8], words: &[u16]) -> Outcome {
-    if path_at == PROGRAM_AT {
-        return print_words(rt, path, words);
-    }
-    print_image(rt, path, words)
-}
-
-// Prints the file that is the argument at a place, by way of a buffer.
-fn print_file(rt: &HostRuntime, path_at: usize, buffer: &mut [u8], words: &mut [u16]) -> Outcome
-    requires { length buffer.old < 2 * length words.old + 2 }
+// Prints the words of the file that is the argument at a place, in the way that is given.
+fn print_file<F: FnOnce(&HostRuntime, &[u8], &[u16]) -> Outcome>(
+    rt: &HostRuntime,
+    path_at: usize,
+    print_loaded: F,
+) -> Outcome
+    requires { F.IsAlwaysCallable print_loaded }
 {
+    let mut buffer = blank::<u8, FILE_BYTES>(0);
+    let mut words = blank::<u16, FILE_WORDS>(0);
     let mut path = [0u8; ARG_BYTES];
     let end = short_arg(rt, path_at, &mut path);
-    let Some(count) = load_words(rt, &path[..end], buffer, words) else {
-        return Outcome::Unread;
-    };
-    print_loaded(rt, path_at, &path[..end], &words[..count])
+    match load_words(rt, &path[..end], &mut buffer, &mut words) {
+        Some(count) => print_loaded(rt, &path[..end], &words[..count]),
+        None => Outcome::Unread,
+    }
 }
 
 // Prints as the arguments say.
 fn run(rt: &HostRuntime) -> Outcome {
-    let mut buffer = blank::<u8, FILE_BYTES>(0);
-    let mut words = blank::<u16, FILE_WORDS>(0);
     match arg_count(rt) {
-        PROGRAM_ARGUMENTS => print_file(rt, PROGRAM_AT, &mut buffer, &mut words),
-        IMAGE_ARGUMENTS | TASK_ARGUMENTS => print_file(rt, IMAGE_AT, &mut buffer, &mut words),
+        PROGRAM_ARGUMENTS => print_file(rt, PROGRAM_AT, print_words),
+        IMAGE_ARGUMENTS | TASK_ARGUMENTS => print_file(rt, IMAGE_AT, print_image),
         _ => misused(rt),
     }
 }

@@ -11,12 +11,12 @@ ghost use Rattle.files.specs.PlanFiles.{enough};
 ghost use Rattle.disk.specs.Bytes.{Starts};
 
 use disk::{
-    ARG_BYTES, Outcome, Start, arg, arg_count, fail, load_start, misused, open_source,
-    say_long_arg, tell,
+    ARG_BYTES, Outcome, Start, arg, arg_count, fail, load_start, misused, open_source, say_long_arg,
+    tell,
 };
 use files::{PLAN_BYTES, PLAN_WORDS, is_odd, read_plan};
 use kernel::build;
-use lists::count_list;
+use lists::Night;
 use output::{print_table, save_chart};
 use paper::{COUNTS, MOST_WORDS, Refusal};
 use plans::{shape_of_plan, total_of};
@@ -35,68 +35,49 @@ fn too_long(rt: &HostRuntime, path: &[u8]) -> Outcome {
     Outcome::Unread
 }
 
-// What became of all, with one thing more: an input that could not be had weighs more than a refused one.
-fn joined(all: Outcome, more: Outcome) -> Outcome {
-    match more {
-        Outcome::Done => all,
-        Outcome::Refused => match all {
-            Outcome::Done => Outcome::Refused,
-            _ => all,
-        },
-        _ => more,
+// Counts the list that is the argument at a place.
+fn count_argument(rt: &HostRuntime, k: usize, night: &mut Night) -> Outcome {
+    let mut path = [0u8; ARG_BYTES];
+    match arg(rt, k, &mut path) {
+        Some(end) => night.count_list(rt, &path[..end]),
+        None => too_long(rt, &path),
     }
 }
 
-// Counts the list that is the argument at a place.
-fn count_argument(
-    rt: &HostRuntime,
-    k: usize,
-    im: &mut [u16],
-    tasks: usize,
-    counts: &mut [u32; COUNTS],
-) -> Outcome {
-    let mut path = [0u8; ARG_BYTES];
-    let Some(end) = arg(rt, k, &mut path) else {
-        return too_long(rt, &path);
-    };
-    count_list(rt, &path[..end], im, tasks, counts)
-}
-
-// Counts the lists one after another, each from the image as the one before left it.
-fn count_lists(
-    rt: &HostRuntime,
-    im: &mut [u16],
-    tasks: usize,
-    counts: &mut [u32; COUNTS],
-) -> Outcome {
+// Counts the lists one after another, each from the image as the one before left it. An input that could not be had weighs more
+// than a refused one.
+fn count_lists(rt: &HostRuntime, night: &mut Night) -> Outcome {
     let mut all = Outcome::Done;
     for k in LISTS_AT..arg_count(rt) {
-        all = joined(all, count_argument(rt, k, im, tasks, counts));
+        all = all.max(count_argument(rt, k, night));
     }
     all
 }
 
-// Saves the chart where a path is given for it, and answers what became of all.
-fn chart_counted(rt: &HostRuntime, all: Outcome, counts: &[u32; COUNTS], tasks: usize) -> Outcome {
+// Saves the chart where a path is given for it.
+fn chart_counted(rt: &HostRuntime, counts: &[u32; COUNTS], tasks: usize) -> Outcome {
     let mut path = [0u8; ARG_BYTES];
-    let Some(end) = arg(rt, CHART_AT, &mut path) else {
-        return too_long(rt, &path);
-    };
-    if end == 0 {
-        return all;
+    match arg(rt, CHART_AT, &mut path) {
+        None => too_long(rt, &path),
+        Some(0) => Outcome::Done,
+        Some(end) => save_chart(rt, &path[..end], counts, tasks),
     }
-    joined(all, save_chart(rt, &path[..end], counts, tasks))
 }
 
 // Reports on an image of so many tasks.
 fn report_image(rt: &HostRuntime, im: &mut [u16], tasks: usize) -> Outcome {
     let mut counts = [0u32; COUNTS];
-    let counted = count_lists(rt, im, tasks, &mut counts);
-    let all = joined(counted, print_table(rt, &counts, tasks));
-    if let Outcome::Unwritten = all {
-        return Outcome::Unwritten;
+    let mut night = Night {
+        im,
+        tasks,
+        counts: &mut counts,
+    };
+    let counted = count_lists(rt, &mut night);
+    let printed = print_table(rt, &counts, tasks);
+    if printed == Outcome::Unwritten {
+        return printed;
     }
-    chart_counted(rt, all, &counts, tasks)
+    counted.max(chart_counted(rt, &counts, tasks))
 }
 
 // Builds the image of a plan in its place and reports on it.
@@ -152,10 +133,10 @@ fn report_loaded(rt: &HostRuntime, path: &[u8], buffer: &[u8], found: usize, odd
 // Reports on the plan of a file.
 fn report_file(rt: &HostRuntime, path: &[u8]) -> Outcome {
     let mut buffer = [0u8; PLAN_BYTES];
-    let Some(Start { bytes, odd }) = load_plan(rt, path, &mut buffer) else {
-        return Outcome::Unread;
-    };
-    report_loaded(rt, path, &buffer, bytes, odd)
+    match load_plan(rt, path, &mut buffer) {
+        Some(Start { bytes, odd }) => report_loaded(rt, path, &buffer, bytes, odd),
+        None => Outcome::Unread,
+    }
 }
 
 // Reports as the arguments say.
@@ -164,10 +145,10 @@ fn run(rt: &HostRuntime) -> Outcome {
         return misused(rt);
     }
     let mut path = [0u8; ARG_BYTES];
-    let Some(end) = arg(rt, PLAN_AT, &mut path) else {
-        return too_long(rt, &path);
-    };
-    report_file(rt, &path[..end])
+    match arg(rt, PLAN_AT, &mut path) {
+        Some(end) => report_file(rt, &path[..end]),
+        None => too_long(rt, &path),
+    }
 }
 
 fn main(rt: HostRuntime) {

@@ -1,13 +1,14 @@
 // The bars of the chart: how high they are, their parts, and what stands under them.
-ghost use Rattle.std.specs.Prelude.{◌<◌, ◌≤◌};
+ghost use Rattle.std.specs.Prelude.{◌≡◌, ◌<◌, ◌≤◌, length};
 ghost use Rattle.paper.specs.Counts.{most_count};
 ghost use Rattle.paper.specs.Image.{most_tasks};
 ghost use Rattle.shares.specs.Percent.{sums_end};
 
-use crate::headings::{count_at, put_share};
-use crate::pages::{Page, put, put_between, put_pair};
-use paper::{COUNTS, HEADINGS, IDLE_COUNT, MOST_TASKS};
+use crate::headings::{LEGEND, idle_ticks, row_of, share_of};
+use paper::{COUNTS, HEADINGS, MOST_TASKS};
 use shares::task_ticks;
+use std::io;
+use std::io::Write;
 
 // What bars stand on, counted from above; the height of the highest.
 pub const BASE: u64 = 490;
@@ -30,60 +31,45 @@ const TICKS_BASE: u64 = 526;
 
 const SHARE_BASE: u64 = 544;
 
-// Puts how a heading is filled; past the headings are the idle ticks.
-fn put_fill(page: Page, room: &mut [u8], k: usize) -> Page {
-    match k {
-        0 => put(page, room, b"#777777"),
-        1 => put(page, room, b"url(#slanted)"),
-        2 => put(page, room, b"white"),
-        3 => put(page, room, b"black"),
-        4 => put(page, room, b"url(#crossed)"),
-        5 => put(page, room, b"#cccccc"),
-        _ => put(page, room, b"url(#level)"),
-    }
+// No task has a number from here on.
+const TASKS_END: u16 = MOST_TASKS as u16;
+
+// A box: its left upper corner and its size.
+#[derive(Clone, Copy)]
+pub struct Frame {
+    pub x: u64,
+    pub y: u64,
+    pub width: u64,
+    pub height: u64,
 }
 
-// Puts a box of a heading.
-pub fn put_box(
-    page: Page,
-    room: &mut [u8],
-    k: usize,
-    x: u64,
-    y: u64,
-    width: u64,
-    height: u64,
-) -> Page {
-    let placed = put_pair(page, room, b"<rect x=\"", x, b"\" y=\"", y, b"\" width=\"");
-    let sized = put_pair(
-        placed,
-        room,
-        b"",
+// Puts a box that is filled as a heading's.
+pub fn put_box<W: Write>(page: &mut W, fill: &str, frame: Frame) -> io::Result<()> {
+    let Frame {
+        x,
+        y,
         width,
-        b"\" height=\"",
         height,
-        b"\" fill=\"",
-    );
-    let filled = put_fill(sized, room, k);
-    put(filled, room, b"\" stroke=\"black\"/>\n")
+    } = frame;
+    write!(
+        page,
+        r#"<rect x="{x}" y="{y}" width="{width}" height="{height}""#
+    )?;
+    writeln!(page, r#" fill="{fill}" stroke="black"/>"#)
 }
 
 // Puts the start of a text whose middle is at a place.
-fn put_label(page: Page, room: &mut [u8], x: u64, y: u64) -> Page {
-    put_pair(
+fn put_label<W: Write>(page: &mut W, x: u64, y: u64) -> io::Result<()> {
+    write!(
         page,
-        room,
-        b"<text x=\"",
-        x,
-        b"\" y=\"",
-        y,
-        b"\" font-size=\"10\" text-anchor=\"middle\">",
+        r#"<text x="{x}" y="{y}" font-size="10" text-anchor="middle">"#
     )
 }
 
 // Puts a number whose middle is at a place.
-fn put_figure(page: Page, room: &mut [u8], x: u64, y: u64, n: u64) -> Page {
-    let opened = put_label(page, room, x, y);
-    put_between(opened, room, b"", n, b"</text>\n")
+fn put_figure<W: Write>(page: &mut W, x: u64, y: u64, n: u64) -> io::Result<()> {
+    put_label(page, x, y)?;
+    writeln!(page, "{n}</text>")
 }
 
 // How high so many ticks are drawn, where the most are drawn highest.
@@ -101,93 +87,97 @@ fn height_of(ticks: u64, most: u64) -> u64
 }
 
 // Puts a part of a bar, from a height to another, if it has any.
-fn put_part(page: Page, room: &mut [u8], k: usize, x: u64, low: u64, high: u64) -> Page
+fn put_part<W: Write>(page: &mut W, fill: &str, x: u64, low: u64, high: u64) -> io::Result<()>
     requires { high ≤ 370 }
 {
     if high <= low {
-        return page;
+        return Ok(());
     }
-    put_box(page, room, k, x, BASE - high, BAR_WIDTH, high - low)
+    put_box(
+        page,
+        fill,
+        Frame {
+            x,
+            y: BASE - high,
+            width: BAR_WIDTH,
+            height: high - low,
+        },
+    )
 }
 
-// Puts the parts of a task's bar.
-fn put_parts(
-    page: Page,
-    room: &mut [u8],
-    counts: &[u32; COUNTS],
-    i: usize,
-    x: u64,
-    most: u64,
-) -> Page
-    requires { i < most_tasks }
+// Puts the parts of a task's bar, which is as long as its counts.
+fn put_parts<W: Write>(page: &mut W, row: &[u32], x: u64, most: u64) -> io::Result<()>
+    requires { length row.now ≡ 6 }
 {
-    let mut shown = page;
     let mut below: u64 = 0;
-    for k in 0..HEADINGS {
-        let upto = below + count_at(counts, HEADINGS * i + k);
-        let low = height_of(below, most);
-        shown = put_part(shown, room, k, x, low, height_of(upto, most));
+    for (heading, count) in LEGEND.iter().zip(row) {
+        let upto = below + u64::from(*count);
+        put_part(
+            page,
+            heading.fill,
+            x,
+            height_of(below, most),
+            height_of(upto, most),
+        )?;
         below = upto;
     }
-    shown
+    Ok(())
 }
 
 // Puts what stands under the bar of a task: its number, its ticks and its share.
-fn put_under(page: Page, room: &mut [u8], counts: &[u32; COUNTS], i: usize, middle: u64) -> Page
+fn put_under<W: Write>(
+    page: &mut W,
+    counts: &[u32; COUNTS],
+    i: usize,
+    middle: u64,
+) -> io::Result<()>
     requires { i < most_tasks }
 {
     let task = i as u16;
-    let numbered = put_figure(page, room, middle, NUMBER_BASE, i as u64);
-    let ticks = task_ticks(counts, task);
-    let counted = put_figure(numbered, room, middle, TICKS_BASE, ticks);
-    let opened = put_label(counted, room, middle, SHARE_BASE);
-    let shared = put_share(opened, room, counts, task, 1, b"none counted");
-    put(shared, room, b"</text>\n")
+    put_figure(page, middle, NUMBER_BASE, i as u64)?;
+    put_figure(page, middle, TICKS_BASE, task_ticks(counts, task))?;
+    put_label(page, middle, SHARE_BASE)?;
+    match share_of(counts, task) {
+        Some(share) => write!(page, "{}.{:02} %", share.whole, share.rest)?,
+        None => write!(page, "none counted")?,
+    }
+    writeln!(page, "</text>")
 }
 
 // Puts the bar of a task.
-fn put_bar(page: Page, room: &mut [u8], counts: &[u32; COUNTS], i: usize, most: u64) -> Page
+fn put_bar<W: Write>(page: &mut W, counts: &[u32; COUNTS], i: usize, most: u64) -> io::Result<()>
     requires { i < most_tasks }
 {
     let x = FIRST_BAR + PITCH * i as u64;
-    let parted = put_parts(page, room, counts, i, x, most);
-    put_under(parted, room, counts, i, x + MIDDLE)
+    put_parts(page, row_of(counts, i), x, most)?;
+    put_under(page, counts, i, x + MIDDLE)
 }
 
 // Puts the bar of the idle ticks after those of so many tasks.
-fn put_idle(page: Page, room: &mut [u8], ticks: u64, i: usize, most: u64) -> Page
+fn put_idle<W: Write>(page: &mut W, ticks: u64, tasks: usize, most: u64) -> io::Result<()>
     requires ticks_le_most_count { ticks ≤ most_count }
-    requires i_le_most_tasks { i ≤ most_tasks }
+    requires tasks_le_most_tasks { tasks ≤ most_tasks }
 {
-    let x = FIRST_BAR + PITCH * i as u64;
-    let parted = put_part(page, room, HEADINGS, x, 0, height_of(ticks, most));
-    let opened = put_label(parted, room, x + MIDDLE, NUMBER_BASE);
-    let named = put(opened, room, b"idle</text>\n");
-    put_figure(named, room, x + MIDDLE, TICKS_BASE, ticks)
+    let x = FIRST_BAR + PITCH * tasks as u64;
+    put_part(page, LEGEND[HEADINGS].fill, x, 0, height_of(ticks, most))?;
+    put_label(page, x + MIDDLE, NUMBER_BASE)?;
+    writeln!(page, "idle</text>")?;
+    put_figure(page, x + MIDDLE, TICKS_BASE, ticks)
 }
 
 // The ticks that are drawn highest: the most of a task, or the idle ones.
 fn most_ticks(counts: &[u32; COUNTS]) -> u64 {
-    let mut most = count_at(counts, IDLE_COUNT);
-    for i in 0..MOST_TASKS {
-        let ticks = task_ticks(counts, i as u16);
-        if most < ticks {
-            most = ticks;
-        }
-    }
-    most
+    (0..TASKS_END)
+        .map(|task| task_ticks(counts, task))
+        .fold(idle_ticks(counts), u64::max)
 }
 
 // Puts the bars of so many tasks, and that of the idle ticks.
-pub fn put_bars(page: Page, room: &mut [u8], counts: &[u32; COUNTS], tasks: usize) -> Page {
+pub fn put_bars<W: Write>(page: &mut W, counts: &[u32; COUNTS], tasks: usize) -> io::Result<()> {
     let most = most_ticks(counts);
-    let idle = count_at(counts, IDLE_COUNT);
-    let mut shown = page;
-    for i in 0..MOST_TASKS {
-        if tasks <= i {
-            return put_idle(shown, room, idle, i, most);
-        }
-        shown = put_bar(shown, room, counts, i, most);
+    let shown = tasks.min(MOST_TASKS);
+    for i in 0..shown {
+        put_bar(page, counts, i, most)?;
     }
-    put_idle(shown, room, idle, MOST_TASKS, most)
+    put_idle(page, idle_ticks(counts), shown, most)
 }

@@ -4,9 +4,7 @@
 mod bars;
 mod chart;
 mod headings;
-mod pages;
 mod table;
 
 pub use chart::put_chart;
-pub use pages::{Page, blank_page, put};
 pub use table::put_table;

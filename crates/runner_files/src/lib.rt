@@ -16,7 +16,7 @@ ghost use Rattle.runner_files.specs.Turns.{LoadedPlan};
 use builds::build;
 use disk::{
     IMAGE_BYTES, IMAGE_WORDS, Outcome, Start, ended, fail, load_image, load_start, open_source,
-    put_text, save, say, standard_output,
+    save, say,
 };
 use files::{PLAN_BYTES, PLAN_WORDS, is_odd, read_plan};
 use inspect::inspect;
@@ -25,7 +25,7 @@ use plans::{shape_of_plan, total_of};
 use runner_lines::{MOST_LINE, put_line};
 use saying::{say_refused_image, say_refused_plan};
 use std::fs::File;
-use std::io::ErrorKind;
+use std::io::{ErrorKind, Write};
 use taking::run_events;
 
 // The number that a refused plan or image has in place of an event's.
@@ -56,7 +56,7 @@ fn open_if_there(rt: &HostRuntime, path: &[u8]) -> Result<Option<File>, Outcome>
 fn print_refused(rt: &HostRuntime, r: Refusal) -> Outcome {
     let mut text = [0u8; MOST_LINE];
     let end = put_line(&mut text, 0, REFUSED_START, Err(r));
-    let printed = ended(rt, put_text(standard_output(rt), &text[..end]));
+    let printed = ended(rt, rt.stdout().write_all(&text[..end]));
     if let Outcome::Done = printed {
         return Outcome::Refused;
     }

@@ -5,14 +5,14 @@ ghost use Rattle.order_table.specs.Entries.{OrderTable};
 ghost use Rattle.runner_files.specs.Turns.{Holds, Moved, Tooks, Turns, Buffers};
 
 use causes::{EventCause, event_cause};
-use disk::{Outcome, ended, fail, put_text, standard_output};
+use disk::{Outcome, ended, fail};
 use files::word;
 use order_table::laid_out;
 use paper::{HIGH_BYTES, Refusal, Shape};
 use runner_events::{EVENT_BYTES, feed_buffer, whole_events};
 use runner_lines::MOST_LINE;
 use saying::say_refused_event;
-use std::io::Read;
+use std::io::{Read, Write};
 
 // The events that are read at a time.
 const EVENTS: usize = 4096;
@@ -95,7 +95,7 @@ fn take_events(
     let printed = fed.text;
     let stop = fed.stop;
     let from = EVENT_BYTES * fed.taken;
-    if let Outcome::Unwritten = ended(rt, put_text(standard_output(rt), &text[..printed])) {
+    if let Outcome::Unwritten = ended(rt, rt.stdout().write_all(&text[..printed])) {
         return Err(Outcome::Unwritten);
     }
     match stop {

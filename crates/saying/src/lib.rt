@@ -1,17 +1,19 @@
-// The words for what is refused, and for what a task is and does: each is said here, once, and put to a file that is written
-// piece by piece.
+// The words for what is refused, and for what a task is and does: each is said here, once.
 #![tactic(auto)]
 
 mod rules;
 
+use breaches::broken_rule;
 use causes::{EventCause, PlanCause, plan_cause};
-use disk::{Output, put_shown, put_text, standard_error};
+use disk::say;
 use paper::{
     ASK_INPUT, BAD_ORDER, BAD_SERVICE, NO_ERROR, NO_SUCH_TASK, NOTHING_PENDING, OUTSIDE, READY,
     RECEIVE, Refusal, SEND, WAITS_FOR_INPUT, WAITS_FOR_OUTPUT, WAITS_TO_RECEIVE, WAITS_TO_SEND,
     ZERO_DIVISOR,
 };
-use rules::put_fault;
+use rules::Fault;
+use std::fmt;
+use std::fmt::{Display, Formatter};
 
 // The words for a refusal; a refusal is of the kernel, which has no texts.
 fn refusal_words(r: Refusal) -> &'static str {
@@ -35,11 +37,6 @@ fn refusal_words(r: Refusal) -> &'static str {
     }
 }
 
-// Why an image, an event or a plan is refused.
-pub fn put_refusal(out: Output, r: Refusal) -> Output {
-    put_shown(out, refusal_words(r))
-}
-
 // The words for an error, which an image holds as a number.
 fn error_words(error: u16) -> &'static str {
     match error {
@@ -52,75 +49,60 @@ fn error_words(error: u16) -> &'static str {
     }
 }
 
-// What an error is.
-pub fn put_error(out: Output, error: u16) -> Output {
-    put_shown(out, error_words(error))
-}
+// A service that is pending, by its number.
+#[derive(Clone, Copy)]
+pub struct Service(pub u16);
 
-// The words for a service, which an image holds as a number.
-fn service_words(service: u16) -> &'static str {
-    match service {
-        NOTHING_PENDING => "nothing",
-        SEND => "send",
-        RECEIVE => "receive",
-        ASK_INPUT => "input",
-        _ => "output",
+impl Display for Service {
+    fn fmt<W: fmt::Write>(&self, f: &mut Formatter<W>) -> fmt::Result {
+        f.write_str(match self.0 {
+            NOTHING_PENDING => "nothing",
+            SEND => "send",
+            RECEIVE => "receive",
+            ASK_INPUT => "input",
+            _ => "output",
+        })
     }
 }
 
-// Which service is pending.
-pub fn put_service(out: Output, service: u16) -> Output {
-    put_shown(out, service_words(service))
+// The status of a task, by its number, with the peer and the error of the task.
+#[derive(Clone, Copy)]
+pub struct Status {
+    pub status: u16,
+    pub peer: u16,
+    pub error: u16,
 }
 
-// What an error has done or will do, its number and what it is.
-fn put_stop(out: Output, text: &[u8], error: u16) -> Output {
-    let said = put_text(out, text);
-    let numbered = put_shown(said, error);
-    let opened = put_text(numbered, b" (");
-    let meant = put_error(opened, error);
-    put_text(meant, b")")
-}
-
-// What a ready task is; with an error it is stopped at its next tick.
-fn put_ready(out: Output, error: u16) -> Output {
-    if error == NO_ERROR {
-        return put_text(out, b"ready");
-    }
-    put_stop(out, b"ready, to be stopped by error ", error)
-}
-
-// What a task waits for, and the other task.
-fn put_wait(out: Output, text: &[u8], peer: u16) -> Output {
-    let said = put_text(out, text);
-    put_shown(said, peer)
-}
-
-// The status of a task.
-pub fn put_status(out: Output, status: u16, peer: u16, error: u16) -> Output {
-    match status {
-        READY => put_ready(out, error),
-        WAITS_TO_SEND => put_wait(out, b"waits to send to task ", peer),
-        WAITS_TO_RECEIVE => put_wait(out, b"waits for a message from task ", peer),
-        WAITS_FOR_INPUT => put_text(out, b"waits for input"),
-        WAITS_FOR_OUTPUT => put_text(out, b"waits for output"),
-        _ => put_stop(out, b"stopped by error ", error),
+// A ready task with an error is stopped at its next tick.
+impl Display for Status {
+    fn fmt<W: fmt::Write>(&self, f: &mut Formatter<W>) -> fmt::Result {
+        let Status {
+            status,
+            peer,
+            error,
+        } = *self;
+        let words = error_words(error);
+        match status {
+            READY if error == NO_ERROR => f.write_str("ready"),
+            READY => write!(f, "ready, to be stopped by error {error} ({words})"),
+            WAITS_TO_SEND => write!(f, "waits to send to task {peer}"),
+            WAITS_TO_RECEIVE => write!(f, "waits for a message from task {peer}"),
+            WAITS_FOR_INPUT => f.write_str("waits for input"),
+            WAITS_FOR_OUTPUT => f.write_str("waits for output"),
+            _ => write!(f, "stopped by error {error} ({words})"),
+        }
     }
 }
 
-// A refusal's number, after what is refused and before why.
-pub fn put_refused(out: Output, number: u16) -> Output {
-    let said = put_text(out, b": refused ");
-    let numbered = put_shown(said, number);
-    put_text(numbered, b": ")
+// Says on standard error that what a path names is refused, with the number and why.
+pub fn say_refused<D: Display + Drop>(rt: &HostRuntime, path: &[u8], number: u16, why: D) {
+    say(rt, path);
+    let _ = eprintln!(rt; ": refused {number}: {why}");
 }
 
-// Says on standard error that the image of a file is refused, and why.
+// Says on standard error that an image is refused, and why: where a rule is broken, the first one and what breaks it.
 pub fn say_refused_image(rt: &HostRuntime, path: &[u8], im: &[u16], r: Refusal) {
-    let named = put_text(standard_error(rt), path);
-    let numbered = put_refused(named, u16::from(r));
-    let told = put_fault(numbered, im);
-    let _ = put_text(told, b"\n");
+    say_refused(rt, path, u16::from(r), Fault(broken_rule(im)));
 }
 
 // Why a plan's file is refused, of which the first words are given, and whether it has an odd count of bytes.
@@ -133,20 +115,15 @@ fn file_cause(plan: &[u16], odd: bool) -> PlanCause {
 
 // Says on standard error that the plan of a file is refused, and why.
 pub fn say_refused_plan(rt: &HostRuntime, path: &[u8], plan: &[u16], odd: bool, r: Refusal) {
-    let named = put_text(standard_error(rt), path);
-    let numbered = put_refused(named, u16::from(r));
-    let told = put_shown(numbered, file_cause(plan, odd));
-    let _ = put_text(told, b"\n");
+    say_refused(rt, path, u16::from(r), file_cause(plan, odd));
 }
 
 // Says on standard error that the event of a number is refused, and why; the cause is that of a malformed one.
 pub fn say_refused_event(rt: &HostRuntime, path: &[u8], n: u64, r: Refusal, cause: EventCause) {
-    let named = put_text(standard_error(rt), path);
-    let counted = put_shown(put_text(named, b": event "), n);
-    let numbered = put_refused(counted, u16::from(r));
-    let told = match r {
-        Refusal::MalformedEvent => put_shown(numbered, cause),
-        _ => put_refusal(numbered, r),
+    say(rt, path);
+    let number = u16::from(r);
+    let _ = match r {
+        Refusal::MalformedEvent => eprintln!(rt; ": event {n}: refused {number}: {cause}"),
+        _ => eprintln!(rt; ": event {n}: refused {number}: {}", refusal_words(r)),
     };
-    let _ = put_text(told, b"\n");
 }

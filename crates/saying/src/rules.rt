@@ -1,9 +1,10 @@
 // The words for the rules of an image, and for what breaks one.
-use crate::put_refusal;
-use breaches::{Subject, broken_rule};
-use disk::{Output, put_shown, put_text};
-use paper::{Queue, Task};
+use crate::refusal_words;
+use breaches::Subject;
+use paper::{Queue, Refusal, Task};
 use single_rules::Rule;
+use std::fmt;
+use std::fmt::{Display, Formatter};
 
 // The words for how an image breaks a rule; a rule is of the kernel, which has no texts.
 fn rule_words(rule: Rule) -> &'static str {
@@ -32,36 +33,33 @@ fn rule_words(rule: Rule) -> &'static str {
     }
 }
 
-// A task after a text.
-fn put_task(out: Output, text: &[u8], t: Task) -> Output {
-    let said = put_text(out, text);
-    put_shown(said, t.0)
-}
-
-// The name of a queue.
-fn put_queue(out: Output, q: Queue) -> Output {
-    match q {
-        Queue::Ready => put_text(out, b"ready queue"),
-        Queue::Input(t) => put_task(out, b"input of task ", t),
-        Queue::Output(t) => put_task(out, b"output of task ", t),
-        Queue::Message(i, j) => put_task(put_task(out, b"messages from ", i), b" to ", j),
-    }
-}
-
 // What breaks a rule; the rules of the clock name it themselves.
-fn put_subject(out: Output, subject: Subject) -> Output {
+fn write_subject<W: fmt::Write>(f: &mut Formatter<W>, subject: Subject) -> fmt::Result {
     match subject {
-        Subject::Clock => out,
-        Subject::Task(t) => put_text(put_task(out, b"task ", t), b": "),
-        Subject::Queue(q) => put_text(put_queue(out, q), b": "),
+        Subject::Clock => Ok(()),
+        Subject::Task(Task(t)) => write!(f, "task {t}: "),
+        Subject::Queue(Queue::Ready) => f.write_str("ready queue: "),
+        Subject::Queue(Queue::Input(Task(t))) => write!(f, "input of task {t}: "),
+        Subject::Queue(Queue::Output(Task(t))) => write!(f, "output of task {t}: "),
+        Subject::Queue(Queue::Message(Task(i), Task(j))) => {
+            write!(f, "messages from {i} to {j}: ")
+        }
     }
 }
 
-// Why an image is refused: where a rule is broken, the first one and what breaks it.
-pub fn put_fault(out: Output, im: &[u16]) -> Output {
-    match broken_rule(im) {
-        Ok(Some((rule, subject))) => put_shown(put_subject(out, subject), rule_words(rule)),
-        Err(r) => put_refusal(out, r),
-        Ok(None) => out,
+// Why an image is refused: where a rule is broken, that one and what breaks it.
+#[derive(Clone, Copy)]
+pub struct Fault(pub Result<Option<(Rule, Subject)>, Refusal>);
+
+impl Display for Fault {
+    fn fmt<W: fmt::Write>(&self, f: &mut Formatter<W>) -> fmt::Result {
+        match self.0 {
+            Ok(Some((rule, subject))) => {
+                write_subject(f, subject)?;
+                f.write_str(rule_words(rule))
+            }
+            Err(r) => f.write_str(refusal_words(r)),
+            Ok(None) => Ok(()),
+        }
     }
 }

@@ -4,7 +4,7 @@
 use describing::describe;
 use disk::{
     ARG_BYTES, IMAGE_BYTES, IMAGE_WORDS, Outcome, arg_count, ended, load_image, misused, short_arg,
-    standard_output, tell,
+    tell,
 };
 use inspect::inspect;
 use saying::say_refused_image;
@@ -17,7 +17,7 @@ const IMAGE_AT: usize = 1;
 // Shows an image; where it is refused, it is said why.
 fn show_image(rt: &HostRuntime, path: &[u8], im: &[u16]) -> Outcome {
     match inspect(im) {
-        Ok(s) => ended(rt, describe(standard_output(rt), s, im)),
+        Ok(s) => ended(rt, describe(&mut rt.stdout(), s, im)),
         Err(r) => {
             say_refused_image(rt, path, im, r);
             Outcome::Refused
@@ -31,18 +31,18 @@ fn show_file(rt: &HostRuntime) -> Outcome {
     let end = short_arg(rt, IMAGE_AT, &mut path);
     let mut buffer = [0u8; IMAGE_BYTES];
     let mut words = [0u16; IMAGE_WORDS];
-    let Some(count) = load_image(rt, &path[..end], &mut buffer, &mut words) else {
-        return Outcome::Unread;
-    };
-    show_image(rt, &path[..end], &words[..count])
+    match load_image(rt, &path[..end], &mut buffer, &mut words) {
+        Some(count) => show_image(rt, &path[..end], &words[..count]),
+        None => Outcome::Unread,
+    }
 }
 
 // Shows an image as the arguments say.
 fn run(rt: &HostRuntime) -> Outcome {
-    if arg_count(rt) == ARGUMENTS {
-        return show_file(rt);
+    match arg_count(rt) {
+        ARGUMENTS => show_file(rt),
+        _ => misused(rt),
     }
-    misused(rt)
 }
 
 fn main(rt: HostRuntime) {

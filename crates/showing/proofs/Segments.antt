@@ -6,7 +6,7 @@ use Prim.Native.Nat.{ℕ, ◌+◌, ◌-◌, ◌*◌, ◌<◌, ◌≤◌}
 use native.Mathlib.Nat.{mul-le-mul_right, min-le_left}
 use native.Mathlib.Omega.{arith}
 use lib.ListN.{length, take, drop, length-append, length-take}
-use lib.Seq.{take_at, length-take-le}
+use lib.Seq.{take_at}
 use Rattle.paper.specs.Image.{start, at, base, len}
 use Rattle.paper.specs.Rules.{Fit}
 use Rattle.paper.specs.declared.Task.{Task}
@@ -20,7 +20,7 @@ use Rattle.grammar.specs.declared.Refusal.{Refusal}
 use Rattle.print_laws.specs.RoundTrip.{Words}
 use Rattle.print_laws.proofs.Proved.{request_3}
 use Rattle.print_laws.proofs.Back.{printed_spells}
-use Rattle.showing.specs.Zeros.{text_bytes, ZeroLines}
+use Rattle.showing.specs.Zeros.{text_bytes}
 
 -- the first segment starts at 53 at least
 first_segment : (s : Shape) → Fit s → 53 ≤ start s Part.Segments
@@ -73,13 +73,3 @@ module _ (ws buffer after : List ℕ) (told : Result ℕ Refusal) (w : Words ws)
     where
       never : Err r ≡ Ok (length (printed ws)) → ◌≡◌ {A = ℕ} 0 1
       never q = cc
-
--- what is left of a text without its lines `0` lies in the buffer
-pub text_count : (text : List ℕ) (bytes : ℕ) → bytes ≤ length text → bytes ≡ length (take bytes text)
-text_count text bytes h = sym (length-take-le bytes text h)
-
-pub lines_in : (text : List ℕ) (bytes lines : ℕ) → bytes ≤ length text → ZeroLines (take bytes text) lines → 2 * lines ≤ bytes
-lines_in text bytes lines h z = omega (arith, z.inside, text_count text bytes h)
-
-pub cut_count : (text : List ℕ) (bytes lines : ℕ) → bytes ≤ length text → bytes - 2 * lines ≡ length (take (bytes - 2 * lines) text)
-cut_count text bytes lines h = text_count text (bytes - 2 * lines) (omega arith)

@@ -3,7 +3,6 @@ ghost use Rattle.std.specs.Prelude.{◌≡◌, ◌+◌, ◌≤◌, length};
 ghost use Rattle.showing.specs.Zeros.{ZeroLines};
 ghost use Rattle.showing.specs.Zeros.{starts_line as line_starts, is_zero_line as zero_line_stands};
 
-use connectives::both;
 use grammar::{FIRST_DIGIT, LINE_END};
 
 // The bytes of a line `0`, its end among them.
@@ -14,10 +13,7 @@ fn starts_line(text: &[u8], at: usize) -> bool
     requires { at ≤ length text.now }
     ensures { result ≡ line_starts text.now at }
 {
-    if at == 0 {
-        return true;
-    }
-    text[at - 1] == LINE_END
+    at == 0 || text[at - 1] == LINE_END
 }
 
 // Whether a line `0` stands at a place.
@@ -25,22 +21,18 @@ fn is_zero_line(text: &[u8], at: usize) -> bool
     requires { at + 2 ≤ length text.now }
     ensures { result ≡ zero_line_stands text.now at }
 {
-    let is_zero = both(text[at] == FIRST_DIGIT, text[at + 1] == LINE_END);
-    both(is_zero, starts_line(text, at))
+    text[at] == FIRST_DIGIT && text[at + 1] == LINE_END && starts_line(text, at)
 }
 
 // How many lines `0` end a text.
 pub fn zero_lines(text: &[u8]) -> usize
     ensures { ZeroLines text.now result }
 {
-    let mut lines: usize = 0;
-    let mut end = text.len();
-    while ZERO_LINE <= end {
-        end -= ZERO_LINE;
-        if !is_zero_line(text, end) {
+    let most = text.len() / ZERO_LINE;
+    for lines in 0..most {
+        if !is_zero_line(text, text.len() - ZERO_LINE * (lines + 1)) {
             return lines;
         }
-        lines += 1;
     }
-    lines
+    most
 }

@@ -4,4 +4,4 @@ use Rattle.laws.specs.Sound.{sound_sized, sized_few}
 use Rattle.describing.proofs.put_tasks.Goals as goal
 
 pub overflow_cast-k : goal.overflow_cast-k
-overflow_cast-k c = omega (arith, sized_few _ _ (sound_sized _ _ c.requires))
+overflow_cast-k g c = omega (arith, sized_few _ _ (sound_sized _ _ c.requires))

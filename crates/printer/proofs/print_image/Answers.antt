@@ -1,5 +1,4 @@
 -- An image that is not refused is sound.
-use native.Mathlib.Omega.{arith}
 use Rattle.printer.proofs.Texts.{inspected_sound}
 use Rattle.printer.proofs.print_image.Goals as goal
 
@@ -7,4 +6,4 @@ pub print_task-requires : goal.print_task-requires
 print_task-requires c = inspected_sound _ _ c.in-Ok.ensures
 
 pub show_tasks-requires : goal.show_tasks-requires
-show_tasks-requires c = record { sound = inspected_sound _ _ c.in-Ok.ensures; from_le_to = (omega arith, omega arith) }
+show_tasks-requires c = inspected_sound _ _ c.in-Ok.ensures

@@ -4,7 +4,4 @@ use Rattle.laws.specs.Sound.{sound_sized, sized_few}
 use Rattle.printer.proofs.show_tasks.Goals as goal
 
 pub overflow_cast-k : goal.overflow_cast-k
-overflow_cast-k c = omega (arith, sized_few _ _ (sound_sized _ _ c.requires.sound), c.requires.from_le_to)
-
-pub show_task-shown-requires : goal.show_task-shown-requires
-show_task-shown-requires c = record { sound = c.requires.sound; t_lt_n = omega (arith, c.requires.from_le_to) }
+overflow_cast-k g c = omega (arith, sized_few _ _ (sound_sized _ _ c.requires))

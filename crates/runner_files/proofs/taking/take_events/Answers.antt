@@ -16,8 +16,8 @@ overflow_mul-from c =
     let f = c.feed_buffer-fed.ensures.feeds in
     omega (arith, taken_few _ _ _ _ p.buffers p.end_in_bounds _ _ _ _ _ _ _ f)
 
-pub slice_bounds-put_text-end-2 : goal.slice_bounds-put_text-end-2
-slice_bounds-put_text-end-2 c =
+pub slice_bounds-write_all-end-2 : goal.slice_bounds-write_all-end-2
+slice_bounds-write_all-end-2 c =
     let f = c.feed_buffer-fed.ensures.feeds in
     sym (length-take-le _ _ (omega (arith, f.fits)))
 
