@@ -31,7 +31,7 @@ pub struct Measured {
 
 // 0, and the kind and the task of an answer; or the number of the refusal.
 #[repr(C)]
-#[derive(Clone, Copy)]
+#[derive(Clone, Copy, PartialEq, Eq)]
 pub struct ReplyNumbers {
     pub number: u16,
     pub kind: u16,
@@ -40,7 +40,7 @@ pub struct ReplyNumbers {
 
 // How many events a run took, and the number of the refusal that stopped it, 0 if none did.
 #[repr(C)]
-#[derive(Clone, Copy)]
+#[derive(Clone, Copy, PartialEq, Eq)]
 pub struct RunNumbers {
     pub taken: u64,
     pub number: u16,

@@ -9,7 +9,7 @@ use printing::{print, print_size};
 
 // How many bytes a list of words has as a text, or 0; and the number of the refusal, 0 if there is none.
 #[repr(C)]
-#[derive(Clone, Copy)]
+#[derive(Clone, Copy, PartialEq, Eq)]
 pub struct Printed {
     pub bytes: u64,
     pub number: u16,

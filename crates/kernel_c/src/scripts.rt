@@ -17,7 +17,7 @@ const NO_TEXT: u16 = 65535;
 
 // How many words a script has, or 0; the number of the refusal, 0 if there is none; and the text of the refused line.
 #[repr(C)]
-#[derive(Clone, Copy)]
+#[derive(Clone, Copy, PartialEq, Eq)]
 pub struct Translated {
     pub words: u64,
     pub number: u16,
@@ -26,7 +26,7 @@ pub struct Translated {
 
 // Where the refused line begins in its text, and how many bytes it has; 0 and 0 where no line is refused.
 #[repr(C)]
-#[derive(Clone, Copy)]
+#[derive(Clone, Copy, PartialEq, Eq)]
 pub struct RefusedLine {
     pub start: u64,
     pub bytes: u64,
