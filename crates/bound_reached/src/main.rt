@@ -1,7 +1,7 @@
 // Shows that the bound on turns is reached: for each k from 1 to 15, an image on which a task with k others ahead is first after exactly as many ticks.
 #![tactic(auto)]
 
-ghost use Rattle.std.specs.Prelude.{◌≡◌, ◌≤◌, length};
+ghost use Rattle.std.specs.Prelude.{◌≤◌};
 
 use kernel::{build, event, size};
 use numbers::task_of;
@@ -44,7 +44,6 @@ const TICKS_END: usize = 1000;
 // A plan of so many tasks whose programs send word after word.
 fn plan_of(tasks: usize) -> [u16; PLAN_WORDS]
     requires { tasks ≤ MOST_TASKS }
-    ensures { PLAN_WORDS ≡ length result }
 {
     let mut plan = [SEND; PLAN_WORDS];
     plan[PLAN_TASKS_AT] = tasks as u16;
@@ -52,65 +51,45 @@ fn plan_of(tasks: usize) -> [u16; PLAN_WORDS]
     plan[PLAN_CI_AT] = 1;
     plan[PLAN_CO_AT] = 1;
     plan[PLAN_CM_AT] = MESSAGES;
-    for i in 0..PAIR_WORDS * tasks {
-        plan[LEADING_WORDS + i] = PROGRAM as u16;
-    }
+    plan[LEADING_WORDS..LEADING_WORDS + PAIR_WORDS * tasks].fill(PROGRAM as u16);
     plan
 }
 
 // Whether a tick finds a task first: its answer names the one that was.
 fn is_first(im: &mut [u16], task: usize) -> bool {
-    let reply = event(im, TICK, 0, 0);
-    match reply {
-        Ok(a) => task_of(a) as usize == task,
-        Err(_) => false,
-    }
+    event(im, TICK, 0, 0).is_ok_and(|answer| usize::from(task_of(answer)) == task)
 }
 
 // So many ticks.
 fn tick(im: &mut [u16], ticks: usize) {
     for _ in 0..ticks {
-        event(im, TICK, 0, 0);
+        let _ = event(im, TICK, 0, 0);
     }
 }
 
-// How many ticks pass before one finds a task first.
-fn waited(im: &mut [u16], task: usize) -> usize {
+// How many ticks pass before one finds a task first, if any does.
+fn waited(im: &mut [u16], task: usize) -> Option<usize> {
     for ticks in 0..TICKS_END {
         if is_first(im, task) {
-            return ticks;
+            return Some(ticks);
         }
     }
-    TICKS_END
+    None
 }
 
-// How many ticks task k of a plan waits for its turn, from where the first task has its send pending and the clock is 1; the image is built in its place.
-fn ticks_on(plan: &[u16], im: &mut [u16], k: usize) -> usize
+// How many ticks task k of a plan waits for its turn, from where the first task has its send pending and the clock is 1, with room for the image.
+fn ticks_in(plan: &[u16], room: &mut [u16], k: usize) -> Option<usize>
     requires { k ≤ MOST_AHEAD }
 {
-    build(plan, im);
+    let total = size(plan).ok()?;
+    let im = room.get_mut(..total)?;
+    let _ = build(plan, im);
     tick(im, TURN * (k + 1) + ORDER);
     waited(im, k)
 }
 
-// The same, with room for the image.
-fn ticks_in(plan: &[u16], room: &mut [u16], k: usize) -> usize
-    requires { k ≤ MOST_AHEAD }
-{
-    let needed = size(plan);
-    match needed {
-        Ok(total) => {
-            if total > room.len() {
-                return TICKS_END;
-            }
-            ticks_on(plan, &mut room[..total], k)
-        }
-        Err(_) => TICKS_END,
-    }
-}
-
-// How many ticks a task with k others ahead waits for its turn.
-fn ticks_of(k: usize) -> usize
+// How many ticks a task with k others ahead waits for its turn, if it comes.
+fn ticks_of(k: usize) -> Option<usize>
     requires { k ≤ MOST_AHEAD }
 {
     let tasks = k + 1;
@@ -120,18 +99,12 @@ fn ticks_of(k: usize) -> usize
     ticks_in(&plan[..words], &mut room, k)
 }
 
-// Prints the bound for a k, and how many ticks passed.
-fn print(rt: &impl Print, k: usize, bound: usize, ticks: usize) -> io::Result<()> {
-    println!(rt; "k {k}: bound {bound}, first after {ticks} ticks")
-}
-
 // Prints the bound and how many ticks passed, for each k.
 fn main(rt: HostRuntime) -> io::Result<()> {
-    let slice = SLICE as usize;
-    for i in 0..MOST_AHEAD {
-        let k = i + 1;
-        let bound = CLOCK + 1 + i * (slice + 1);
-        print(&rt, k, bound, ticks_of(k))?;
+    for k in 1..MOST_TASKS {
+        let bound = CLOCK + 1 + (k - 1) * (usize::from(SLICE) + 1);
+        let ticks = ticks_of(k).unwrap_or(TICKS_END);
+        println!(&rt; "k {k}: bound {bound}, first after {ticks} ticks")?;
     }
     Ok(())
 }
