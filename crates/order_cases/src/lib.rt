@@ -2,4 +2,4 @@
 #![tactic(auto)]
 
 pub mod cases;
-mod outcomes;
+pub mod outcomes;

@@ -1,9 +1,11 @@
 // The outcome of one order of an image's first ready task: a tick of it, with time on the clock and nothing else to do.
 ghost use Rattle.std.specs.Prelude.{◌<◌, length};
 ghost use Rattle.order_table.specs.Entries.{OrderTable};
+ghost use Rattle.order_cases.specs.Table.{OrderTable-prop};
 
 use happening::step;
 use inspect::inspect;
+use order_table::laid_out;
 use paper::{
     Answer, CLOCK_AT, ERROR, ERROR_END, FLAGS, HIGH_BYTES, LEAD_WORDS, NO_ERROR, NOTHING_PENDING,
     PENDING, READY_QUEUE_AT, Refusal, TASK_TABLE_AT, TASK_WORDS, TICK,
@@ -18,11 +20,11 @@ const DONE: u16 = 0;
 // The outcome of any answer that no order gives.
 const OTHER: u16 = 65535;
 
-// The number that an order comes to, or that the image allows none.
-#[derive(Clone, Copy)]
-pub enum Outcome {
-    Number(u16),
-    Bad,
+// The orders of a task, by the table of orders.
+#[derive(Drop)]
+pub struct Orders {
+    table: [u16; HIGH_BYTES],
+    ghost lawful: { OrderTable table } by { OrderTable-prop table },
 }
 
 // The error in a task's flags.
@@ -32,22 +34,16 @@ fn error_of(flags: u16) -> u16 {
 
 // The outcome of a tick that left a task with these flags.
 fn number_of(reply: Result<Answer, Refusal>, flags: u16) -> u16 {
-    let Ok(answer) = reply else {
-        return OTHER;
-    };
-    match answer {
-        Answer::OrderDone(_) => DONE,
-        Answer::OrderFaulted(_) => error_of(flags),
+    match reply {
+        Ok(Answer::OrderDone(_)) => DONE,
+        Ok(Answer::OrderFaulted(_)) => error_of(flags),
         _ => OTHER,
     }
 }
 
 // The word at a place of an image, or 0 past its end.
 fn word_at(im: &[u16], at: usize) -> u16 {
-    if at < im.len() {
-        return im[at];
-    }
-    0
+    im.get(at).copied().unwrap_or(0)
 }
 
 // The place of the first ready task's flags, by what the words of an image say.
@@ -85,33 +81,34 @@ fn put_back(im: &mut [u16], at: usize, clock: u16, flags: u16)
     im[at] = with_kept(flags, im[at]);
 }
 
-// The outcome of a tick of an image, whose first ready task's flags stand at a place.
-fn ticked(im: &mut [u16], table: &[u16; HIGH_BYTES], at: usize) -> Outcome
-    requires order_table { OrderTable table.now }
-    requires at_in_bounds { at < length im.old }
-{
-    let Ok(s) = inspect(im) else {
-        return Outcome::Bad;
-    };
-    let reply = step(s, im, table, TICK, 0, 0);
-    Outcome::Number(number_of(reply, im[at]))
-}
+impl Orders {
+    // The orders as the paper has them.
+    pub fn new() -> Orders {
+        Orders { table: laid_out() }
+    }
 
-// Carries out one order of the first ready task of an image, and answers its outcome. No order looks at what is put aside.
-pub fn outcome_of(im: &mut [u16], table: &[u16; HIGH_BYTES]) -> Outcome
-    requires { OrderTable table.now }
-{
-    let at = flags_place(im);
-    if at <= CLOCK_AT {
-        return Outcome::Bad;
+    // The outcome of a tick of an image, whose first ready task's flags stand at a place.
+    fn ticked(&self, im: &mut [u16], at: usize) -> Option<u16>
+        requires { at < length im.old }
+    {
+        let Ok(shape) = inspect(im) else {
+            return None;
+        };
+        let reply = step(shape, im, &self.table, TICK, 0, 0);
+        Some(number_of(reply, im[at]))
     }
-    if at >= im.len() {
-        return Outcome::Bad;
+
+    // Carries out one order of the first ready task of an image, and answers its outcome, if the image allows one. No order looks at what is put aside.
+    pub fn outcome(&self, im: &mut [u16]) -> Option<u16> {
+        let at = flags_place(im);
+        if at <= CLOCK_AT || at >= im.len() {
+            return None;
+        }
+        let clock = im[CLOCK_AT];
+        let flags = im[at];
+        put_aside(im, at);
+        let outcome = self.ticked(im, at);
+        put_back(im, at, clock, flags);
+        outcome
     }
-    let clock = im[CLOCK_AT];
-    let flags = im[at];
-    put_aside(im, at);
-    let outcome = ticked(im, table, at);
-    put_back(im, at, clock, flags);
-    outcome
 }

@@ -3,153 +3,75 @@
 
 mod building;
 
-use building::build_answer;
+use building::is_built;
 use std::io::{self, Read};
-use vectors::records::{Found, Head, Next, RECORDS_END, open_records, read_head, read_words};
-use vectors::tally::{
-    Answer, BUILD_NUMBERS, CHECK_NUMBERS, Tally, answered, compared, empty, listed, print_tally,
-    spoiled, with_wrong,
-};
+use vectors::records::{BadRecord, Head, Kind, read_words};
+use vectors::replays::{Replay, replay_path};
+use vectors::tally::{BUILD_NUMBERS, CHECK_NUMBERS, Tally};
 
 // The most words of an image, a plan or a target.
 const MOST_WORDS: usize = 70000;
 
-// The kind of a record that checks an image.
-const KIND_CHECK: u16 = 1;
-
-// The kind of a record that builds an image.
-const KIND_BUILD: u16 = 2;
-
-// What the records of a file test.
-#[derive(Clone, Copy)]
-enum Kind {
-    Check,
-    Build,
+// Room for the image of a check.
+#[derive(Drop)]
+struct Checks {
+    image: [u16; MOST_WORDS],
 }
 
-// The answer to the record of a check.
-fn check_answer<R: Read>(source: &mut R, im: &mut [u16], head: Head) -> Answer {
-    let count = head.count;
-    if count > im.len() {
-        return Answer::Bad;
-    }
-    let found = read_words(source, im, count);
-    let Found::All = found else {
-        return Answer::Bad;
-    };
-    compared(inspect::check(&im[..count]) == head.number)
-}
-
-// The first word of a record of a kind.
-fn first_word(kind: Kind) -> u16 {
-    match kind {
-        Kind::Check => KIND_CHECK,
-        Kind::Build => KIND_BUILD,
+impl Checks {
+    // Whether a check says what its record says.
+    fn is_checked<R: Read>(&mut self, source: &mut R, head: Head) -> Result<bool, BadRecord> {
+        let image = self.image.get_mut(..head.count).ok_or(BadRecord)?;
+        read_words(source, image)?;
+        Ok(inspect::check(image) == head.number)
     }
 }
 
-// Whether a record of a kind may expect a number.
-fn may_expect(kind: Kind, number: u16) -> bool {
-    match kind {
-        Kind::Check => listed(&CHECK_NUMBERS, number),
-        Kind::Build => listed(&BUILD_NUMBERS, number),
-    }
-}
-
-// The answer to a record of a kind.
-fn answer_to<R: Read>(
-    source: &mut R,
-    kind: Kind,
-    words: &mut [u16],
-    target: &mut [u16],
-    head: Head,
-) -> Answer {
-    match kind {
-        Kind::Check => check_answer(source, words, head),
-        Kind::Build => build_answer(source, words, target, head),
-    }
-}
-
-// The tally with one more record, as it stands.
-fn record_tally<R: Read>(
-    source: &mut R,
-    kind: Kind,
-    words: &mut [u16],
-    target: &mut [u16],
-    head: Head,
-    tally: Tally,
-) -> Tally {
-    if head.kind != first_word(kind) || !may_expect(kind, head.number) {
-        return spoiled(tally);
-    }
-    let answer = answer_to(source, kind, words, target, head);
-    answered(tally, head.number, answer)
-}
-
-// The tally with one more record replayed: alone where it is wrong on purpose.
-fn replay_one<R: Read>(
-    source: &mut R,
-    kind: Kind,
-    words: &mut [u16],
-    target: &mut [u16],
-    head: Head,
-    tally: Tally,
-) -> Tally {
-    if !head.wrong {
-        return record_tally(source, kind, words, target, head, tally);
-    }
-    let alone = record_tally(source, kind, words, target, head, empty());
-    with_wrong(tally, alone)
-}
-
-// The tally of a file's records up to its end or a bad one.
-fn replay_file<R: Read>(
-    source: &mut R,
-    kind: Kind,
-    words: &mut [u16],
-    target: &mut [u16],
-) -> Tally {
-    let mut tally = empty();
-    for _ in 0..RECORDS_END {
-        if tally.bad {
-            return tally;
+impl Replay for Checks {
+    fn replay<R: Read>(
+        &mut self,
+        source: &mut R,
+        head: Head,
+        tally: &mut Tally,
+    ) -> Result<(), BadRecord> {
+        if head.kind != Kind::Check || !CHECK_NUMBERS.contains(&head.number) {
+            return Err(BadRecord);
         }
-        match read_head(source) {
-            Next::Record(head) => tally = replay_one(source, kind, words, target, head, tally),
-            Next::End => return tally,
-            Next::Bad => return spoiled(tally),
+        tally.count(head.number, self.is_checked(source, head))
+    }
+}
+
+// Room for the plan and the target of a build.
+#[derive(Drop)]
+struct Builds {
+    plan: [u16; MOST_WORDS],
+    target: [u16; MOST_WORDS],
+}
+
+impl Replay for Builds {
+    fn replay<R: Read>(
+        &mut self,
+        source: &mut R,
+        head: Head,
+        tally: &mut Tally,
+    ) -> Result<(), BadRecord> {
+        if head.kind != Kind::Build || !BUILD_NUMBERS.contains(&head.number) {
+            return Err(BadRecord);
         }
-    }
-    spoiled(tally)
-}
-
-// Prints the tally of a kind.
-fn print_kind(rt: &HostRuntime, kind: Kind, tally: Tally) -> io::Result<()> {
-    match kind {
-        Kind::Check => print_tally(rt, "check ", &CHECK_NUMBERS, tally),
-        Kind::Build => print_tally(rt, "build ", &BUILD_NUMBERS, tally),
+        let built = is_built(source, &mut self.plan, &mut self.target, head);
+        tally.count(head.number, built)
     }
 }
 
-// Replays the file of a path and prints its tally, or why there is none.
-fn replay_path(
-    rt: &HostRuntime,
-    path: &str,
-    kind: Kind,
-    words: &mut [u16],
-    target: &mut [u16],
-) -> io::Result<()> {
-    let Some(mut source) = open_records(rt, path)? else {
-        return Ok(());
-    };
-    let tally = replay_file(&mut source, kind, words, target);
-    print_kind(rt, kind, tally)
-}
-
-// Replays each file of vectors.
+// Replays the file of checks and the file of builds.
 fn main(rt: HostRuntime) -> io::Result<()> {
-    let mut words = [0u16; MOST_WORDS];
-    let mut target = [0u16; MOST_WORDS];
-    replay_path(&rt, "check.bin", Kind::Check, &mut words, &mut target)?;
-    replay_path(&rt, "build.bin", Kind::Build, &mut words, &mut target)
+    let mut checks = Checks {
+        image: [0; MOST_WORDS],
+    };
+    replay_path(&rt, "check.bin", &mut checks, "check ", &CHECK_NUMBERS)?;
+    let mut builds = Builds {
+        plan: [0; MOST_WORDS],
+        target: [0; MOST_WORDS],
+    };
+    replay_path(&rt, "build.bin", &mut builds, "build ", &BUILD_NUMBERS)
 }

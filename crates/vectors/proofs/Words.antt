@@ -1,33 +1,32 @@
 -- Laws of Words. Assumes nothing.
-use Rattle.std.proofs.Common.{◌≡◌, refl, ap, ◌∙◌, Bool, true, false, ltb, ltb-true, ltb-false, List, ℕ, ◌+◌, ◌*◌, ◌<◌, length, get_or, set, add-one, arith, get_or-set_same, get_or-set_other, set-set}
+use Rattle.std.proofs.Common.{◌≡◌, refl, ap, ◌∙◌, Bool, true, List, [], ◌∷◌, ◌++◌, ℕ, ◌+◌, ◌<◌, length, take, get_or, set, add-one, set-set}
+use Rattle.std.proofs.Math.Seq.{take-suc}
+use Rattle.std.specs.Cmp.{first_so, second_so}
+use Rattle.std.specs.Cmp.Lexicographic.{pointwise}
 use Rattle.std.proofs.lemmas.List.{set-get_or}
-use Rattle.vectors.specs.Words.{SaltedTo, salted_word, with_changes}
+use Rattle.vectors.specs.declared.changes.Change.{Change}
+use Rattle.vectors.specs.Words.{with_changes}
 
-pub no_changes : (words changes : List ℕ) → with_changes words changes 0 ≡ words
+-- a change at the end is made first
+pub with_changes-append : (words : List ℕ) (changes : List (Change ℕ)) (c : Change ℕ) → with_changes words (changes ++ (c ∷ [])) ≡ with_changes (set words c.place c.item) changes
 unfolding with_changes
-no_changes words changes = refl
+with_changes-append words [] c = refl
+with_changes-append words (d ∷ changes) c = ap (λ (ws : List ℕ). set ws d.place d.item) (with_changes-append words changes c)
 
--- one more is taken back
-pub taken_back : (words changes before : List ℕ) (k p v : ℕ) → with_changes words changes k ≡ before → p ≡ get_or changes (2 * k) 0
-    → get_or words p 0 ≡ get_or changes (2 * k + 1) 0 → with_changes (set words p v) changes (k + 1) ≡ before
-unfolding with_changes
-taken_back words changes before k p v e ep ew =
-    let same : set (set words p v) (get_or changes (2 * k) 0) (get_or changes (2 * k + 1) 0) ≡ words = rw (← ep, ← ew, set-set words p v (get_or words p 0)) (set-get_or words p 0) in
-    rw add-one (ap (λ (ws : List ℕ). with_changes ws changes k) same ∙ e)
+-- one is taken back
+pub taken_back : (words before : List ℕ) (changes : List (Change ℕ)) (k v : ℕ) (d : Change ℕ) → with_changes words (take k changes) ≡ before → k < length changes
+    → get_or words (get_or changes k d).place 0 ≡ (get_or changes k d).item → with_changes (set words (get_or changes k d).place v) (take (k + 1) changes) ≡ before
+taken_back words before changes k v d h l e =
+    let c : Change ℕ = get_or changes k d in
+    let same : set (set words c.place v) c.place c.item ≡ words = rw (set-set words c.place v c.item, ← e) (set-get_or words c.place 0) in
+    rw (add-one, take-suc changes k d l) (with_changes-append (set words c.place v) (take k changes) c ∙ ap (λ (ws : List ℕ). with_changes ws (take k changes)) same ∙ h)
 
--- one word more is
-pub salted_more : (from salt : ℕ) (words : List ℕ) (i : ℕ) → SaltedTo from salt words i → get_or words i 0 ≡ salted_word i salt → SaltedTo from salt words (i + 1)
-salted_more from salt words i h e k a b = go (ltb k i) refl
-  where
-    go : (t : Bool) → ltb k i ≡ t → get_or words k 0 ≡ salted_word k salt
-    go true q = h k a (ltb-true k i q)
-    go false q =
-        let same : k ≡ i = omega (arith, ltb-false k i q, b) in
-        rw same e
-
--- one word more is made so
-pub salt_more : (salt : ℕ) (words : List ℕ) (i v : ℕ) → SaltedTo 0 salt words i → i < length words → v ≡ salted_word i salt → SaltedTo 0 salt (set words i v) (i + 1)
-salt_more salt words i v h l e = salted_more 0 salt (set words i v) i kept (get_or-set_same words i v 0 l ∙ e)
-  where
-    kept : SaltedTo 0 salt (set words i v) i
-    kept k a b = get_or-set_other words i k v 0 (λ q. omega (arith, b, q)) ∙ h k a b
+-- lists are the same that are found equal, where items are
+pub same_lists : {A : Type 0} (E : A → A → Bool) → ((a b : A) → E a b ≡ true → a ≡ b) → (xs ys : List A) → pointwise E xs ys ≡ true → xs ≡ ys
+same_lists E same [] [] h = refl
+same_lists E same [] (y ∷ ys) h = cc
+same_lists E same (x ∷ xs) [] h = cc
+same_lists E same (x ∷ xs) (y ∷ ys) h =
+    let first : x ≡ y = same x y (first_so (E x y) (pointwise E xs ys) h) in
+    let others : xs ≡ ys = same_lists E same xs ys (second_so (E x y) (pointwise E xs ys) h) in
+    cc

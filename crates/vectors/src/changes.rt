@@ -1,81 +1,91 @@
-// The words that a case changes: reading them, and the image that they leave.
-ghost use Rattle.std.specs.Prelude.{◌≡◌, true, ◌<◌, ◌≤◌, length};
+// The changes that a case leaves in what it goes by: the words of an image, or counts.
+ghost use Rattle.std.specs.Prelude.{◌≡◌, true, length};
 ghost use Rattle.vectors.specs.Words.{with_changes};
-ghost use Rattle.vectors.specs.declared.tally.Answer.TheVariants.{Same};
 
-use crate::images::are_same;
-use crate::records::{Found, read_words};
-use crate::tally::{Answer, compared};
-use paper::WORD_END;
+use crate::items::Item;
+use crate::records::{BadRecord, read_array, read_words};
 use std::io::Read;
 
 // The most changes that a record of orders may list.
 pub const MOST_CHANGES: usize = 16;
 
-// The words of a change: a place, and the word that it then holds.
-const CHANGE_SIZE: usize = 2;
+// What the high word of a count is worth.
+const HIGH: u32 = 65536;
 
-// The words of as many changes.
-pub const CHANGE_WORDS: usize = CHANGE_SIZE * MOST_CHANGES;
-
-// Where the place stands in a change.
-const PLACE_AT: usize = 0;
-
-// Where the word stands that the place then holds.
-const WORD_AT: usize = 1;
-
-// A word as a place or a count.
-pub fn as_count(word: u16) -> usize
-    ensures upper_bound { result < WORD_END }
-    ensures value { result ≡ word }
-{
-    word as usize
+// A count from its two words.
+fn count_of(low: u16, high: u16) -> u32 {
+    u32::from(low) + HIGH * u32::from(high)
 }
 
-// Reads count changes.
-pub fn read_changes<R: Read>(
-    source: &mut R,
-    changes: &mut [u16; CHANGE_WORDS],
-    count: usize,
-) -> Found
-    requires { count ≤ MOST_CHANGES }
-{
-    read_words(source, changes, CHANGE_SIZE * count)
+// What one place holds after a case.
+#[derive(Clone, Copy)]
+pub struct Change<T> {
+    pub place: usize,
+    pub item: T,
 }
 
-// Whether the places of count changes ascend and lie in an image of so many words.
-pub fn are_places(changes: &[u16; CHANGE_WORDS], count: usize, words: usize) -> bool
-    requires { count ≤ MOST_CHANGES }
-{
-    let mut least: usize = 0;
-    for i in 0..count {
-        let place = as_count(changes[CHANGE_SIZE * i]);
-        if place < least || place >= words {
-            return false;
-        }
-        least = place + 1;
+// What cases go by, as files have it.
+pub trait Stored: Item {
+    // Reads as many as there is room for.
+    fn read_all<R: Read>(source: &mut R, items: &mut [Self]) -> Result<(), BadRecord>;
+
+    // Reads what one place then holds.
+    fn read_change<R: Read>(source: &mut R) -> Result<Change<Self>, BadRecord>;
+}
+
+impl Stored for u16 {
+    fn read_all<R: Read>(source: &mut R, items: &mut [u16]) -> Result<(), BadRecord> {
+        read_words(source, items)
     }
-    true
+
+    fn read_change<R: Read>(source: &mut R) -> Result<Change<u16>, BadRecord> {
+        let [place, item] = read_array::<R, 2>(source)?;
+        Ok(Change {
+            place: usize::from(place),
+            item,
+        })
+    }
 }
 
-// Takes count changes back in the words of an image, and answers whether each was made: a yes means that the words were those that it leaves, with these changes.
-pub fn take_back(
-    words: &mut [u16],
-    image: &[u16],
-    changes: &[u16; CHANGE_WORDS],
-    count: usize,
-) -> bool
-    requires words_len { length words.old ≡ length image.now }
-    requires count_le_most_changes { count ≤ MOST_CHANGES }
-    ensures { result ≡ true → with_changes words.new changes.now count ≡ words.old }
-{
-    for i in 0..count {
-        let low = CHANGE_SIZE * i;
-        let place = as_count(changes[low]);
-        if place >= words.len() {
-            return false;
+impl Stored for u32 {
+    fn read_all<R: Read>(source: &mut R, items: &mut [u32]) -> Result<(), BadRecord> {
+        for item in items.iter_mut() {
+            let [low, high] = read_array::<R, 2>(source)?;
+            *item = count_of(low, high);
         }
-        if words[place] != changes[low + WORD_AT] {
+        Ok(())
+    }
+
+    fn read_change<R: Read>(source: &mut R) -> Result<Change<u32>, BadRecord> {
+        let [place, low, high] = read_array::<R, 3>(source)?;
+        Ok(Change {
+            place: usize::from(place),
+            item: count_of(low, high),
+        })
+    }
+}
+
+// Reads as many changes of words as there is room for.
+pub fn read_changes<R: Read>(source: &mut R, changes: &mut [Change<u16>]) -> Result<(), BadRecord> {
+    for change in changes.iter_mut() {
+        *change = u16::read_change(source)?;
+    }
+    Ok(())
+}
+
+// Whether the places of changes ascend and lie in an image of so many words.
+pub fn are_places(changes: &[Change<u16>], words: usize) -> bool {
+    changes.is_sorted_by(|a, b| a.place < b.place) && changes.iter().all(|c| c.place < words)
+}
+
+// Takes changes back in the words of an image, and answers whether each was made: a yes means that the words were those that it leaves, with these changes.
+pub fn take_back(words: &mut [u16], image: &[u16], changes: &[Change<u16>]) -> bool
+    requires { length words.old ≡ length image.now }
+    ensures { result ≡ true → with_changes words.new changes.now ≡ words.old }
+{
+    for change in changes {
+        let place = change.place;
+        if place >= words.len() || words[place] != change.item {
             return false;
         }
         words[place] = image[place];
@@ -83,41 +93,21 @@ pub fn take_back(
     true
 }
 
-// Makes the next count changes of a file in an image, and answers whether their places ascend and lie in it.
-fn make_changes<R: Read>(source: &mut R, image: &mut [u16], count: usize) -> bool {
+// Makes the next count changes of a file in what cases go by, where their places ascend and lie in it.
+pub fn make_changes<R: Read, T: Stored>(
+    source: &mut R,
+    items: &mut [T],
+    count: usize,
+) -> Result<(), BadRecord> {
     let mut least: usize = 0;
     for _ in 0..count {
-        let mut change = [0u16; CHANGE_SIZE];
-        let found = read_words(source, &mut change, CHANGE_SIZE);
-        let Found::All = found else {
-            return false;
-        };
-        let place = as_count(change[PLACE_AT]);
-        if place < least || place >= image.len() {
-            return false;
+        let change = T::read_change(source)?;
+        let place = change.place;
+        if place < least || place >= items.len() {
+            return Err(BadRecord);
         }
-        image[place] = change[WORD_AT];
+        items[place] = change.item;
         least = place + 1;
     }
-    true
-}
-
-// Makes the next count changes of a file in an image, and answers whether the words are then its own and what was said is the same.
-pub fn changed_answer<R: Read>(
-    source: &mut R,
-    words: &[u16],
-    image: &mut [u16],
-    count: usize,
-    same: bool,
-) -> Answer
-    requires { length words.now ≡ length image.old }
-    ensures { result ≡ Same → (same ≡ true) × (words.now ≡ image.new) }
-{
-    if !make_changes(source, image, count) {
-        return Answer::Bad;
-    }
-    if !same {
-        return Answer::Differs;
-    }
-    compared(are_same(words, image))
+    Ok(())
 }

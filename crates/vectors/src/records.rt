@@ -1,5 +1,5 @@
 // Reads words and the heads of records from a file.
-ghost use Rattle.std.specs.Prelude.{◌≡◌, ◌+◌, ◌*◌, ◌<◌, ◌≤◌, min, length};
+ghost use Rattle.std.specs.Prelude.{◌≤◌, length};
 
 use files::put_words;
 use paper::{WORD_BYTES, WORD_END};
@@ -15,17 +15,8 @@ const CHUNK_BYTES: usize = WORD_BYTES * CHUNK_WORDS;
 // The words of a record's head.
 const HEAD_WORDS: usize = 4;
 
-// The place of a record's kind in its head.
-const KIND_AT: usize = 0;
-
-// The place of the expected number.
-const NUMBER_AT: usize = 1;
-
-// The place of the low word of the count.
-const LOW_AT: usize = 2;
-
-// The place of the high word of the count.
-const HIGH_AT: usize = 3;
+// The bytes of a record's head.
+const HEAD_BYTES: usize = WORD_BYTES * HEAD_WORDS;
 
 // Added to the kind of a record that is wrong on purpose.
 const WRONG: u16 = 256;
@@ -33,29 +24,63 @@ const WRONG: u16 = 256;
 // A file with this many records or more is bad.
 pub const RECORDS_END: u64 = 4294967296;
 
-// How much of what was asked for a read found.
-#[derive(Clone, Copy)]
-pub enum Found {
-    All,
-    Part,
-    Nothing,
+// That a record is bad: its words end too early, or say what no record may.
+#[derive(Clone, Copy, PartialEq, Eq)]
+pub struct BadRecord;
+
+// What a record is: a case for one of the calls, or the image or the counts that the next cases go by.
+#[derive(Clone, Copy, PartialEq, Eq)]
+pub enum Kind {
+    Check,
+    Build,
+    Image,
+    Orders,
+    Event,
+    Run,
+    Texts,
+    Prints,
+    Look,
+    Counts,
+    Report,
+    Share,
 }
 
-// The words that each record starts with: the kind, whether it is wrong on purpose, the expected number, and the count of the words under test.
+impl Kind {
+    // Whether a record of this kind is a case.
+    pub fn is_case(self) -> bool {
+        !matches!(self, Kind::Image | Kind::Counts)
+    }
+}
+
+impl TryFrom<u16> for Kind {
+    type Error = BadRecord;
+
+    fn try_from(number: u16) -> Result<Kind, BadRecord> {
+        match number {
+            1 => Ok(Kind::Check),
+            2 => Ok(Kind::Build),
+            3 => Ok(Kind::Image),
+            4 => Ok(Kind::Orders),
+            5 => Ok(Kind::Event),
+            6 => Ok(Kind::Run),
+            7 => Ok(Kind::Texts),
+            8 => Ok(Kind::Prints),
+            9 => Ok(Kind::Look),
+            10 => Ok(Kind::Counts),
+            11 => Ok(Kind::Report),
+            12 => Ok(Kind::Share),
+            _ => Err(BadRecord),
+        }
+    }
+}
+
+// What the words that each record starts with say: the kind, the expected number, and the count of the words under test; and whether it is wrong on purpose, a mark that any case may have.
 #[derive(Clone, Copy)]
 pub struct Head {
-    pub kind: u16,
+    pub kind: Kind,
     pub wrong: bool,
     pub number: u16,
     pub count: usize,
-}
-
-// What comes next in a file.
-#[derive(Clone, Copy)]
-pub enum Next {
-    Record(Head),
-    End,
-    Bad,
 }
 
 // Opens a file of records, or says why there is none.
@@ -82,17 +107,10 @@ fn say_missing(rt: &HostRuntime, path: &str, error: &io::Error) -> io::Result<()
 
 // A count from its two words.
 pub fn wide(low: u16, high: u16) -> usize {
-    low as usize + WORD_END * (high as usize)
+    usize::from(low) + WORD_END * usize::from(high)
 }
 
-// The smaller of two numbers.
-pub fn least(a: usize, b: usize) -> usize
-    ensures { result ≡ min a b }
-{
-    if a < b { a } else { b }
-}
-
-// Reads until the bytes are all there, the source ends or a read fails, and answers how many were found.
+// Reads until the bytes are all there, the source ends or a read fails, and answers how many were found: `read_exact` would not tell a file's end from a record cut short.
 fn read_full<R: Read>(source: &mut R, bytes: &mut [u8]) -> usize
     ensures { result ≤ length bytes.new }
 {
@@ -106,74 +124,73 @@ fn read_full<R: Read>(source: &mut R, bytes: &mut [u8]) -> usize
     done
 }
 
-// Reads as many bytes as there are words for, and answers how many were found; the words are theirs where all were.
-fn fill<R: Read>(source: &mut R, bytes: &mut [u8], words: &mut [u16]) -> usize
-    requires { length bytes.old < 2 * length words.old + 2 }
+// Reads as many words as are read at a time, and answers how many bytes were found; the words are theirs where all were.
+fn read_part<R: Read>(source: &mut R, words: &mut [u16]) -> usize
+    requires { length words.old ≤ CHUNK_WORDS }
 {
-    let got = read_full(source, bytes);
-    if got == bytes.len() {
+    let mut room = [0u8; CHUNK_BYTES];
+    let size = WORD_BYTES * words.len();
+    let bytes = &mut room[..size];
+    let found = read_full(source, bytes);
+    if found == size {
         put_words(bytes, words);
     }
-    got
+    found
 }
 
-// Reads count words into words from place at on, and answers how many bytes were found.
-fn read_part<R: Read>(source: &mut R, words: &mut [u16], at: usize, count: usize) -> usize
-    requires { (count ≤ CHUNK_WORDS) × (at + count ≤ length words.old) }
-{
-    let mut bytes = [0u8; CHUNK_BYTES];
-    let size = WORD_BYTES * count;
-    fill(source, &mut bytes[..size], &mut words[at..at + count])
-}
-
-// Reads count words.
-pub fn read_words<R: Read>(source: &mut R, words: &mut [u16], count: usize) -> Found
-    requires { count ≤ length words.old }
-{
-    let mut at: usize = 0;
-    while at < count {
-        let part = least(count - at, CHUNK_WORDS);
-        let got = read_part(source, words, at, part);
-        if got < WORD_BYTES * part {
-            return if at == 0 && got == 0 {
-                Found::Nothing
-            } else {
-                Found::Part
-            };
+// Reads as many words as there is room for.
+pub fn read_words<R: Read>(source: &mut R, words: &mut [u16]) -> Result<(), BadRecord> {
+    for part in words.chunks_mut(CHUNK_WORDS) {
+        let size = WORD_BYTES * part.len();
+        if read_part(source, part) != size {
+            return Err(BadRecord);
         }
-        at += part;
     }
-    Found::All
+    Ok(())
 }
 
-// Reads a text of count bytes, two to a word: an odd one more follows the last of an odd count.
-pub fn read_text<R: Read>(source: &mut R, bytes: &mut [u8], count: usize) -> Found
-    requires { count < length bytes.old }
-{
-    let size = count + count % WORD_BYTES;
-    let got = read_full(source, &mut bytes[..size]);
-    if got == size { Found::All } else { Found::Part }
+// Reads some words, as many as the caller takes.
+pub fn read_array<R: Read, const N: usize>(source: &mut R) -> Result<[u16; N], BadRecord> {
+    let mut words = [0u16; N];
+    read_words(source, &mut words)?;
+    Ok(words)
+}
+
+// Reads as many bytes as there is room for.
+fn read_bytes<R: Read>(source: &mut R, bytes: &mut [u8]) -> Result<(), BadRecord> {
+    if read_full(source, bytes) == bytes.len() {
+        Ok(())
+    } else {
+        Err(BadRecord)
+    }
+}
+
+// Reads a text as long as there is room for, two bytes to a word: an odd one more follows the last of an odd count.
+pub fn read_text<R: Read>(source: &mut R, bytes: &mut [u8]) -> Result<(), BadRecord> {
+    read_bytes(source, bytes)?;
+    let mut last = [0u8; WORD_BYTES];
+    read_bytes(source, &mut last[..bytes.len() % WORD_BYTES])
 }
 
 // The head of a record from its words.
-fn head_of(words: &[u16; HEAD_WORDS]) -> Head {
-    let first = words[KIND_AT];
+fn head_of(words: [u16; HEAD_WORDS]) -> Result<Head, BadRecord> {
+    let [first, number, low, high] = words;
     let wrong = first >= WRONG;
-    Head {
-        kind: if wrong { first - WRONG } else { first },
-        wrong: wrong,
-        number: words[NUMBER_AT],
-        count: wide(words[LOW_AT], words[HIGH_AT]),
-    }
+    let kind = Kind::try_from(if wrong { first - WRONG } else { first })?;
+    Ok(Head {
+        kind,
+        wrong,
+        number,
+        count: wide(low, high),
+    })
 }
 
-// Reads the head of the next record.
-pub fn read_head<R: Read>(source: &mut R) -> Next {
+// Reads the head of the next record, if there is one.
+pub fn read_head<R: Read>(source: &mut R) -> Result<Option<Head>, BadRecord> {
     let mut words = [0u16; HEAD_WORDS];
-    let found = read_words(source, &mut words, HEAD_WORDS);
-    match found {
-        Found::All => Next::Record(head_of(&words)),
-        Found::Part => Next::Bad,
-        Found::Nothing => Next::End,
+    match read_part(source, &mut words) {
+        0 => Ok(None),
+        HEAD_BYTES => Ok(Some(head_of(words)?)),
+        _ => Err(BadRecord),
     }
 }

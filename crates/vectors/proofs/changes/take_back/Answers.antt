@@ -1,10 +1,12 @@
 -- One change more is taken back at each turn.
-use Rattle.std.proofs.Common.{rules}
-use Rattle.vectors.proofs.Words.{no_changes, taken_back}
+use Rattle.std.proofs.Common.{refl, rules}
+use Rattle.vectors.specs.Words.{with_changes}
+use Rattle.vectors.proofs.Words.{taken_back}
 use Rattle.vectors.proofs.changes.take_back.Goals as goal
 
-pub loop-i-init : goal.loop-i-init
-loop-i-init c = no_changes _ _
+pub loop-change-init : goal.loop-change-init
+unfolding with_changes
+loop-change-init c = refl
 
-pub loop-i-preserved : goal.loop-i-preserved
-loop-i-preserved c = taken_back c.loop-i.words c.args.changes.now _ c.loop-i.i _ _ c.loop-i.invariant (search rules) (search rules)
+pub loop-change-preserved : goal.loop-change-preserved
+loop-change-preserved c = taken_back c.loop-change.words _ c.args.changes.now c.loop-change.change-index _ _ c.loop-change.invariant c.loop-change-test.true (search rules)

@@ -1,6 +1,6 @@
--- The words up to the place are as salted.
-use Rattle.vectors.specs.Words.{SaltedTo}
+-- The items up to the place are as salted.
+use Rattle.vectors.specs.Words.{FilledTo}
 use Rattle.vectors.proofs.targets.is_salted.Given as goal
 
-abbrev pub invariant-loop-i : goal.invariant-loop-i
-invariant-loop-i l = SaltedTo l.from l.salt l.target l.i
+abbrev pub invariant-loop-place : goal.invariant-loop-place
+invariant-loop-place g l = FilledTo (λ k. g.T.Salted.salted_item k l.salt) l.from l.target l.place
