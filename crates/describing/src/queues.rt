@@ -1,9 +1,8 @@
 // What the queues of an image hold, in words.
 use paper::MOST_CAPACITY;
-use std::fmt;
 use std::fmt::{Display, Formatter};
-use std::io;
 use std::io::Write;
+use std::{fmt, io};
 use views::{INPUT_BUFFER, OUTPUT_BUFFER, queue_word};
 
 // The characters that can be printed: from the blank to the tilde.

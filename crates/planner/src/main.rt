@@ -5,9 +5,7 @@
 ghost use Rattle.std.specs.Prelude.{◌≡◌, ◌+◌, ◌*◌, ◌<◌, ◌≤◌, length};
 ghost use Rattle.planner.specs.Parts.{leading, pair, most_tasks, most_program, most_plan, Ends};
 
-use disk::{
-    ARG_BYTES, Outcome, arg_count, blank, load_words, misused, save, say, short_arg, tell,
-};
+use disk::{ARG_BYTES, Outcome, arg_count, blank, load_words, misused, save, say, short_arg, tell};
 use joining::{read_task, read_word};
 use paper::{LEADING_WORDS, MOST_TASKS, PAIR_WORDS};
 use plans::size;

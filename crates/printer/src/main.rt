@@ -4,7 +4,9 @@
 
 ghost use Rattle.laws.specs.Sound.{Sound};
 
-use disk::{ARG_BYTES, Outcome, arg_count, blank, ended, load_words, misused, say, short_arg, tell};
+use disk::{
+    ARG_BYTES, Outcome, arg_count, blank, ended, load_words, misused, say, short_arg, tell,
+};
 use inspect::inspect;
 use joining::read_word;
 use paper::{Shape, Task};
@@ -39,7 +41,10 @@ fn print_words(rt: &HostRuntime, path: &[u8], words: &[u16]) -> Outcome {
     match print(words, &mut text) {
         Ok(bytes) => ended(rt, rt.stdout().write_all(&text[..bytes])),
         Err(r) => {
-use disk::{ARG_BYTES, Outcome, arg_count, blank, ended, load_words, misused, say, short_arg, tell};
+            use disk::{
+                ARG_BYTES, Outcome, arg_count, blank, ended, load_words, misused, say, short_arg,
+                tell,
+            };
             Outcome::Refused
         }
     }

@@ -46,7 +46,13 @@ impl Replay for LookReplay {
 
 // Replays the file of looks and the file of broken rules.
 fn main(rt: HostRuntime) -> io::Result<()> {
-    replay_path(&rt, "look.bin", &mut LookReplay::new(), "look ", &LOOK_NUMBERS)?;
+    replay_path(
+        &rt,
+        "look.bin",
+        &mut LookReplay::new(),
+        "look ",
+        &LOOK_NUMBERS,
+    )?;
     replay_path(
         &rt,
         "broken.bin",

@@ -80,7 +80,13 @@ pub fn put_all(bytes: &[u8], words: &mut [u16]) -> usize
 
 impl Night<'_> {
     // Counts the events of a piece, the first of which has the number n, up to a refused one, which is said and ends the list.
-    fn count_events(&mut self, rt: &HostRuntime, path: &[u8], events: &[u16], n: u64) -> ControlFlow<Outcome> {
+    fn count_events(
+        &mut self,
+        rt: &HostRuntime,
+        path: &[u8],
+        events: &[u16],
+        n: u64,
+    ) -> ControlFlow<Outcome> {
         let ended = report(self.im, events, self.counts);
         match ended.stop {
             Ok(()) => ControlFlow::Continue(()),
@@ -93,7 +99,13 @@ impl Night<'_> {
     }
 
     // Reads a piece of a list and counts its events, the first of which has the number n; where the list ends with it, answers how.
-    fn take_piece<R: Read>(&mut self, rt: &HostRuntime, path: &[u8], source: &mut R, n: u64) -> ControlFlow<Outcome> {
+    fn take_piece<R: Read>(
+        &mut self,
+        rt: &HostRuntime,
+        path: &[u8],
+        source: &mut R,
+        n: u64,
+    ) -> ControlFlow<Outcome> {
         let mut bytes = [0u8; PIECE_BYTES];
         let mut events = [0u16; PIECE_WORDS];
         let found = read_full(source, &mut bytes);

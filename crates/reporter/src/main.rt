@@ -11,8 +11,8 @@ ghost use Rattle.files.specs.PlanFiles.{enough};
 ghost use Rattle.disk.specs.Bytes.{Starts};
 
 use disk::{
-    ARG_BYTES, Outcome, Start, arg, arg_count, fail, load_start, misused, open_source, say_long_arg,
-    tell,
+    ARG_BYTES, Outcome, Start, arg, arg_count, fail, load_start, misused, open_source,
+    say_long_arg, tell,
 };
 use files::{PLAN_BYTES, PLAN_WORDS, is_odd, read_plan};
 use kernel::build;

@@ -10,7 +10,7 @@ again part n bytes e l k a b =
     let at : k ≡ part + (k - part) = omega (arith, a) in
     let low : k - part < n = omega (arith, a, b, l) in
     ap (λ (i : ℕ). get_or bytes i 0) at ∙ sym (get_or-drop part bytes (k - part) 0) ∙ sym (get_or-take n (drop part bytes) (k - part) 0 low)
-        ∙ ap (λ (xs : List ℕ). get_or xs (k - part) 0) e ∙ get_or-take n bytes (k - part) 0 low
+    ∙ ap (λ (xs : List ℕ). get_or xs (k - part) 0) e ∙ get_or-take n bytes (k - part) 0 low
 
 pub returns-else-part-len : goal.returns-else-part-len
 returns-else-part-len c = λ h. again c.args.part (length c.args.bytes.now - c.args.part) c.args.bytes.now (same_text _ _ (sym h ∙ c.eq.ensures)) (omega arith)
