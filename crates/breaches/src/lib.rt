@@ -55,7 +55,7 @@ fn rule_at(k: usize) -> Rule
     }
 }
 
-// The number of a rule, 1 to 21.
+// The number of a rule, 1 to 21: a match, since a must-fail edit exchanges two of its lines.
 pub fn rule_number(rule: Rule) -> u16
     ensures { result ≡ number_of_rule rule }
 {

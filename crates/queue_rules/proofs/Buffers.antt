@@ -7,8 +7,8 @@ use Prim.Native.Nat.{ℕ, ◌+◌, ◌-◌, ◌*◌, ◌/◌, ◌%◌, ◌<◌, 
 use native.Mathlib.Nat.{mul-le-mul_right, mod-lt, div-add-mod', div-lt_iff_lt-mul}
 use native.Mathlib.Decide.{dec_lt}
 use native.Mathlib.Omega.{arith}
-use borrow.Author.Tests.{lt-ltb, le-ltb, ltb-true}
-use lib.Dec.{ltb}
+use borrow.Author.Tests.{eqb-true, lt-ltb, le-ltb, ltb-true}
+use lib.Dec.{eqb, ltb}
 use lib.ListN.{length, get_or}
 use Rattle.paper.specs.Image.{lead, most_character, most_words, most_capacity, begin, start, total, place_at, place, at, task}
 use Rattle.paper.specs.Queues.{Has, header_capacity, queue_word, head, tail, count, capacity, slot, words_from, held, free}
@@ -25,6 +25,10 @@ use Rattle.laws.specs.Sound.{Sized, sized_fit, sized_words}
 use Rattle.laws.specs.Checked.{all_three, implied, every_is, slots_below, queued_is, cleared_is, Kept, kept_is, buffers_are}
 use Rattle.queue_rows.specs.BufferRows.{row_queued, slot_at, row_words_below, row_cleared, row_typed, row_right, row_fine, row_at, RowsBetween, AllRight}
 use Rattle.connectives.specs.Failing.{refuted, together}
+
+-- two numbers that are tested to be a third
+pub both_same : (a b c : ℕ) (r : Bool) → r ≡ (eqb a c && eqb b c) → r ≡ true → (a ≡ c) × (b ≡ c)
+both_same a b c r e t = let h = (and-eq-true_iff (eqb a c) (eqb b c)).0 (sym e ∙ t) in (eqb-true a c h.0, eqb-true b c h.1)
 
 module _ (s : Shape) (im : List ℕ) (z : Sized s im) where
   inside : (k : ℕ) → k ≤ 10 → (begin s k ≤ length im) × (length im ≤ most_words)

@@ -72,6 +72,7 @@ pub fn translate<'a>(
         &mut nexts,
         &mut heads,
     );
+    // A match, since with map_err the goal of the refusal stays open.
     match judge_script(
         names,
         script,
