@@ -41,10 +41,7 @@ fn print_words(rt: &HostRuntime, path: &[u8], words: &[u16]) -> Outcome {
     match print(words, &mut text) {
         Ok(bytes) => ended(rt, rt.stdout().write_all(&text[..bytes])),
         Err(r) => {
-            use disk::{
-                ARG_BYTES, Outcome, arg_count, blank, ended, load_words, misused, say, short_arg,
-                tell,
-            };
+            say_refused(rt, path, u16::from(r), "more than 32715 words");
             Outcome::Refused
         }
     }
