@@ -67,7 +67,8 @@ fn put_ports<W: Write>(out: &mut W, im: &[u16]) -> io::Result<()> {
     Ok(())
 }
 
-// An image of a shape.
+// An image of a shape. The two stay two parameters, since a value of both would be taken apart at each call of `words`, which are
+// the kernel's and take them so.
 pub fn describe<W: Write>(out: &mut W, s: Shape, im: &[u16]) -> io::Result<()>
     requires { Sound s im.now }
 {

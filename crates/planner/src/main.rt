@@ -21,7 +21,7 @@ const TASKS_AT: usize = 6;
 // The most bytes of a program: those of the longest segment.
 const PROGRAM_BYTES: usize = 65430;
 
-// The words of a plan of 16 such programs.
+// The words of a plan of 16 such programs. It stays an array with an end beside it: the memory of the programs is fixed.
 const PLAN_WORDS: usize = 523477;
 
 // Says what an argument is not.

@@ -30,7 +30,7 @@ const IMAGE_AT: usize = 2;
 
 const TASK_AT: usize = 3;
 
-// The most of a file that is read.
+// The most of a file that is read, into arrays: the memory of the programs is fixed.
 const FILE_BYTES: usize = 524288;
 
 const FILE_WORDS: usize = 262144;

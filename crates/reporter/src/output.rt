@@ -9,7 +9,7 @@ use reporting::{put_chart, put_table};
 use std::io;
 use std::io::{Cursor, Write};
 
-// The room for a table or a chart: what a file is given at a time.
+// The room for a table or a chart: what a file is given at a time. It stays an array: the memory of the programs is fixed.
 const ROOM_BYTES: usize = 65536;
 
 const ROOM_WORDS: usize = 32768;
