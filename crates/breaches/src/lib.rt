@@ -8,8 +8,7 @@ ghost use Rattle.single_rules.specs.Each.{subjects as subjects_of};
 ghost use Rattle.breaches.specs.Order.{rules, rule as nth_rule, number_of_rule, subject};
 ghost use Rattle.breaches.specs.Broken.{breaker, breach, TellsBroken};
 
-use headers::shape_of;
-use inspect::inspect;
+use inspect::verdict_and_shape;
 use paper::{Queue, Refusal, Shape, Task};
 pub use single_rules::Rule;
 use single_rules::{Kind, holds, kind_of, queue_at};
@@ -141,9 +140,12 @@ fn first_broken(s: Shape, im: &[u16]) -> Option<(Rule, Subject)>
 pub fn broken_rule(im: &[u16]) -> Result<Option<(Rule, Subject)>, Refusal>
     ensures { TellsBroken im.now result }
 {
-    match inspect(im) {
-        Ok(_) => Ok(None),
-        Err(r) if r == Refusal::RuleBroken => Ok(first_broken(shape_of(im), im)),
-        Err(r) => Err(r),
+    let found = verdict_and_shape(im);
+    let Err(r) = found.verdict else {
+        return Ok(None);
+    };
+    if r == Refusal::RuleBroken {
+        return Ok(first_broken(found.shape, im));
     }
+    Err(r)
 }

@@ -1,5 +1,5 @@
 -- Counted events one after another: one induction, and what it shows of what was taken, of the image and of the counts. Assumes nothing.
-use Rattle.std.specs.Prelude.{Err, Ok, Result}
+use Rattle.std.specs.Prelude.{Err, Ok, Result, ⊤}
 use mathlib.Core.Path.{◌≡◌, refl, sym, ap, ◌∙◌}
 use mathlib.Core.List.{List, [], ◌∷◌, ◌++◌}
 use mathlib.Core.Bool.{Bool, true, false, cond}
@@ -259,5 +259,5 @@ report_ends s =
       last = λ im counts k d c later r e z. absurd (refused_not_17 s im (event_of s k d c) r e (cc));
     }
   where
-    malformed : Err Refusal.MalformedEvent ≢ Err Refusal.CountFull
+    malformed : ◌≢◌ {A = Result ⊤ Refusal} (Err Refusal.MalformedEvent) (Err Refusal.CountFull)
     malformed z = let n : ◌≡◌ {A = ℕ} 7 17 = ap verdict_number z in omega (arith, n)

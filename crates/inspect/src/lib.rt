@@ -4,6 +4,8 @@
 ghost use Rattle.std.specs.Prelude.{◌≡◌, true, ◌<◌};
 ghost use Rattle.paper.specs.Queues.{held};
 ghost use Rattle.paper.specs.Tests.{every_task, buffers_hold as do_buffers_hold, characters as are_characters, task_holds as does_task_hold, clock_holds as does_clock_hold, rules_hold as do_rules_hold};
+ghost use Rattle.paper.specs.Image.{shape_of as shape_given};
+ghost use Rattle.paper.specs.Numbers.{check as verdict_on};
 ghost use Rattle.paper.specs.Promises.{Checks};
 ghost use Rattle.paper.specs.declared.Queue.TheVariants.{Ready};
 ghost use Rattle.laws.specs.Sound.{Sized};
@@ -113,6 +115,27 @@ pub fn inspect(im: &[u16]) -> Result<Shape, Refusal>
         return Err(Refusal::RuleBroken);
     }
     Ok(s)
+}
+
+// Whether an image is good or refused, and the shape that its header gives, which a refused one has as well.
+#[derive(Clone, Copy)]
+pub struct Inspected {
+    pub verdict: Result<(), Refusal>,
+    pub shape: Shape,
+}
+
+// Inspects an image for who goes on with the shape of one that is refused.
+pub fn verdict_and_shape(im: &[u16]) -> Inspected
+    ensures { (result.verdict ≡ verdict_on im.now) × (result.shape ≡ shape_given im.now) }
+{
+    let verdict = match inspect(im) {
+        Ok(_) => Ok(()),
+        Err(r) => Err(r),
+    };
+    Inspected {
+        verdict,
+        shape: shape_of(im),
+    }
 }
 
 // The number of an image's refusal, 1 to 6, or 0 where it is good.

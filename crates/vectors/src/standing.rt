@@ -20,7 +20,9 @@ pub type Image = Standing<u16, MOST_WORDS>;
 
 impl<T: Stored, const N: usize> Standing<T, N> {
     // Nothing to go by yet.
-    pub fn new(blank: T) -> Standing<T, N> {
+    pub fn new(blank: T) -> Standing<T, N>
+        ensures { result.held ≡ 0 }
+    {
         Standing {
             room: [blank; N],
             held: 0,
