@@ -8,7 +8,7 @@ ghost use Rattle.single_rules.specs.Each.{subjects as subjects_of};
 ghost use Rattle.breaches.specs.Order.{rules, rule as nth_rule, number_of_rule, subject};
 ghost use Rattle.breaches.specs.Broken.{breaker, breach, TellsBroken};
 
-use inspect::verdict_and_shape;
+use inspect::inspect;
 use paper::{Queue, Refusal, Shape, Task};
 pub use single_rules::Rule;
 use single_rules::{Kind, holds, kind_of, queue_at};
@@ -140,7 +140,7 @@ fn first_broken(s: Shape, im: &[u16]) -> Option<(Rule, Subject)>
 pub fn broken_rule(im: &[u16]) -> Result<Option<(Rule, Subject)>, Refusal>
     ensures { TellsBroken im.now result }
 {
-    let found = verdict_and_shape(im);
+    let found = inspect(im);
     let Err(r) = found.verdict else {
         return Ok(None);
     };

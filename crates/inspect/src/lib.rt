@@ -91,7 +91,7 @@ fn rules_hold(s: Shape, im: &[u16]) -> bool
 }
 
 // Inspects an image once, for whoever goes on with it: the shape that its header gives, or the first of the refusals 1 to 6.
-pub fn inspect(im: &[u16]) -> Result<Shape, Refusal>
+pub fn good_shape(im: &[u16]) -> Result<Shape, Refusal>
     ensures { Inspects im.now result }
 {
     if im.len() < HEADER_WORDS {
@@ -125,10 +125,10 @@ pub struct Inspected {
 }
 
 // Inspects an image for who goes on with the shape of one that is refused.
-pub fn verdict_and_shape(im: &[u16]) -> Inspected
+pub fn inspect(im: &[u16]) -> Inspected
     ensures { (result.verdict ≡ verdict_on im.now) × (result.shape ≡ shape_given im.now) }
 {
-    let verdict = match inspect(im) {
+    let verdict = match good_shape(im) {
         Ok(_) => Ok(()),
         Err(r) => Err(r),
     };
@@ -142,7 +142,7 @@ pub fn verdict_and_shape(im: &[u16]) -> Inspected
 pub fn check(im: &[u16]) -> u16
     ensures { Checks im.now result }
 {
-    match inspect(im) {
+    match good_shape(im) {
         Ok(_) => NOT_REFUSED,
         Err(r) => u16::from(r),
     }

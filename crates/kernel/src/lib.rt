@@ -14,7 +14,7 @@ use careful::count_one_by_one;
 use counting::has_room;
 use happening::{NO_COUNTS, Took, step, take_events};
 pub use inspect::check;
-use inspect::inspect;
+use inspect::good_shape;
 use order_table::laid_out;
 use paper::{Answer, COUNTS, EVENT_WORDS, Ended, HIGH_BYTES, Refusal, Shape};
 pub use plans::size;
@@ -23,7 +23,7 @@ pub use plans::size;
 pub fn event(im: &mut [u16], kind: u16, device: u16, character: u16) -> Result<Answer, Refusal>
     ensures { Happens im.old kind device character result im.new }
 {
-    let s = inspect(im)?;
+    let s = good_shape(im)?;
     let table = laid_out();
     step(s, im, &table, kind, device, character)
 }
@@ -32,7 +32,7 @@ pub fn event(im: &mut [u16], kind: u16, device: u16, character: u16) -> Result<A
 fn begin(im: &[u16], events: &[u16]) -> Result<Shape, Refusal>
     ensures { Begins im.now events.now result }
 {
-    let shape = inspect(im)?;
+    let shape = good_shape(im)?;
     if events.len() % EVENT_WORDS != 0 {
         return Err(Refusal::MalformedEvent);
     }

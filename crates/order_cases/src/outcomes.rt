@@ -4,7 +4,7 @@ ghost use Rattle.order_table.specs.Entries.{OrderTable};
 ghost use Rattle.order_cases.specs.Table.{OrderTable-prop};
 
 use happening::step;
-use inspect::inspect;
+use inspect::good_shape;
 use order_table::laid_out;
 use paper::{
     Answer, CLOCK_AT, ERROR, ERROR_END, FLAGS, HIGH_BYTES, LEAD_WORDS, NO_ERROR, NOTHING_PENDING,
@@ -91,7 +91,7 @@ impl Orders {
     fn ticked(&self, im: &mut [u16], at: usize) -> Option<u16>
         requires { at < length im.old }
     {
-        let Ok(shape) = inspect(im) else {
+        let Ok(shape) = good_shape(im) else {
             return None;
         };
         let reply = step(shape, im, &self.table, TICK, 0, 0);

@@ -7,7 +7,7 @@ ghost use Rattle.laws.specs.Sound.{Sound};
 use disk::{
     ARG_BYTES, Outcome, arg_count, blank, ended, load_words, misused, say, short_arg, tell,
 };
-use inspect::inspect;
+use inspect::good_shape;
 use joining::read_word;
 use paper::{Shape, Task};
 use printing::print;
@@ -77,7 +77,7 @@ fn print_task(rt: &HostRuntime, path: &[u8], s: Shape, im: &[u16]) -> Outcome
 
 // Prints an image's tasks, or the one that is asked for.
 fn print_image(rt: &HostRuntime, path: &[u8], im: &[u16]) -> Outcome {
-    match inspect(im) {
+    match good_shape(im) {
         Err(r) => {
             say_refused_image(rt, path, im, r);
             Outcome::Refused

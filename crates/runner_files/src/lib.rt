@@ -19,7 +19,7 @@ use disk::{
     save, say,
 };
 use files::{PLAN_BYTES, PLAN_WORDS, is_odd, read_plan};
-use inspect::inspect;
+use inspect::good_shape;
 use paper::{MOST_WORDS, Refusal, Shape};
 use plans::{shape_of_plan, total_of};
 use runner_lines::{MOST_LINE, put_line};
@@ -191,7 +191,7 @@ fn run_loaded_image(
     events: &[u8],
     saved: &[u8],
 ) -> Outcome {
-    match inspect(im) {
+    match good_shape(im) {
         Ok(s) => run_image(rt, s, im, events, saved),
         Err(r) => refuse_image(rt, path, im, r),
     }

@@ -6,7 +6,7 @@ use disk::{
     ARG_BYTES, IMAGE_BYTES, IMAGE_WORDS, Outcome, arg_count, ended, load_image, misused, short_arg,
     tell,
 };
-use inspect::inspect;
+use inspect::good_shape;
 use saying::say_refused_image;
 
 // How many arguments there are, the program's own name among them, and where the image's stands.
@@ -16,7 +16,7 @@ const IMAGE_AT: usize = 1;
 
 // Shows an image; where it is refused, it is said why.
 fn show_image(rt: &HostRuntime, path: &[u8], im: &[u16]) -> Outcome {
-    match inspect(im) {
+    match good_shape(im) {
         Ok(s) => ended(rt, describe(&mut rt.stdout(), s, im)),
         Err(r) => {
             say_refused_image(rt, path, im, r);

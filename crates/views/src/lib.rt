@@ -7,7 +7,7 @@ ghost use Rattle.laws.specs.Sound.{Sound};
 ghost use Rattle.views.specs.Looks.{task_state, port_state, named_queue, word_in, task_seen, port_seen, register_seen, length_seen, word_seen};
 ghost use Rattle.views.specs.Promises.{LooksAtTask, LooksAtPort, LooksAtRegister, LooksAtLength, LooksAtWord};
 
-use inspect::inspect;
+use inspect::good_shape;
 use paper::{
     CAPACITY, ERROR, FLAGS, HEAD, LEAD_WORDS, PENDING, Queue, REGISTERS, Refusal, Shape, Task,
 };
@@ -154,7 +154,7 @@ fn see_word(s: Shape, im: &[u16], q: u16, i: u16, j: u16, at: u16) -> Option<u16
 pub fn task(im: &[u16], t: u16) -> Result<Option<TaskState>, Refusal>
     ensures { LooksAtTask im.now t result }
 {
-    let s = inspect(im)?;
+    let s = good_shape(im)?;
     Ok(see_task(s, im, t))
 }
 
@@ -162,7 +162,7 @@ pub fn task(im: &[u16], t: u16) -> Result<Option<TaskState>, Refusal>
 pub fn port(im: &[u16], d: u16) -> Result<Option<PortState>, Refusal>
     ensures { LooksAtPort im.now d result }
 {
-    let s = inspect(im)?;
+    let s = good_shape(im)?;
     Ok(see_port(s, im, d))
 }
 
@@ -170,7 +170,7 @@ pub fn port(im: &[u16], d: u16) -> Result<Option<PortState>, Refusal>
 pub fn register(im: &[u16], t: u16, r: u16) -> Result<Option<u16>, Refusal>
     ensures { LooksAtRegister im.now t r result }
 {
-    let s = inspect(im)?;
+    let s = good_shape(im)?;
     Ok(see_register(s, im, t, r))
 }
 
@@ -178,7 +178,7 @@ pub fn register(im: &[u16], t: u16, r: u16) -> Result<Option<u16>, Refusal>
 pub fn queue_length(im: &[u16], q: u16, i: u16, j: u16) -> Result<Option<u16>, Refusal>
     ensures { LooksAtLength im.now q i j result }
 {
-    let s = inspect(im)?;
+    let s = good_shape(im)?;
     Ok(see_length(s, im, q, i, j))
 }
 
@@ -186,6 +186,6 @@ pub fn queue_length(im: &[u16], q: u16, i: u16, j: u16) -> Result<Option<u16>, R
 pub fn queue_word(im: &[u16], q: u16, i: u16, j: u16, at: u16) -> Result<Option<u16>, Refusal>
     ensures { LooksAtWord im.now q i j at result }
 {
-    let s = inspect(im)?;
+    let s = good_shape(im)?;
     Ok(see_word(s, im, q, i, j, at))
 }

@@ -2,7 +2,7 @@
 use Rattle.std.proofs.Common.{rules}
 use Rattle.paper.specs.Numbers.{check}
 use Rattle.inspect.proofs.Tested.{ranged_so, sized_so}
-use Rattle.inspect.proofs.inspect.Goals as goal
+use Rattle.inspect.proofs.good_shape.Goals as goal
 
 pub returns-then-im-lt-HEADER_WORDS : goal.returns-then-im-lt-HEADER_WORDS
 unfolding check
