@@ -28,6 +28,21 @@ pub enum Outcome {
     Unwritten,
 }
 
+// Why a file could not be had or written: the system's error, or a reason that is told without asking for memory.
+#[derive(Drop)]
+pub(crate) enum Failure {
+    System(Error),
+    LongerThan(usize),
+    OddBytes,
+    LongPath,
+}
+
+impl From<Error> for Failure {
+    fn from(error: Error) -> Failure {
+        Failure::System(error)
+    }
+}
+
 // Where a program tells what became of its run, if that is open.
 const OUTCOME_PATH: &str = "/dev/fd/3";
 
@@ -57,6 +72,27 @@ fn say_error(rt: &HostRuntime, error: Error) {
     match text.split_once(" (os error ") {
         Some((words, _)) => say(rt, words.as_bytes()),
         None => say(rt, text.as_bytes()),
+    }
+}
+
+// Says what failed, and why.
+pub(crate) fn fail_by(rt: &HostRuntime, what: &[u8], failure: Failure) {
+    match failure {
+        Failure::System(error) => fail(rt, what, error),
+        Failure::LongerThan(most) => {
+            say(rt, what);
+            say(rt, b": longer than ");
+            say_number(rt, most);
+            say(rt, b" bytes\n");
+        }
+        Failure::OddBytes => {
+            say(rt, what);
+            say(rt, b": an odd count of bytes\n");
+        }
+        Failure::LongPath => {
+            say(rt, what);
+            say(rt, b": the path is too long\n");
+        }
     }
 }
 

@@ -3,7 +3,7 @@ ghost use Rattle.std.specs.Prelude.{◌≡◌, ◌+◌, ◌*◌, ◌<◌, ◌≤
 ghost use Rattle.std.specs.Result.{result_ok};
 ghost use Rattle.disk.specs.Bytes.{Loads, LoadsWords, Starts};
 
-use crate::fail;
+use crate::{Failure, fail_by};
 use files::{is_odd, put_words};
 use paper::WORD_BYTES;
 use std::fs::File;
@@ -43,23 +43,15 @@ pub fn open_source(rt: &HostRuntime, path: &[u8]) -> io::Result<File> {
 }
 
 // What was read of a file; where it could not be read, that is said.
-fn had<T: Drop>(rt: &HostRuntime, path: &[u8], read: io::Result<T>) -> Option<T>
+fn had<T: Drop>(rt: &HostRuntime, path: &[u8], read: Result<T, Failure>) -> Option<T>
     ensures { result ≡ result_ok read }
 {
     match read {
         Ok(found) => Some(found),
-        Err(error) => {
-            fail(rt, path, error);
+        Err(failure) => {
+            fail_by(rt, path, failure);
             None
         }
-    }
-}
-
-// That a file is longer than it may be.
-fn too_long(rt: &HostRuntime, most: usize) -> Error {
-    match format!(in rt.alloc(); "longer than {most} bytes") {
-        Ok(text) => Error::other(&text),
-        Err(error) => Error::from(error),
     }
 }
 
@@ -81,23 +73,23 @@ pub fn read_full<R: Read>(source: &mut R, buffer: &mut [u8]) -> usize
 }
 
 // Reads an open file to its end, which may not be longer than the buffer.
-fn load_open<R: Read>(rt: &HostRuntime, source: &mut R, buffer: &mut [u8]) -> io::Result<usize>
+fn load_open<R: Read>(source: &mut R, buffer: &mut [u8]) -> Result<usize, Failure>
     ensures { Loads buffer.new (result_ok result) }
 {
     let found = read_full(source, buffer);
     let mut more = [0u8; 1];
     if source.read(&mut more)? > 0 {
-        return Err(too_long(rt, buffer.len()));
+        return Err(Failure::LongerThan(buffer.len()));
     }
     Ok(found)
 }
 
 // Reads a whole file.
-fn load_whole(rt: &HostRuntime, path: &[u8], buffer: &mut [u8]) -> io::Result<usize>
+fn load_whole(rt: &HostRuntime, path: &[u8], buffer: &mut [u8]) -> Result<usize, Failure>
     ensures { Loads buffer.new (result_ok result) }
 {
     let mut file = open_source(rt, path)?;
-    load_open(rt, &mut file, buffer)
+    load_open(&mut file, buffer)
 }
 
 // Reads a whole file; where it cannot, that is said.
@@ -122,7 +114,7 @@ fn rest_of<R: Read>(source: &mut R) -> io::Result<bool> {
 }
 
 // Reads the start of an open file, and the file to its end. It has ended where fewer bytes were found than the buffer takes.
-fn load_first<R: Read>(source: &mut R, buffer: &mut [u8]) -> io::Result<Start>
+fn load_first<R: Read>(source: &mut R, buffer: &mut [u8]) -> Result<Start, Failure>
     ensures { Starts buffer.new (result_ok result) }
 {
     let bytes = read_full(source, buffer);
@@ -144,12 +136,12 @@ pub fn load_start<R: Read>(
 }
 
 // Puts the bytes of a file into words, where an odd count of bytes follows them or not; there may not be half a word.
-fn put_even(bytes: &[u8], odd: bool, words: &mut [u16]) -> io::Result<usize>
+fn put_even(bytes: &[u8], odd: bool, words: &mut [u16]) -> Result<usize, Failure>
     requires { length bytes.now < 2 * length words.old + 2 }
     ensures { LoadsWords (length bytes.now) words.new (result_ok result) }
 {
     if is_odd(odd, bytes.len()) {
-        return Err(Error::other("an odd count of bytes"));
+        return Err(Failure::OddBytes);
     }
     Ok(put_words(bytes, words))
 }
@@ -160,7 +152,7 @@ fn load_all_words(
     path: &[u8],
     buffer: &mut [u8],
     words: &mut [u16],
-) -> io::Result<usize>
+) -> Result<usize, Failure>
     requires { length buffer.old < 2 * length words.old + 2 }
     ensures { LoadsWords (length buffer.old) words.new (result_ok result) }
 {
@@ -174,7 +166,7 @@ fn load_first_words(
     path: &[u8],
     buffer: &mut [u8],
     words: &mut [u16],
-) -> io::Result<usize>
+) -> Result<usize, Failure>
     requires { length buffer.old < 2 * length words.old + 2 }
     ensures { LoadsWords (length buffer.old) words.new (result_ok result) }
 {

@@ -3,7 +3,7 @@ ghost use Rattle.std.specs.Prelude.{◌≡◌, ◌+◌, ◌*◌, ◌<◌, ◌≤
 ghost use Rattle.disk.specs.Bytes.{chunk, chunk_bytes, bytes_of, beside_bytes};
 
 use crate::reading::text_of;
-use crate::{Outcome, fail, say, say_number};
+use crate::{Failure, Outcome, fail, fail_by, say, say_number};
 use paper::WORD_BYTES;
 use runner_lines::put_text;
 use std::fs::{File, OpenOptions, remove_file, rename};
@@ -153,37 +153,45 @@ fn write_moved(
     move_beside(rt, beside, path)
 }
 
-// Gives words the file of one path, which then gets another path; where that fails, no file is left of it.
-fn save_by(
-    rt: &HostRuntime,
-    beside: &[u8],
-    file: File,
-    path: &[u8],
-    words: &[u16],
-) -> io::Result<()> {
-    let written = write_moved(rt, beside, file, path, words);
-    if written.is_err() {
-        remove(rt, beside);
+// Gives words the file of one path, which then gets another path; where that fails, it is said, and then no file is left of it.
+fn save_by(rt: &HostRuntime, beside: &[u8], file: File, path: &[u8], words: &[u16]) -> Outcome {
+    match write_moved(rt, beside, file, path, words) {
+        Ok(()) => Outcome::Done,
+        Err(error) => {
+            fail(rt, path, error);
+            remove(rt, beside);
+            Outcome::Unwritten
+        }
     }
-    written
 }
 
 // Writes words as a plain file by way of one beside it, so that a file that is there stays where that fails.
-fn save_plain(rt: &HostRuntime, path: &[u8], words: &[u16]) -> io::Result<()> {
+fn save_plain(rt: &HostRuntime, path: &[u8], words: &[u16]) -> Result<Outcome, Failure> {
     if MOST_PATH < path.len() {
-        return Err(Error::other("the path is too long"));
+        return Err(Failure::LongPath);
     }
     let mut room = [0u8; BESIDE_BYTES];
     let end = put_beside(path, &mut room);
     let beside = &mut room[..end];
     let file = create_beside(rt, beside)?;
-    save_by(rt, beside, file, path, words)
+    Ok(save_by(rt, beside, file, path, words))
+}
+
+// Writes words to an open file; where that fails, it is said before the file is closed.
+fn save_open(rt: &HostRuntime, path: &[u8], mut file: File, words: &[u16]) -> Outcome {
+    match write_words(&mut file, words) {
+        Ok(()) => Outcome::Done,
+        Err(error) => {
+            fail(rt, path, error);
+            Outcome::Unwritten
+        }
+    }
 }
 
 // Writes words to what a path leads to, and closes it.
-fn save_to(rt: &HostRuntime, path: &[u8], words: &[u16]) -> io::Result<()> {
+fn save_to(rt: &HostRuntime, path: &[u8], words: &[u16]) -> Result<Outcome, Failure> {
     match other_than_plain(rt, path)? {
-        Some(mut file) => write_words(&mut file, words),
+        Some(file) => Ok(save_open(rt, path, file, words)),
         None => save_plain(rt, path, words),
     }
 }
@@ -199,9 +207,9 @@ fn say_saved(rt: &HostRuntime, path: &[u8], words: usize) {
 // Writes words to what a path leads to; where that fails, it is said.
 pub fn save_at(rt: &HostRuntime, path: &[u8], words: &[u16]) -> Outcome {
     match save_to(rt, path, words) {
-        Ok(()) => Outcome::Done,
-        Err(error) => {
-            fail(rt, path, error);
+        Ok(saved) => saved,
+        Err(failure) => {
+            fail_by(rt, path, failure);
             Outcome::Unwritten
         }
     }

@@ -5,7 +5,6 @@ mod rules;
 
 use breaches::broken_rule;
 use causes::{EventCause, PlanCause, plan_cause};
-use disk::say;
 use paper::{
     ASK_INPUT, BAD_ORDER, BAD_SERVICE, NO_ERROR, NO_SUCH_TASK, NOTHING_PENDING, OUTSIDE, READY,
     RECEIVE, Refusal, SEND, WAITS_FOR_INPUT, WAITS_FOR_OUTPUT, WAITS_TO_RECEIVE, WAITS_TO_SEND,
@@ -14,6 +13,8 @@ use paper::{
 use rules::Fault;
 use std::fmt;
 use std::fmt::{Display, Formatter};
+use std::io;
+use std::io::Write;
 
 // The words for a refusal; a refusal is of the kernel, which has no texts.
 fn refusal_words(r: Refusal) -> &'static str {
@@ -94,10 +95,20 @@ impl Display for Status {
     }
 }
 
+// Writes to standard error that what a path names is refused, with the number and why.
+fn write_refused<D: Display + Drop>(
+    rt: &HostRuntime,
+    path: &[u8],
+    number: u16,
+    why: D,
+) -> io::Result<()> {
+    rt.stderr().write_all(path)?;
+    eprintln!(rt; ": refused {number}: {why}")
+}
+
 // Says on standard error that what a path names is refused, with the number and why.
 pub fn say_refused<D: Display + Drop>(rt: &HostRuntime, path: &[u8], number: u16, why: D) {
-    say(rt, path);
-    let _ = eprintln!(rt; ": refused {number}: {why}");
+    let _ = write_refused(rt, path, number, why);
 }
 
 // Says on standard error that an image is refused, and why: where a rule is broken, the first one and what breaks it.
@@ -118,12 +129,23 @@ pub fn say_refused_plan(rt: &HostRuntime, path: &[u8], plan: &[u16], odd: bool, 
     say_refused(rt, path, u16::from(r), file_cause(plan, odd));
 }
 
-// Says on standard error that the event of a number is refused, and why; the cause is that of a malformed one.
-pub fn say_refused_event(rt: &HostRuntime, path: &[u8], n: u64, r: Refusal, cause: EventCause) {
-    say(rt, path);
+// Writes to standard error that the event of a number is refused, and why; the cause is that of a malformed one.
+fn write_refused_event(
+    rt: &HostRuntime,
+    path: &[u8],
+    n: u64,
+    r: Refusal,
+    cause: EventCause,
+) -> io::Result<()> {
+    rt.stderr().write_all(path)?;
     let number = u16::from(r);
-    let _ = match r {
+    match r {
         Refusal::MalformedEvent => eprintln!(rt; ": event {n}: refused {number}: {cause}"),
         _ => eprintln!(rt; ": event {n}: refused {number}: {}", refusal_words(r)),
-    };
+    }
+}
+
+// Says on standard error that the event of a number is refused, and why; the cause is that of a malformed one.
+pub fn say_refused_event(rt: &HostRuntime, path: &[u8], n: u64, r: Refusal, cause: EventCause) {
+    let _ = write_refused_event(rt, path, n, r, cause);
 }
