@@ -9,7 +9,7 @@ ghost use Rattle.laws.specs.Sound.{Sound};
 
 use messages::TASKS_END;
 use paper::{IDLE, Shape, Task};
-use queues::{Character, put_queue};
+use queues::{put_character, put_queue};
 use std::io;
 use std::io::Write;
 use tasks::put_task;
@@ -52,7 +52,9 @@ fn put_port<W: Write>(out: &mut W, d: u16, state: PortState) -> io::Result<()> {
     if state.busy == IDLE {
         return writeln!(out, "port {d}: idle");
     }
-    writeln!(out, "port {d}: busy with {}", Character(state.character))
+    write!(out, "port {d}: busy with ")?;
+    put_character(out, state.character)?;
+    writeln!(out)
 }
 
 // The lines of the ports.

@@ -1,8 +1,7 @@
 // What the queues of an image hold, in words.
 use paper::MOST_CAPACITY;
-use std::fmt::{Display, Formatter};
+use std::io;
 use std::io::Write;
-use std::{fmt, io};
 use views::{INPUT_BUFFER, OUTPUT_BUFFER, queue_word};
 
 // The characters that can be printed: from the blank to the tilde.
@@ -13,20 +12,12 @@ const LAST_PRINTABLE: u16 = 126;
 // No queue holds more: a buffer at most this, and the ready queue less.
 const MOST_HELD: u16 = MOST_CAPACITY as u16;
 
-// A character: its number, and itself in quotes where it can be printed.
-#[derive(Clone, Copy)]
-pub struct Character(pub u16);
-
-impl Display for Character {
-    fn fmt<W: fmt::Write>(&self, f: &mut Formatter<W>) -> fmt::Result {
-        let character = self.0;
-        match character {
-            FIRST_PRINTABLE..=LAST_PRINTABLE => {
-                let quoted = character as u8 as char;
-                write!(f, "{character} '{quoted}'")
-            }
-            _ => write!(f, "{character}"),
-        }
+// A character: its number, and itself in quotes where it can be printed; the quoted part is written at once.
+pub fn put_character<W: Write>(out: &mut W, character: u16) -> io::Result<()> {
+    write!(out, "{character}")?;
+    match character {
+        FIRST_PRINTABLE..=LAST_PRINTABLE => out.write_all(&[b' ', b'\'', character as u8, b'\'']),
+        _ => Ok(()),
     }
 }
 
@@ -42,7 +33,8 @@ pub fn put_queue<W: Write>(out: &mut W, im: &[u16], q: u16, i: u16, j: u16) -> i
         let gap = gap(at);
         match (q, queue_word(im, q, i, j, at)) {
             (INPUT_BUFFER | OUTPUT_BUFFER, Ok(Some(word))) => {
-                write!(out, "{gap}{}", Character(word))?;
+                write!(out, "{gap}")?;
+                put_character(out, word)?;
             }
             (_, Ok(Some(word))) => write!(out, "{gap}{word}")?,
             _ if at == 0 => return writeln!(out, " empty"),
