@@ -4,7 +4,7 @@
 ghost use Rattle.std.specs.Prelude.{◌≡◌, ◌*◌, ◌<◌, ◌≤◌};
 ghost use Rattle.rows.specs.Rows.{rows_end, sixteenths, row_of, Tells};
 
-pub use tables::{FIELD_B, Parts, SECOND_WORD, SIXTEENTHS, TAIL};
+pub use tables::{FIELD_B, Parts, ROWS, SECOND_WORD, SIXTEENTHS, TAIL};
 use tables::{ROW_PARTS, ROW_TABLE};
 
 mod tables;
