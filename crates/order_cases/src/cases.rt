@@ -2,7 +2,7 @@
 ghost use Rattle.std.specs.Prelude.{◌≡◌, ◌+◌, ◌<◌, ◌≤◌, length};
 
 use crate::outcomes::Orders;
-use paper::{MOST_WORDS, WORD_END};
+use paper::WORD_END;
 use std::io::Read;
 use vectors::changes::{Change, MOST_CHANGES, are_places, read_changes, take_back};
 use vectors::records::{BadRecord, Head, read_array};
@@ -50,20 +50,20 @@ fn is_done(
     Ok(outcome == number && made && image == trial)
 }
 
-// Counts an order for each word of the span, put where the case says.
+// Counts an order for each word of the span, put where the case says. The image is left as it was.
 fn count_span(
     orders: &Orders,
+    trial: &mut [u16],
     image: &mut [u16],
     changes: &[Change<u16>],
     case: Case,
     tally: &mut Tally,
 ) -> Result<(), BadRecord>
-    requires in_room { length image.old ≤ MOST_WORDS }
+    requires trial_len { length trial.old ≡ length image.old }
     requires place_in_bounds { case.place < length image.old }
     requires span_bound { case.first + case.span ≤ WORD_END }
 {
-    let mut room = [0u16; MOST_WORDS];
-    let trial = &mut room[..image.len()];
+    let stood = image[case.place];
     let first = usize::from(case.first);
     let mut all = Ok(());
     for word in first..first + case.span {
@@ -71,6 +71,7 @@ fn count_span(
         let done = is_done(orders, trial, image, changes, case.number);
         all = all.and(tally.count(case.number, done));
     }
+    image[case.place] = stood;
     all
 }
 
@@ -78,7 +79,7 @@ fn count_span(
 pub fn replay_orders<R: Read>(
     source: &mut R,
     orders: &Orders,
-    image: &Image,
+    image: &mut Image,
     head: Head,
     tally: &mut Tally,
 ) -> Result<(), BadRecord> {
@@ -93,6 +94,6 @@ pub fn replay_orders<R: Read>(
     if case.place >= held || case.span > WORD_END - usize::from(case.first) {
         return Err(BadRecord);
     }
-    let mut words = image.room;
-    count_span(orders, &mut words[..held], changes, case, tally)
+    let trial = &mut image.trial[..held];
+    count_span(orders, trial, &mut image.room[..held], changes, case, tally)
 }

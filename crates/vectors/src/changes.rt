@@ -1,5 +1,5 @@
 // The changes that a case leaves in what it goes by: the words of an image, or counts.
-ghost use Rattle.std.specs.Prelude.{◌≡◌, true, length};
+ghost use Rattle.std.specs.Prelude.{◌≡◌, ◌≤◌, true, length};
 ghost use Rattle.vectors.specs.Words.{with_changes};
 
 use crate::items::Item;
@@ -9,12 +9,40 @@ use std::io::Read;
 // The most changes that a record of orders may list.
 pub const MOST_CHANGES: usize = 16;
 
+// The words of a change of a word, and the most that a record of orders may list.
+const CHANGE_SIZE: usize = 2;
+
+const CHANGE_WORDS: usize = CHANGE_SIZE * MOST_CHANGES;
+
+// The words of a count.
+const COUNT_SIZE: usize = 2;
+
+// The most counts that are read at a time, and their words.
+const CHUNK_COUNTS: usize = 256;
+
+const COUNT_WORDS: usize = COUNT_SIZE * CHUNK_COUNTS;
+
 // What the high word of a count is worth.
 const HIGH: u32 = 65536;
 
 // A count from its two words.
 fn count_of(low: u16, high: u16) -> u32 {
     u32::from(low) + HIGH * u32::from(high)
+}
+
+// Reads as many counts as there is room for, no more than are read at a time.
+fn read_counts<R: Read>(source: &mut R, counts: &mut [u32]) -> Result<(), BadRecord>
+    requires { length counts.old ≤ CHUNK_COUNTS }
+{
+    let mut room = [0u16; COUNT_WORDS];
+    let words = &mut room[..COUNT_SIZE * counts.len()];
+    read_words(source, words)?;
+    for (count, pair) in counts.iter_mut().zip(words.chunks_exact(COUNT_SIZE)) {
+        if let [low, high] = *pair {
+            *count = count_of(low, high);
+        }
+    }
+    Ok(())
 }
 
 // What one place holds after a case.
@@ -49,9 +77,8 @@ impl Stored for u16 {
 
 impl Stored for u32 {
     fn read_all<R: Read>(source: &mut R, items: &mut [u32]) -> Result<(), BadRecord> {
-        for item in items.iter_mut() {
-            let [low, high] = read_array::<R, 2>(source)?;
-            *item = count_of(low, high);
+        for part in items.chunks_mut(CHUNK_COUNTS) {
+            read_counts(source, part)?;
         }
         Ok(())
     }
@@ -65,10 +92,28 @@ impl Stored for u32 {
     }
 }
 
+// Reads as many changes of words as there is room for, no more than a record of orders may list.
+fn read_part<R: Read>(source: &mut R, changes: &mut [Change<u16>]) -> Result<(), BadRecord>
+    requires { length changes.old ≤ MOST_CHANGES }
+{
+    let mut room = [0u16; CHANGE_WORDS];
+    let words = &mut room[..CHANGE_SIZE * changes.len()];
+    read_words(source, words)?;
+    for (change, pair) in changes.iter_mut().zip(words.chunks_exact(CHANGE_SIZE)) {
+        if let [place, item] = *pair {
+            *change = Change {
+                place: usize::from(place),
+                item,
+            };
+        }
+    }
+    Ok(())
+}
+
 // Reads as many changes of words as there is room for.
 pub fn read_changes<R: Read>(source: &mut R, changes: &mut [Change<u16>]) -> Result<(), BadRecord> {
-    for change in changes.iter_mut() {
-        *change = u16::read_change(source)?;
+    for part in changes.chunks_mut(MOST_CHANGES) {
+        read_part(source, part)?;
     }
     Ok(())
 }

@@ -7,10 +7,11 @@ use crate::records::BadRecord;
 use paper::MOST_WORDS;
 use std::io::Read;
 
-// Room for the longest, and how much of it the last record gave, none before the first.
+// Room for the longest, how much of it the last record gave, none before the first, and room to try a case on a copy of that much.
 #[derive(Drop)]
 pub struct Standing<T, const N: usize> {
     pub room: [T; N],
+    pub trial: [T; N],
     pub held: usize,
     ghost in_room: { held ≤ N },
 }
@@ -25,6 +26,7 @@ impl<T: Stored, const N: usize> Standing<T, N> {
     {
         Standing {
             room: [blank; N],
+            trial: [blank; N],
             held: 0,
         }
     }
@@ -63,10 +65,11 @@ impl<T: Stored, const N: usize> Standing<T, N> {
         requires { F.IsAlwaysCallable call }
         ensures { result ≡ Ok true → (left : List T) × FnOnceReturnsAtMut F.FnOnce call (take self.old.held self.old.room) true left × (left ≡ take self.old.held self.new.room) }
     {
-        let mut copy = self.room;
-        let items = &mut copy[..self.held];
+        let held = self.held;
+        let items = &mut self.trial[..held];
+        items.copy_from_slice(&self.room[..held]);
         let yes = call(items);
-        let same = self.becomes(source, count, items)?;
-        Ok(yes && same)
+        make_changes(source, &mut self.room[..held], count)?;
+        Ok(yes && &*items == &self.room[..held])
     }
 }
