@@ -1,5 +1,5 @@
 -- A word of letters is told by its number, and what a word is by the rows that it can be. Assumes nothing.
-use mathlib.Core.Bool.{Bool, true, false, ◌&&◌, and-eq-true_iff, true≢false, false≢true}
+use mathlib.Core.Bool.{Bool, true, false, ◌&&◌, ◌||◌, and-eq-true_iff, true≢false, false≢true}
 use mathlib.Core.List.{List, [], ◌∷◌, ◌++◌}
 use mathlib.Core.Path.{◌≡◌, refl, sym, ap, ap₂, ◌∙◌}
 use Prim.Native.Nat.{ℕ, zero, suc, ◌+◌, ◌-◌, ◌*◌, ◌^◌, ◌<◌, ◌≤◌}
@@ -9,6 +9,8 @@ use borrow.Author.Tests.{eq-eqb, ne_eqb, eqb-true, leb-true, lt-leb}
 use lib.Dec.{eqb, leb}
 use lib.ListN.{length, get_or, take, drop, length-drop}
 use lib.Seq.{drop-cons, drop-length}
+use mir.Val.{has_key}
+use types.Run.{OneOf, hit}
 use Rattle.grammar.specs.Tokens.{letter, bytes, same}
 use Rattle.grammar.specs.Kept.{Row, kept_words, kept_in, kept_as}
 use Rattle.grammar.specs.declared.Kept.{Kept}
@@ -160,6 +162,39 @@ register_kept (a ∷ d ∷ []) e =
     let p = register_parts (a ∷ d ∷ []) e in
     let q : d ≡ first_register + (d - first_register) = omega (arith, p) in
     ap (λ (w : List ℕ). kept_as w) (rw (p.1, ← q)) ∙ spelled (d - first_register) (omega (arith, p))
+
+-- that a number is a key of no arm of a match, the last arm first
+abbrev pub no_arm : List (List ℕ) → ℕ → Type 0
+no_arm [] n = Unit {0}
+no_arm (ks ∷ arms) n = no_arm arms n × (OneOf ks n → ⊥)
+
+-- whether a number is a key of an arm
+unfoldable pub an_arm : List (List ℕ) → ℕ → Bool
+an_arm [] n = false
+an_arm (ks ∷ arms) n = has_key ks n || an_arm arms n
+
+-- a number is not a key of an arm and of none
+not_both : (arms : List (List ℕ)) (n : ℕ) → an_arm arms n ≡ true → no_arm arms n → ⊥
+unfolding an_arm
+not_both [] n e h = false≢true e
+not_both (ks ∷ arms) n e h = go (has_key ks n) refl (λ f. not_both arms n f h.0)
+  where
+    go : (t : Bool) → has_key ks n ≡ t → (an_arm arms n ≡ true → ⊥) → ⊥
+    go true q more = h.1 (hit ks n (rw q tt))
+    go false q more = more (rw q at e)
+
+-- where the arms have the number of each row, a number of no arm is free
+pub no_arm_free : (arms : List (List ℕ)) (rs : List Row) (n : ℕ) → each_word (λ w. an_arm arms (key w)) rs ≡ true → no_arm arms n → kept_under rs n ≡ Kept.Free
+unfolding each_word kept_under
+no_arm_free arms [] n l h = refl
+no_arm_free arms (r ∷ rs) n l h = go (eqb (key r.spelt) n) refl (no_arm_free arms rs n g.1 h)
+  where
+    g : (an_arm arms (key r.spelt) ≡ true) × (each_word (λ w. an_arm arms (key w)) rs ≡ true)
+    g = (and-eq-true_iff (an_arm arms (key r.spelt)) _).0 l
+
+    go : (t : Bool) → eqb (key r.spelt) n ≡ t → kept_under rs n ≡ Kept.Free → kept_under (r ∷ rs) n ≡ Kept.Free
+    go true e more = absurd (not_both arms n (rw (eqb-true _ n e) at g.0) h)
+    go false e more = rw (e, kept_under) more
 
 -- the number of a word's end from that of the end one byte shorter
 longer : (w : List ℕ) (j k : ℕ) → k ≡ suc j → j < length w → key (drop j w) ≡ key (drop k w) * base + counted (get_or w j 0)
