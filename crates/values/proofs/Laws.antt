@@ -15,9 +15,27 @@ use Rattle.grammar.specs.Tokens.{digit}
 use Rattle.grammar.specs.Sums.{in_range, decimal, minus, end_of_range}
 use Rattle.grammar.specs.declared.NoValue.{NoValue}
 
+-- a number below the end of the range is a value
+pub lies_within : (n : ℕ) → n < end_of_range → Ok n ≡ in_range n
+lies_within n h = rw (in_range, lt-ltb n end_of_range h)
+
 -- a number from the end of the range on is no value
 pub lies_beyond : (n : ℕ) → end_of_range ≤ n → Err NoValue.Beyond ≡ in_range n
 lies_beyond n h = rw (in_range, le-ltb n end_of_range h)
+
+-- a difference that is not below 0 is a value
+pub difference_within : (x y : ℕ) → y ≤ x → Ok (x - y) ≡ minus x y
+difference_within x y h = rw (minus, le-leb y x h)
+
+-- a difference below 0 is none
+pub difference_beyond : (x y : ℕ) → x < y → Err NoValue.Beyond ≡ minus x y
+difference_beyond x y h = rw (minus, lt-leb y x h)
+
+-- the product of two words fits two words
+pub product_fits : (x y : ℕ) → x < 65536 → y < 65536 → x * y < 4294967296
+product_fits x y h g =
+    let k : x ≤ 65535 = omega arith in
+    omega (arith, mul-le-mul_right y k)
 
 -- a number that is cut off at the end of the range lies in it or beyond it as before
 cut_alike : (n : ℕ) → in_range (min n end_of_range) ≡ in_range n
