@@ -1,6 +1,7 @@
 -- The rules one by one, as they are tested. Assumes nothing.
-use mathlib.Core.Path.{◌≡◌}
+use mathlib.Core.Path.{◌≡◌, sym, ◌∙◌}
 use mathlib.Core.List.{List}
+use mathlib.Core.Bool.{Bool, true}
 use mathlib.Core.Logic.{◌≢◌}
 use Prim.Native.Nat.{ℕ, ◌-◌, ◌*◌, ◌/◌, ◌%◌, ◌<◌, ◌≤◌}
 use native.Mathlib.Nat.{mod-lt, div-lt_iff_lt-mul, mul-le-mul_right}
@@ -9,12 +10,17 @@ use borrow.Author.Tests.{lt-ltb, le-ltb, eq-eqb, ne_eqb}
 use Rattle.paper.specs.Image.{most_tasks, task}
 use Rattle.paper.specs.Queues.{Has, header_capacity}
 use Rattle.paper.specs.Rules.{Fit}
+use Rattle.paper.specs.Tests.{queued, cleared}
 use Rattle.paper.specs.declared.Shape.{Shape}
 use Rattle.paper.specs.declared.Queue.{Queue}
 use Rattle.laws.specs.Sound.{Sized, sized_fit}
-use Rattle.single_rules.specs.Each.{kind, queues, subjects, queue}
+use Rattle.single_rules.specs.Each.{free_zeros, kind, queues, subjects, queue}
 use Rattle.single_rules.specs.declared.Rule.{Rule}
 use Rattle.single_rules.specs.declared.Kind.{Kind}
+
+-- a test that was passed
+pub passed_so : (b x : Bool) → b ≡ x → b ≡ true → x ≡ true
+passed_so b x e n = sym e ∙ n
 
 -- a queue has room
 pub some_room : (s : Shape) (im : List ℕ) (q : Queue) (g : ℕ) → g ≡ header_capacity s q → Sized s im → 0 < g
@@ -28,6 +34,14 @@ some_room s im q g eg z = rw eg (go q)
     go (Queue.Input j) = f.inputs.0
     go (Queue.Output j) = f.outputs.0
     go (Queue.Message j k) = f.messages.0
+
+-- the rules of a queue
+module _ (s : Shape) (im : List ℕ) (q : Queue) where
+  -- its free slots, where it obeys the rules of queues
+  module _ (b : Bool) (eb : b ≡ queued s im q) where
+    pub zeros_tested : b ≡ true → (o : Bool) → o ≡ cleared s im q → o ≡ free_zeros s im q
+    unfolding free_zeros
+    zeros_tested n o eo = let e = passed_so b _ eb n in rw (eo, e)
 
 -- queue k
 module _ (s : Shape) (f : Fit s) (k : ℕ) (l : k < queues s) where
