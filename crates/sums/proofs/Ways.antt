@@ -1,5 +1,5 @@
 -- The ways through the readers' code, each from what its calls come to. Assumes nothing.
-use Rattle.std.specs.Prelude.{Err, None, Ok, Option, Result, Some, ℕ}
+use Rattle.std.specs.Prelude.{None, Ok, Option, Result, Some, ℕ}
 use Rattle.std.specs.Bool.{then_some}
 use mathlib.Core.Path.{◌≡◌, refl, sym, ap, ◌∙◌}
 use mathlib.Core.Bool.{Bool, true, false}
@@ -19,6 +19,10 @@ use Rattle.tokens.specs.declared.Token.{Token}
 use Rattle.sums.specs.Told.{told, total, ToldInside}
 use Rattle.sums.proofs.Laws.{sum_ends, sum_plus, sum_minus, product_ends, product_times, bracket_open, bracket_closed, Enough, marked_at, not_marked, still_inside, sum_outside, product_outside, term_end, term_number, term_name, term_stray, term_mark, term_kept, bracket_deep, bracket_outside}
 
+-- a token that stands in a line, by what it is
+pub inside_as : (l : List ℕ) (a b : Token) → a ≡ b → Inside l a → Inside l b
+inside_as l a b e i = rw e at i
+
 -- what a reader comes to at a token
 abbrev pub Reads : ℕ → (ℕ → Sums.Reading) → List ℕ → Token → Option (Result ℕ NoValue × Token) → Type 0
 Reads least f l next r = Enough least f (told l r) × ToldInside l next r
@@ -35,6 +39,9 @@ pub fewer : (b to : ℕ) (l : List ℕ) (next t u : Token) (v : Result ℕ NoVal
 fewer b to l next t u v r m e h f o g =
     let i : ToldInside l next (Some (v, t)) = rw e at h in
     omega (arith, i.1, (after b to l t u m f o g).1.1)
+
+pub inner_fewer : (b to : ℕ) (l : List ℕ) (next u : Token) → next ≡ Token.Mark b to → tokens (drop to l) ≡ shown l u → length (shown l next) ≡ suc (length (shown l u))
+inner_fewer b to l next u e g = rw (e, ← g) refl
 
 module _ (es : List Entry) (d : ℕ) (l : List ℕ) (next : Token) where
   -- a product: its term, and what stands after it
@@ -95,6 +102,9 @@ On k f g l a b =
     Inside l b ×
     ((length (shown l b) ≤ length (shown l a)) ×
     ((q : Option (Result ℕ NoValue × Token)) → Reads (3 * length (shown l b) + k) g l b q → Reads (3 * length (shown l a) + k) f l a q))
+
+pub starts_on : (k : ℕ) (f : ℕ → Sums.Reading) (l : List ℕ) (a : Token) → Inside l a → On k f f l a a
+starts_on k f l a i = (i, (omega arith, λ q h. h))
 
 abbrev pub ProductOn : List Entry → ℕ → List ℕ → Result ℕ NoValue → Token → Result ℕ NoValue → Token → Type 0
 ProductOn es d l v a w b = On 2 (λ n. product n es d v (shown l a)) (λ n. product n es d w (shown l b)) l a b
