@@ -61,7 +61,7 @@ fn read_case<R: Read>(source: &mut R, head: Head) -> Result<Case, BadRecord> {
 }
 
 // Whether bytes are their first part again and again: a yes means that each byte past it is the one a part before.
-fn is_again(bytes: &[u8], part: usize) -> bool
+pub fn is_again(bytes: &[u8], part: usize) -> bool
     ensures { result ≡ true → Again part bytes.now }
 {
     let len = bytes.len();
