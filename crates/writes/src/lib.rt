@@ -25,12 +25,14 @@ pub fn put_zeros(out: &mut [u16], at: usize, n: usize) -> usize
     at + n
 }
 
-// Writes the words of src.
+// Writes the words of src, one by one: where a slice is copied at once the archive for C asks for memmove.
 pub fn put_words(out: &mut [u16], at: usize, src: &[u16]) -> usize
     requires { at + length src.now ≤ length out.old }
     ensures value { result ≡ at + length src.now }
     ensures out_after { out.new ≡ written out.old at src.now }
 {
-    out[at..at + src.len()].copy_from_slice(src);
+    for k in 0..src.len() {
+        out[at + k] = src[k];
+    }
     at + src.len()
 }
