@@ -2,14 +2,12 @@
 use Rattle.std.specs.Prelude.{Err, Ok, Result, ℕ}
 use mathlib.Core.Path.{◌≡◌, refl, sym, ◌∙◌, ap}
 use mathlib.Core.List.{List}
-use mathlib.Core.Logic.{◌⊎◌}
 use mathlib.Core.Bool.{Bool, true, false, not, ◌&&◌, ◌||◌}
 use Prim.Native.Nat.{ℕ, ◌+◌, ◌-◌, ◌*◌, ◌<◌, ◌≤◌}
 use native.Mathlib.Numerals.{add-one}
 use native.Mathlib.Omega.{arith}
-use Rattle.std.proofs.Common.{⊎_elim}
-use borrow.Author.Tests.{lt-ltb, le-ltb, le-leb, lt-leb}
-use Rattle.std.proofs.Math.Bool.{and-false, or-false, or-true}
+use borrow.Author.Tests.{lt-ltb, le-ltb}
+use Rattle.std.proofs.Math.Bool.{or-false, or-true}
 use lib.Dec.{eqb, leb, ltb}
 use lib.ListN.{get_or, length}
 use Rattle.paper.specs.Image.{most_tasks, most_words, offsets, start, total}
@@ -21,7 +19,7 @@ use Rattle.paper.specs.Promises.{Measures}
 use Rattle.paper.specs.declared.Shape.{Shape}
 use Rattle.paper.specs.declared.Part.{Part}
 use Rattle.paper.specs.declared.Refusal.{Refusal}
-use Rattle.laws.specs.Every.{every_none, every_fails}
+use Rattle.laws.specs.Every.{every_none}
 use Rattle.laws.specs.Layout.{Ranged, largest_offset, total_is}
 use Rattle.laws.specs.Checked.{ranged_is}
 use Rattle.laws.specs.Fresh.{planned}
@@ -33,7 +31,7 @@ pub no_pairs : (plan : List ℕ) (n : ℕ) → n ≤ most_tasks → n ≡ plan_t
 no_pairs plan n h e =
     record { pairs = sym (every_none _); segments = refl; programs = rw e; small = omega arith; near = omega arith }
 
-one_pair_more : (plan : List ℕ) (k l p words end : ℕ) (right a b : Bool) → Summed plan k right words end
+pub one_pair_more : (plan : List ℕ) (k l p words end : ℕ) (right a b : Bool) → Summed plan k right words end
     → l ≡ segment_length plan k → p ≡ program_length plan k → a ≡ (leb 1 l && leb p l) → b ≡ (right && a) → l ≤ 65535 → p ≤ 65535
     → Summed plan (k + 1) b (words + l) (end + p)
 unfolding every
@@ -45,21 +43,6 @@ one_pair_more plan k l p words end right a b sum el ep ea eb hl hp =
       small = omega (arith, sum.small);
       near = omega (arith, sum.near);
     }
-
--- a pair that is right or not, by its two tests
-right_pair : (l p : ℕ) → 1 ≤ l → p ≤ l → true ≡ (leb 1 l && leb p l)
-right_pair l p h g = rw (le-leb 1 l h, le-leb p l g) refl
-
-wrong_tests : (l p : ℕ) → (l < 1) ⊎ ((1 ≤ l) × (l < p)) → (leb 1 l && leb p l) ≡ false
-wrong_tests l p w = ⊎_elim (λ h. rw (lt-leb 1 l h) refl) (λ h. rw (lt-leb p l h.1) (and-false (leb 1 l))) w
-
-pub pair_more : (plan : List ℕ) (k l p words end : ℕ) → Summed plan k true words end → l ≡ segment_length plan k → p ≡ program_length plan k
-    → 1 ≤ l → p ≤ l → l ≤ 65535 → p ≤ 65535 → Summed plan (k + 1) true (words + l) (end + p)
-pair_more plan k l p words end sum el ep h g hl hp = one_pair_more plan k l p words end true true true sum el ep (right_pair l p h g) refl hl hp
-
-pub wrong_pair : (plan : List ℕ) (n k l p : ℕ) → k < n → l ≡ segment_length plan k → p ≡ program_length plan k → (l < 1) ⊎ ((1 ≤ l) × (l < p))
-    → every n (pair_right plan) ≡ false
-wrong_pair plan n k l p h el ep w = every_fails n k (pair_right plan) h (rw (← el, ← ep) (wrong_tests l p w))
 
 -- the shape that a plan gives
 module _ (plan : List ℕ) where

@@ -44,19 +44,21 @@ fn add_up(plan: &[u16], n: usize) -> Option<Sums>
     requires n_value { n ≡ plan_tasks plan.now }
     ensures { MatchOption result (every n (pair_right plan.now) ≡ false) (λ sums. Summed plan.now n true sums.words sums.end) }
 {
+    let mut right = true;
     let mut words: usize = 0;
     let mut end = LEADING_WORDS + PAIR_WORDS * n;
     for k in 0..n {
         let i = Task(k as u16);
         let length = length_of(plan, i);
         let program = program_of(plan, i);
-        if length < 1 || length < program {
-            return None;
-        }
+        right = right & ((1 <= length) & (program <= length));
         words += length as usize;
         end += program as usize;
     }
-    Some(Sums { words, end })
+    if right {
+        return Some(Sums { words, end });
+    }
+    None
 }
 
 // The words of all segments of a plan of n tasks, whether its pairs are right or not.

@@ -88,12 +88,16 @@ fn first_used(im: &[u16], from: Place, end: Place, given: usize) -> Place
     requires end_in_bounds { (end.0 ≤ length im.now) × (length im.now ≤ most_words) }
     ensures { (messages : Place) → RightUpTo im.now from end given messages result }
 {
-    for at in (from.0..end.0).step_by(LEAD_WORDS + given) {
-        if !row_unused(im, Place(at), given) {
-            return Place(at);
+    let width = LEAD_WORDS + given;
+    let mut at = from;
+    // Where a row is used the search begins anew, and step_by divides each time it begins; a check of a busy image took a fifth more.
+    while at.0 < end.0 {
+        if !row_unused(im, at, given) {
+            return at;
         }
+        at = Place(at.0 + width);
     }
-    end
+    at
 }
 
 // Whether so many words of the row at a place are below m, from a slot on.

@@ -46,21 +46,14 @@ impl Replay for Steps {
     }
 }
 
+// Replays a file with room of its own, which is given back before the next.
+fn replay_file(rt: &HostRuntime, path: &str, name: &str, numbers: &[u16]) -> io::Result<()> {
+    replay_path(rt, path, &mut Steps::new(), name, numbers)
+}
+
 // Replays the file of orders, the file of events and the file of runs.
 fn main(rt: HostRuntime) -> io::Result<()> {
-    replay_path(
-        &rt,
-        "order.bin",
-        &mut Steps::new(),
-        "order ",
-        &ORDER_NUMBERS,
-    )?;
-    replay_path(
-        &rt,
-        "event.bin",
-        &mut Steps::new(),
-        "event ",
-        &EVENT_NUMBERS,
-    )?;
-    replay_path(&rt, "run.bin", &mut Steps::new(), "run ", &RUN_NUMBERS)
+    replay_file(&rt, "order.bin", "order ", &ORDER_NUMBERS)?;
+    replay_file(&rt, "event.bin", "event ", &EVENT_NUMBERS)?;
+    replay_file(&rt, "run.bin", "run ", &RUN_NUMBERS)
 }

@@ -61,14 +61,13 @@ impl Replay for Texts {
     }
 }
 
+// Replays a file with room of its own, which is given back before the next.
+fn replay_file(rt: &HostRuntime, path: &str, name: &str, numbers: &[u16]) -> io::Result<()> {
+    replay_path(rt, path, &mut Texts::new(), name, numbers)
+}
+
 // Replays the file of translations and the file of prints.
 fn main(rt: HostRuntime) -> io::Result<()> {
-    replay_path(&rt, "text.bin", &mut Texts::new(), "text ", &TEXT_NUMBERS)?;
-    replay_path(
-        &rt,
-        "print.bin",
-        &mut Texts::new(),
-        "print ",
-        &PRINT_NUMBERS,
-    )
+    replay_file(&rt, "text.bin", "text ", &TEXT_NUMBERS)?;
+    replay_file(&rt, "print.bin", "print ", &PRINT_NUMBERS)
 }

@@ -11,10 +11,9 @@ use paper::{
     ZERO_DIVISOR,
 };
 use rules::Fault;
-use std::fmt;
 use std::fmt::{Display, Formatter};
-use std::io;
 use std::io::Write;
+use std::{fmt, io};
 
 // The words for a refusal; a refusal is of the kernel, which has no texts.
 fn refusal_words(r: Refusal) -> &'static str {

@@ -1,6 +1,7 @@
--- The pairs before k are right and added up.
+-- The pairs before k are added up.
+use mathlib.Core.Path.{refl, sym, ◌∙◌}
 use native.Mathlib.Omega.{arith}
-use Rattle.plans.proofs.Measured.{no_pairs, pair_more, all_pairs, wrong_pair}
+use Rattle.plans.proofs.Measured.{no_pairs, one_pair_more, all_pairs}
 use Rattle.plans.proofs.add_up.Goals as goal
 
 pub loop-k-init : goal.loop-k-init
@@ -12,13 +13,14 @@ overflow_add-words c = omega (arith, c.loop-k.invariant.small)
 pub overflow_add-end-in-loop-k : goal.overflow_add-end-in-loop-k
 overflow_add-end-in-loop-k c = omega (arith, c.loop-k.invariant.near)
 
-pub returns-then-length-lt1 : goal.returns-then-length-lt1
-returns-then-length-lt1 c =
-    wrong_pair _ _ _ _ _ c.loop-k-test.true c.length_of-length.ensures c.program_of-program.ensures c.then-length-lt1.either
-
 pub loop-k-preserved : goal.loop-k-preserved
 loop-k-preserved c =
-    pair_more _ _ _ _ _ _ c.loop-k.invariant c.length_of-length.ensures c.program_of-program.ensures (omega arith) (omega arith) (omega arith) (omega arith)
+    one_pair_more _ _ _ _ _ _ _ _ _ c.loop-k.invariant c.length_of-length.ensures c.program_of-program.ensures refl refl (omega arith) (omega arith)
+
+pub returns-then-right : goal.returns-then-right
+returns-then-right c =
+    let all = all_pairs _ _ _ _ _ _ c.loop-k.invariant c.loop-k-test.false c.loop-k.auto.k-end in rw c.if-right.true at all
 
 pub returns : goal.returns
-returns c = all_pairs _ _ _ _ _ _ c.loop-k.invariant c.loop-k-test.false c.loop-k.auto.k-end
+returns c =
+    let all = all_pairs _ _ _ _ _ _ c.loop-k.invariant c.loop-k-test.false c.loop-k.auto.k-end in sym all.pairs ∙ c.if-right.false

@@ -1,6 +1,6 @@
 -- The rows before that at at were never used.
 use native.Mathlib.Omega.{arith}
-use Rattle.queue_rows.proofs.Passing.{row_fits, passed_none, passed_one, passed_last}
+use Rattle.queue_rows.proofs.Passing.{row_fits, passed_none, passed_one}
 use Rattle.queue_rows.proofs.Rows.{unused_is_right}
 use Rattle.queue_rows.proofs.first_used.Goals as goal
 
@@ -13,15 +13,16 @@ row_unused-requires c = record { given_nonzero = c.requires.given_nonzero; given
 pub returns-then-not-row_unused : goal.returns-then-not-row_unused
 returns-then-not-row_unused c = c.loop-at.invariant
 
+pub overflow_add-at : goal.overflow_add-at
+overflow_add-at c = omega (arith, row_fits _ _ _ (c.loop-at.invariant c.args.end).left c.loop-at-test.true, c.requires)
+
+pub loop-at-smaller : goal.loop-at-smaller
+loop-at-smaller c = omega (arith, row_fits _ _ _ (c.loop-at.invariant c.args.end).left c.loop-at-test.true)
+
 pub loop-at-preserved : goal.loop-at-preserved
 loop-at-preserved c =
     λ messages. passed_one _ _ _ _ messages _ (c.loop-at.invariant messages) c.loop-at-test.true
     (unused_is_right _ _ _ c.requires.given_nonzero.0 (c.row_unused.ensures c.if-not-row_unused.false) _)
 
-pub returns-else-not-row_unused : goal.returns-else-not-row_unused
-returns-else-not-row_unused c =
-    λ messages. passed_last _ _ _ _ messages _ (passed_one _ _ _ _ messages _ (c.loop-at.invariant messages) c.loop-at-test.true
-    (unused_is_right _ _ _ c.requires.given_nonzero.0 (c.row_unused.ensures c.if-not-row_unused.false) _)) (omega arith)
-
 pub returns : goal.returns
-returns c = λ messages. passed_last _ _ _ _ messages _ (c.loop-at.invariant messages) c.loop-at-test.false
+returns c = c.loop-at.invariant
