@@ -40,11 +40,14 @@ fn is_blank(b: u8) -> bool
     matches!(b, b' ' | b'\t' | b'\r')
 }
 
-// Whether a word goes on with a byte.
+// Whether a word goes on with a byte: a letter, which is asked for first since most are, a digit or an underscore.
 fn is_word_byte(b: u8) -> bool
     ensures { result ≡ word_byte b }
 {
-    b.is_ascii_lowercase() || b.is_ascii_digit() || b == b'_'
+    if !b.is_ascii_lowercase() {
+        return b.is_ascii_digit() || b == b'_';
+    }
+    true
 }
 
 // Whether a byte is a mark.
