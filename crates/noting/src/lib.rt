@@ -41,6 +41,7 @@ pub fn note_orders(counts: &mut [u32], t: Task, n: usize, faulted: bool)
 }
 
 // Notes an answer.
+#[tactic(auto, using(crate::proofs::Noting::tally_within))]
 pub fn note_answer(counts: &mut [u32], a: Answer)
     requires ledger { Ledger counts.old }
     requires a_bound { answer_task a < most_tasks }
