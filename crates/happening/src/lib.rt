@@ -136,6 +136,7 @@ pub fn take_events(
 }
 
 // The event of three words: kind, device, character.
+#[tactic(auto, using(crate::proofs::Taking::one_outcome))]
 pub fn step(
     s: Shape,
     im: &mut [u16],
