@@ -2,7 +2,7 @@
 ghost use Rattle.std.specs.Prelude.{◌≡◌, ◌+◌, ◌<◌, ◌≤◌, length};
 
 use crate::outcomes::Orders;
-use paper::WORD_END;
+use paper::{MOST_WORDS, WORD_END};
 use std::io::Read;
 use vectors::changes::{Change, MOST_CHANGES, are_places, read_changes, take_back};
 use vectors::records::{BadRecord, Head, read_array};
@@ -50,7 +50,7 @@ fn is_done(
     Ok(outcome == number && made && image == trial)
 }
 
-// Counts an order for each word of the span, put where the case says. The image is left as it was.
+// Counts an order for each word of the span, put where the case says.
 fn count_span(
     orders: &Orders,
     trial: &mut [u16],
@@ -63,7 +63,6 @@ fn count_span(
     requires place_in_bounds { case.place < length image.old }
     requires span_bound { case.first + case.span ≤ WORD_END }
 {
-    let stood = image[case.place];
     let first = usize::from(case.first);
     let mut all = Ok(());
     for word in first..first + case.span {
@@ -71,15 +70,16 @@ fn count_span(
         let done = is_done(orders, trial, image, changes, case.number);
         all = all.and(tally.count(case.number, done));
     }
-    image[case.place] = stood;
     all
 }
 
-// Replays a record of orders on the image that stands.
+// Replays a record of orders on a copy of the image that stands, with room for it and to try each order.
 pub fn replay_orders<R: Read>(
     source: &mut R,
     orders: &Orders,
-    image: &mut Image,
+    image: &Image,
+    words: &mut [u16; MOST_WORDS],
+    trial: &mut [u16; MOST_WORDS],
     head: Head,
     tally: &mut Tally,
 ) -> Result<(), BadRecord> {
@@ -94,6 +94,7 @@ pub fn replay_orders<R: Read>(
     if case.place >= held || case.span > WORD_END - usize::from(case.first) {
         return Err(BadRecord);
     }
-    let trial = &mut image.trial[..held];
-    count_span(orders, trial, &mut image.room[..held], changes, case, tally)
+    let words = &mut words[..held];
+    words.copy_from_slice(&image.room[..held]);
+    count_span(orders, &mut trial[..held], words, changes, case, tally)
 }

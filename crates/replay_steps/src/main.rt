@@ -4,6 +4,7 @@
 use event_cases::cases::is_event;
 use order_cases::cases::replay_orders;
 use order_cases::outcomes::Orders;
+use paper::MOST_WORDS;
 use run_cases::cases::is_run;
 use std::io::{self, Read};
 use vectors::records::{BadRecord, Head, Kind};
@@ -11,11 +12,13 @@ use vectors::replays::{Replay, replay_path};
 use vectors::standing::Image;
 use vectors::tally::{EVENT_NUMBERS, ORDER_NUMBERS, RUN_NUMBERS, Tally};
 
-// The image that orders, events and runs go by, and the orders.
+// The image that orders, events and runs go by, the orders, and room to try them.
 #[derive(Drop)]
 struct Steps {
     orders: Orders,
     image: Image,
+    words: [u16; MOST_WORDS],
+    trial: [u16; MOST_WORDS],
 }
 
 impl Steps {
@@ -24,6 +27,8 @@ impl Steps {
         Steps {
             orders: Orders::new(),
             image: Image::new(0),
+            words: [0; MOST_WORDS],
+            trial: [0; MOST_WORDS],
         }
     }
 }
@@ -35,10 +40,15 @@ impl Replay for Steps {
         head: Head,
         tally: &mut Tally,
     ) -> Result<(), BadRecord> {
-        let Steps { orders, image } = self;
+        let Steps {
+            orders,
+            image,
+            words,
+            trial,
+        } = self;
         match head.kind {
             Kind::Image => image.read(source, head.count),
-            Kind::Orders => replay_orders(source, orders, image, head, tally),
+            Kind::Orders => replay_orders(source, orders, image, words, trial, head, tally),
             Kind::Event => tally.count(head.number, is_event(source, image, head)),
             Kind::Run => tally.count(head.number, is_run(source, image, head)),
             _ => Err(BadRecord),
